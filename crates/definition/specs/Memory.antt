@@ -1,0 +1,43 @@
+-- Document 01, 'What a call is given': table memory, and what asking for one long gives.
+use Prim.Native.Nat.{ℕ, _+_, _-_, _*_, _/_, _%_, _^_}
+use mathlib.Core.List.{List, [], _∷_, map}
+use mathlib.Core.Bool.{Bool, true, false, not, _&&_, _||_}
+use lib.ListN.{length, getD}
+use lib.Dec.{ltb, leb, eqb}
+use Rattle.definition.specs.Words.{if_then_else_, anyOf}
+use Rattle.definition.specs.declared.Range.{Range}
+use Rattle.definition.specs.declared.Fetched.{Fetched}
+use Rattle.definition.specs.declared.Fetched.the-variants.{Long, Failed}
+
+-- 'lent longs from a base address, and bus-error ranges'
+pub record Memory : Type 0 where
+  pub longs : List ℕ
+  pub base : ℕ
+  pub ranges : List Range
+
+abbrev pub memory : List ℕ → ℕ → List Range → Memory
+memory longs base ranges = record { longs = longs; base = base; ranges = ranges }
+
+-- 'each a first and a last address, both inside': the byte at b lies in it
+abbrev pub within : ℕ → ℕ → ℕ → Bool
+within first last b = leb first b && leb b last
+
+-- 'any of its four bytes lies in a range', of the long at `at` and one range
+unfoldable pub touchesOf : ℕ → ℕ → ℕ → Bool
+touchesOf first last at =
+    within first last at || within first last (at + 1) || within first last (at + 2) || within first last (at + 3)
+
+abbrev pub inRanges : List Range → ℕ → Bool
+inRanges ranges at = anyOf (λ (r : Range). touchesOf (r .first) (r .last) at) ranges
+
+-- the long at `at` is one of the longs
+abbrev pub inside : List ℕ → ℕ → ℕ → Bool
+inside longs base at = leb base at && eqb ((at - base) % 4) 0 && ltb ((at - base) / 4) (length longs)
+
+-- 'A long fails if it lies outside the longs or any of its four bytes lies in a range.'
+abbrev pub fetchWith : List ℕ → ℕ → ℕ → Bool → Fetched
+fetchWith longs base at hit =
+    if inside longs base at && not hit then Long (getD longs ((at - base) / 4) 0) else Failed
+
+abbrev pub fetchOf : Memory → ℕ → Fetched
+fetchOf m at = fetchWith (m .longs) (m .base) at (inRanges (m .ranges) at)

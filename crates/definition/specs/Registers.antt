@@ -1,0 +1,53 @@
+-- Document 01, 'What a call is given': what follows from the registers and the access alone.
+use Prim.Native.Nat.{ℕ, _%_}
+use mathlib.Core.Bool.{Bool, true, false, _&&_}
+use lib.Dec.{eqb}
+use Rattle.definition.specs.Words.{if_then_else_, bitOf}
+use Rattle.definition.specs.declared.Registers.{Registers}
+use Rattle.definition.specs.declared.Root.{Root}
+use Rattle.definition.specs.declared.Access.{Access}
+use Rattle.definition.specs.declared.Override.{Override}
+use Rattle.definition.specs.declared.Override.the-variants as override
+
+-- 'No PMMU or not enabled: the address itself.'
+abbrev pub on : Registers → Bool
+on g = g .present && g .enabled
+
+-- 'user data 1, program 2, supervisor data 5, program 6', of supervisor and instruction
+abbrev pub codeOf : Bool → Bool → ℕ
+codeOf false false = 1
+codeOf false true = 2
+codeOf true false = 5
+codeOf true true = 6
+
+-- 'An override replaces supervisor by bit 2 ..'
+abbrev pub supervisorBy : Override → Bool → Bool
+supervisorBy override.Plain supervisor = supervisor
+supervisorBy (override.Code code) supervisor = bitOf code 2
+
+-- '.. and instruction by "low two bits are 2".'
+abbrev pub instructionBy : Override → Bool → Bool
+instructionBy override.Plain instruction = instruction
+instructionBy (override.Code code) instruction = eqb (code % 4) 2
+
+abbrev pub asSupervisor : Access → Bool
+asSupervisor a = supervisorBy (a .code) (a .supervisor)
+
+abbrev pub asInstruction : Access → Bool
+asInstruction a = instructionBy (a .code) (a .instruction)
+
+-- 'The 68030 walk uses code 1, 2, 5 or 6 again: overrides 0 and 3 as 1, 4 and 7 as 5.'
+abbrev pub walkCode : Access → ℕ
+walkCode a = codeOf (asSupervisor a) (asInstruction a)
+
+-- 'The code compared .. is the override, else from the CPU's own state and instruction'
+abbrev pub comparedBy : Override → Bool → Bool → ℕ
+comparedBy override.Plain own instruction = codeOf own instruction
+comparedBy (override.Code code) own instruction = code
+
+abbrev pub comparedCode : Access → ℕ
+comparedCode a = comparedBy (a .code) (a .own) (a .instruction)
+
+-- 'SRP is used if TC bit 25 is set and code bit 2 is set; else CRP.'
+abbrev pub rootOf : Registers → ℕ → Root
+rootOf g code = if bitOf (g .tc) 25 && bitOf code 2 then g .srp else g .crp

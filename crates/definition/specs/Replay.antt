@@ -1,0 +1,62 @@
+-- The mission's demand 3: a replay as a list of moments, the run over it, and what 'steady' means.
+use Prim.Native.Nat.{ℕ}
+use mathlib.Core.Path.{_≡_}
+use mathlib.Core.Logic.{_⊎_}
+use mathlib.Core.List.{List, [], _∷_, _++_}
+use Rattle.definition.specs.Memory.{Memory, fetchOf}
+use Rattle.definition.specs.Refusal.{refusalOf}
+use Rattle.definition.specs.Translate.{Caches, emptyCaches, Translated, translate, translateChecks, cacheless}
+use Rattle.definition.specs.Calls.{Call, Called, calling}
+use Rattle.definition.specs.declared.Registers.{Registers}
+use Rattle.definition.specs.declared.Access.{Access}
+use Rattle.definition.specs.declared.Translation.{Translation}
+
+-- a watched access, or any call, with the table memory as it stands then
+pub data Moment : Type 0 where
+  watched : Access → Memory → Moment
+  other : Call → Memory → Moment
+
+abbrev pub memoryAt : Moment → Memory
+memoryAt (watched a m) = m
+memoryAt (other call m) = m
+
+-- the caches after a moment
+abbrev pub after : Registers → Caches → Moment → Caches
+after g c (watched a m) = translate g a m c .caches
+after g c (other call m) = calling g m c call .caches
+
+-- the answers of the watched accesses, in order, in a run over the moments
+unfoldable pub answersFrom : Registers → Caches → List Moment → List Translation
+answersFrom g c [] = []
+answersFrom g c (watched a m ∷ rest) = translate g a m c .answer ∷ answersFrom g (after g c (watched a m)) rest
+answersFrom g c (other call m ∷ rest) = answersFrom g (after g c (other call m)) rest
+
+-- 'from empty caches under the same registers'
+abbrev pub answers : Registers → List Moment → List Translation
+answers g moments = answersFrom g emptyCaches moments
+
+-- the watched accesses, in order
+unfoldable pub watchedOf : List Moment → List Access
+watchedOf [] = []
+watchedOf (watched a m ∷ rest) = a ∷ watchedOf rest
+watchedOf (other call m ∷ rest) = watchedOf rest
+
+-- what the cacheless walk of each watched access gives at its moment
+unfoldable pub walksOf : Registers → List Moment → List Translation
+walksOf g [] = []
+walksOf g (watched a m ∷ rest) = cacheless g a m .answer ∷ walksOf g rest
+walksOf g (other call m ∷ rest) = walksOf g rest
+
+-- x is one of l
+abbrev pub In : {X : Type 0} → X → List X → Type 0
+In x [] = ⊥
+In x (y ∷ l) = (x ≡ y) ⊎ In x l
+
+-- 'every long that the cacheless walks of those accesses fetch reads the same throughout': value or bus error, at every moment of l
+pub record Steady (g : Registers) (l : List Moment) : Type 0 where
+  pub same : (a : Access) (m : Memory) (now : Moment) (at : ℕ)
+      → In (watched a m) l → In now l → In at (cacheless g a m .asked) → fetchOf (memoryAt now) at ≡ fetchOf m at
+
+-- no watched access is refused
+pub record Accepted (g : Registers) (l : List Moment) : Type 0 where
+  pub none : (a : Access) (m : Memory) → In (watched a m) l → refusalOf (translateChecks g a m emptyCaches) ≡ 0

@@ -1,0 +1,65 @@
+-- Document 01, 'The 68030 walk': PTEST.
+use Prim.Native.Nat.{ℕ, _+_}
+use mathlib.Core.List.{List, []}
+use mathlib.Core.Bool.{Bool, true, false, not, _&&_, _||_}
+use lib.Dec.{eqb}
+use Rattle.definition.specs.Words.{if_then_else_, bitOf}
+use Rattle.definition.specs.Memory.{Memory}
+use Rattle.definition.specs.Transparent.{transparent030}
+use Rattle.definition.specs.Walk030.{Outcome, walk030}
+use Rattle.definition.specs.Refusal.{Checks, noFamily, badBase, badRange, aboveSeven, not030, unless}
+use Rattle.definition.specs.declared.Registers.{Registers}
+use Rattle.definition.specs.declared.End.{End}
+use Rattle.definition.specs.declared.End.the-variants as end
+use Rattle.definition.specs.declared.Test.{Test}
+
+-- an answer and the longs asked for. 'touches no cache'
+pub record Tested : Type 0 where
+  pub answer : Test
+  pub asked : List ℕ
+
+abbrev pub tested : Test → List ℕ → Tested
+tested answer asked = record { answer = answer; asked = asked }
+
+abbrev pub flag : Bool → ℕ → ℕ
+flag b n = if b then n else 0
+
+-- 'B 8000 for bus error or configuration, .. I 0400'
+abbrev pub endFlags : End → ℕ
+endFlags (end.Page field consumed) = 0
+endFlags (end.Invalid indirect) = 0x0400
+endFlags end.LevelStop = 0
+endFlags (end.BusError at) = 0x8000
+endFlags end.Config = 0x8000
+
+-- 'S 2000 (user code), W 0800, .. N levels'
+abbrev pub mmusrOf : ℕ → Bool → Bool → ℕ → End → ℕ
+mmusrOf code wp sup levels e = endFlags e + flag (sup && not (bitOf code 2)) 0x2000 + flag wp 0x0800 + levels
+
+-- 'and the address of the last descriptor asked for, the unmasked root address for configuration'
+abbrev pub statusOf : ℕ → Outcome → Tested
+statusOf code o =
+    tested (Test.Status (mmusrOf code (o .found .wp) (o .found .sup) (o .found .levels) (o .end)) (o .found .last)) (o .found .asked)
+
+-- 'Level 0: 0040 if a TT matches, else 0, address 0. Otherwise at most that many levels'. 'PTEST works whether enabled or not'
+unfoldable pub testInOrder : Registers → ℕ → ℕ → ℕ → Memory → Tested
+testInOrder g code level address m =
+    if eqb level 0
+    then tested (Test.Status (flag (transparent030 g address code) 0x0040) 0) []
+    else statusOf code (walk030 m g address code level)
+
+abbrev pub testChecks : Registers → ℕ → ℕ → Memory → Checks
+testChecks g code level m =
+    record {
+      one = noFamily (g .family);
+      two = badBase m;
+      three = badRange m;
+      four = false;
+      five = aboveSeven code || aboveSeven level;
+      six = not030 (g .family);
+      eight = false;
+    }
+
+unfoldable pub test : Registers → ℕ → Bool → ℕ → ℕ → Memory → Tested
+test g code write level address m =
+    unless (testChecks g code level m) (λ (n : ℕ). tested (Test.Refused n) []) (testInOrder g code level address m)

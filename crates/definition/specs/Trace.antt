@@ -1,0 +1,287 @@
+-- Document 01, 'The trace and the program': what each record means, what is malformed, which line it prints, and how a whole file plays.
+use Prim.Native.Nat.{ℕ, zero, suc, _+_, _*_, _/_, _%_, _^_}
+use mathlib.Core.List.{List, [], _∷_, _++_}
+use mathlib.Core.Bool.{Bool, true, false, not, _&&_}
+use lib.Dec.{ltb, leb, eqb}
+use lib.ListN.{length, getD, set, take, drop, replicate}
+use Rattle.definition.specs.Words.{if_then_else_, bitOf}
+use Rattle.definition.specs.Memory.{Memory, memory}
+use Rattle.definition.specs.Refusal.{Checks, noFamily, badStore, crossed, noRoom, unless}
+use Rattle.definition.specs.Translate.{Caches, emptyCaches}
+use Rattle.definition.specs.Calls.{Call, access, loading, testing, probing, flushingAll, flushingCode, flushingPage, flushingFrame, Line, A, F, L, T, K, N, R, Called, calling}
+use Rattle.definition.specs.declared.Registers.{Registers}
+use Rattle.definition.specs.declared.Root.{Root}
+use Rattle.definition.specs.declared.Range.{Range}
+use Rattle.definition.specs.declared.Override.{Override}
+
+-- ---- records
+-- what a record's body says; or nothing that document 01 has
+pub data Record : Type 0 where
+  Loads : Registers → Record
+  Calls : Call → Record
+  Stores : ℕ → ℕ → Record
+  Adds : Range → Record
+  Malformed : Record
+
+-- 'numbers are big-endian': the long at byte i
+abbrev pub be : List ℕ → ℕ → ℕ
+be b i = ((getD b i 0 * 256 + getD b (i + 1) 0) * 256 + getD b (i + 2) 0) * 256 + getD b (i + 3) 0
+
+-- flag k of the byte at i
+abbrev pub flagOf : List ℕ → ℕ → ℕ → Bool
+flagOf b i k = bitOf (getD b i 0) k
+
+-- 'wrong length', 'other flag bits', 'a write byte above 1': what each kind's body must pass, the kind left out
+abbrev pub shaped : List ℕ → ℕ → Bool → Record → Record
+shaped b n passes r = if eqb (length b) n && passes then r else Malformed
+
+-- '01: family, flags (bit 0 PMMU, 1 enabled), the 11 longs in order'
+abbrev pub kind01 : List ℕ → Record
+kind01 b =
+    shaped b 46 (ltb (getD b 1 0) 4)
+    (Loads
+    (record {
+      family = getD b 0 0;
+      present = flagOf b 1 0;
+      enabled = flagOf b 1 1;
+      tc = be b 2;
+      crp = record { limit = be b 6; address = be b 10 };
+      srp = record { limit = be b 14; address = be b 18 };
+      tt0 = be b 22;
+      tt1 = be b 26;
+      itt0 = be b 30;
+      itt1 = be b 34;
+      dtt0 = be b 38;
+      dtt1 = be b 42;
+    }))
+
+-- 'override or FF'
+abbrev pub overrideOf : ℕ → Override
+overrideOf n = if eqb n 255 then Override.Plain else Override.Code n
+
+-- '02: flags (0 write, 1 supervisor, 2 instruction, 3 CPU state, 4 record), override or FF, address'
+abbrev pub kind02 : List ℕ → Record
+kind02 b =
+    shaped b 6 (ltb (getD b 0 0) 32)
+    (Calls
+    (access
+    (record {
+      address = be b 2;
+      write = flagOf b 0 0;
+      supervisor = flagOf b 0 1;
+      instruction = flagOf b 0 2;
+      own = flagOf b 0 3;
+      code = overrideOf (getD b 1 0);
+      recorded = flagOf b 0 4;
+    })))
+
+-- '03: code, write 0/1, address'
+abbrev pub kind03 : List ℕ → Record
+kind03 b = shaped b 6 (ltb (getD b 1 0) 2) (Calls (loading (getD b 0 0) (flagOf b 1 0) (be b 2)))
+
+-- '04: code, write, level, address'
+abbrev pub kind04 : List ℕ → Record
+kind04 b = shaped b 7 (ltb (getD b 1 0) 2) (Calls (testing (getD b 0 0) (flagOf b 1 0) (getD b 2 0) (be b 3)))
+
+-- '05: nothing'
+abbrev pub kind05 : List ℕ → Record
+kind05 b = shaped b 0 true (Calls flushingAll)
+
+-- '06, 07: code, mask; code, mask, address'
+abbrev pub kind06 : List ℕ → Record
+kind06 b = shaped b 2 true (Calls (flushingCode (getD b 0 0) (getD b 1 0)))
+
+abbrev pub kind07 : List ℕ → Record
+kind07 b = shaped b 6 true (Calls (flushingPage (getD b 0 0) (getD b 1 0) (be b 2)))
+
+-- '08: 040 frame, a long'
+abbrev pub kind08 : List ℕ → Record
+kind08 b = shaped b 4 true (Calls (flushingFrame (be b 0)))
+
+-- '09: address, value'
+abbrev pub kind09 : List ℕ → Record
+kind09 b = shaped b 8 true (Stores (be b 0) (be b 4))
+
+-- '0A: range first, last'
+abbrev pub kind0A : List ℕ → Record
+kind0A b = shaped b 8 true (Adds (record { first = be b 0; last = be b 4 }))
+
+-- '0B: flags (3 CPU state, 2 instruction, 0 write), address'
+abbrev pub kind0B : List ℕ → Record
+kind0B b =
+    shaped b 5 (ltb (getD b 0 0) 16 && not (flagOf b 0 1))
+    (Calls (probing (flagOf b 0 3) (flagOf b 0 2) (flagOf b 0 0) (be b 1)))
+
+-- 'unknown kind'
+abbrev pub byTraceKind : ℕ → List ℕ → Record
+byTraceKind kind b =
+    if eqb kind 1 then kind01 b
+    else if eqb kind 2 then kind02 b
+    else if eqb kind 3 then kind03 b
+    else if eqb kind 4 then kind04 b
+    else if eqb kind 5 then kind05 b
+    else if eqb kind 6 then kind06 b
+    else if eqb kind 7 then kind07 b
+    else if eqb kind 8 then kind08 b
+    else if eqb kind 9 then kind09 b
+    else if eqb kind 10 then kind0A b
+    else if eqb kind 11 then kind0B b
+    else Malformed
+
+-- 'its body, kind first'
+unfoldable pub recordOf : List ℕ → Record
+recordOf [] = Malformed
+recordOf (kind ∷ b) = byTraceKind kind b
+
+-- ---- one record
+-- what the program keeps
+pub record State : Type 0 where
+  pub registers : Registers
+  pub longs : List ℕ
+  pub ranges : List Range
+  pub caches : Caches
+
+-- 'Memory is 8,192 longs at 0'
+abbrev pub memoryOf : State → Memory
+memoryOf s = memory (s .longs) 0 (s .ranges)
+
+-- a line, and what the program keeps after it
+pub record Played : Type 0 where
+  pub line : Line
+  pub state : State
+
+abbrev pub played : Line → State → Played
+played line state = record { line = line; state = state }
+
+-- what applies to a record of the program's own
+abbrev pub programChecks : Bool → Bool → Bool → Bool → Checks
+programChecks one two three eight =
+    record { one = one; two = two; three = three; four = false; five = false; six = false; eight = eight }
+
+-- 'A refusal prints R and its number, stores nothing and goes on.'
+abbrev pub keeping : Checks → State → State → Played
+keeping k s next = unless k (λ (n : ℕ). played (R n) s) (played K next)
+
+abbrev pub withCaches : State → Called → Played
+withCaches s c =
+    played (c .line) (record { registers = s .registers; longs = s .longs; ranges = s .ranges; caches = c .caches })
+
+unfoldable pub stepOf : State → Record → Played
+stepOf s (Loads g) =
+    keeping (programChecks (noFamily (g .family)) false false false) s
+    (record { registers = g; longs = s .longs; ranges = s .ranges; caches = s .caches })
+stepOf s (Calls call) = withCaches s (calling (s .registers) (memoryOf s) (s .caches) call)
+stepOf s (Stores address value) =
+    keeping (programChecks false (badStore (s .longs) address) false false) s
+    (record { registers = s .registers; longs = set (s .longs) (address / 4) value; ranges = s .ranges; caches = s .caches })
+stepOf s (Adds range) =
+    keeping (programChecks false false (crossed range) (noRoom (s .ranges))) s
+    (record { registers = s .registers; longs = s .longs; ranges = s .ranges ++ (range ∷ []); caches = s .caches })
+stepOf s Malformed = played (R 7) s
+
+-- ---- lines, as bytes of ASCII
+-- 'Hex is upper case'
+abbrev pub hexDigit : ℕ → ℕ
+hexDigit n = if ltb n 10 then n + 48 else n + 55
+
+-- the low k digits of n
+unfoldable pub hex : ℕ → ℕ → List ℕ
+hex zero n = []
+hex (suc k) n = hexDigit (n / 16 ^ k % 16) ∷ hex k n
+
+abbrev pub digit : ℕ → ℕ
+digit n = n % 10 + 48
+
+-- 'counts decimal', with at most `most` digits more than one
+unfoldable pub decimalIn : ℕ → ℕ → List ℕ
+decimalIn zero n = digit n ∷ []
+decimalIn (suc most) n = if ltb n 10 then digit n ∷ [] else decimalIn most (n / 10) ++ (digit n ∷ [])
+
+abbrev pub decimal : ℕ → List ℕ
+decimal n = decimalIn n n
+
+abbrev pub newline : List ℕ
+newline = 10 ∷ []
+
+-- after a space
+abbrev pub spaced : List ℕ → List ℕ
+spaced l = 32 ∷ l
+
+-- 'Hex is upper case, 8 digits, MMUSR 4; counts decimal.'
+unfoldable pub text : Line → List ℕ
+text (A address count) = 65 ∷ spaced (hex 8 address) ++ spaced (decimal count) ++ newline
+text (F kind cause address count) =
+    70 ∷ spaced (decimal kind) ++ spaced (decimal cause) ++ spaced (hex 8 address) ++ spaced (decimal count) ++ newline
+text (L count) = 76 ∷ spaced (decimal count) ++ newline
+text (T mmusr address count) = 84 ∷ spaced (hex 4 mmusr) ++ spaced (hex 8 address) ++ spaced (decimal count) ++ newline
+text K = 75 ∷ newline
+text N = 78 ∷ newline
+text (R n) = 82 ∷ spaced (decimal n) ++ newline
+
+-- ---- a whole file
+-- 'registers start as family 30, all else 0'
+abbrev pub noRoot : Root
+noRoot = record { limit = 0; address = 0 }
+
+abbrev pub firstRegisters : Registers
+firstRegisters =
+    record {
+      family = 30;
+      present = false;
+      enabled = false;
+      tc = 0;
+      crp = noRoot;
+      srp = noRoot;
+      tt0 = 0;
+      tt1 = 0;
+      itt0 = 0;
+      itt1 = 0;
+      dtt0 = 0;
+      dtt1 = 0;
+    }
+
+-- 'Memory is 8,192 longs at 0, all zero'
+abbrev pub firstState : State
+firstState = record { registers = firstRegisters; longs = replicate 8192 0; ranges = []; caches = emptyCaches }
+
+abbrev pub isMalformed : Record → Bool
+isMalformed (Loads g) = false
+isMalformed (Calls call) = false
+isMalformed (Stores address value) = false
+isMalformed (Adds range) = false
+isMalformed Malformed = true
+
+-- 'Refusal 7 .. comes first in its record, after the lines before it, and stops the run without `end`'
+abbrev pub goesOn : State → Record → (State → List ℕ) → List ℕ
+goesOn s r next = if isMalformed r then text (R 7) else text (stepOf s r .line) ++ next (stepOf s r .state)
+
+-- what stands at the front of the bytes: nothing, a record's body with the bytes after it, or less than a record
+pub data Front : Type 0 where
+  Ended : Front
+  Body : List ℕ → List ℕ → Front
+  Short : Front
+
+-- 'Each record is a 2-byte length and its body'; 'short record'
+unfoldable pub frontOf : List ℕ → Front
+frontOf [] = Ended
+frontOf (high ∷ []) = Short
+frontOf (high ∷ low ∷ rest) =
+    if leb (high * 256 + low) (length rest)
+    then Body (take (high * 256 + low) rest) (drop (high * 256 + low) rest)
+    else Short
+
+abbrev pub onFront : State → (State → List ℕ → List ℕ) → Front → List ℕ
+onFront s next Ended = 101 ∷ 110 ∷ 100 ∷ newline
+onFront s next (Body body rest) = goesOn s (recordOf body) (λ (t : State). next t rest)
+onFront s next Short = text (R 7)
+
+-- at most `most` records; a record takes two bytes or more, so the number of bytes is enough
+unfoldable pub playFrom : ℕ → State → List ℕ → List ℕ
+playFrom zero s b = []
+playFrom (suc most) s b = onFront s (λ t rest. playFrom most t rest) (frontOf b)
+
+-- 'The file .. starts with version byte 1.' '`v1` follows a good version byte.'
+unfoldable pub play : List ℕ → List ℕ
+play [] = text (R 7)
+play (version ∷ rest) =
+    if eqb version 1 then 118 ∷ 49 ∷ newline ++ playFrom (suc (length rest)) firstState rest else text (R 7)
