@@ -77,13 +77,15 @@ touched c i =
 abbrev pub found : Cache030 → ℕ → ℕ → ℕ → Bool
 found c code page shift = eqb (c .shift) shift && ltb (matching c code page) (length (c .entries))
 
+abbrev pub entryFor : Cache030 → ℕ → ℕ → Entry
+entryFor c code page = getD (c .entries) (matching c code page) noEntry
+
 abbrev pub permitted : Bool → Entry → Hit
 permitted write e = if write && e .wp then Miss else At (e .base)
 
 -- the base of the page's entry, unless 'WP .. makes a write miss'
 unfoldable pub hitOf : Cache030 → ℕ → ℕ → ℕ → Bool → Hit
-hitOf c code page shift write =
-    if found c code page shift then permitted write (getD (c .entries) (matching c code page) noEntry) else Miss
+hitOf c code page shift write = if found c code page shift then permitted write (entryFor c code page) else Miss
 
 -- the cache after it: a recorded hit is a use, 'even if WP then makes a write miss'
 unfoldable pub afterHit : Cache030 → Bool → ℕ → ℕ → ℕ → Cache030

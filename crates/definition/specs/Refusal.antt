@@ -76,11 +76,21 @@ abbrev pub firstThat : List Check → ℕ
 firstThat [] = 0
 firstThat (k ∷ ks) = if k .applies then k .number else firstThat ks
 
--- 'the first in the order 1, 6, 5, 2, 3, 4, 8 is given; none is given otherwise'
+-- 'the order 1, 6, 5, 2, 3, 4, 8'
+abbrev pub ordered : Checks → List Check
+ordered k =
+    check (k .one) 1
+    ∷ check (k .six) 6
+    ∷ check (k .five) 5
+    ∷ check (k .two) 2
+    ∷ check (k .three) 3
+    ∷ check (k .four) 4
+    ∷ check (k .eight) 8
+    ∷ []
+
+-- 'Where several apply, the first in the order .. is given; none is given otherwise.'
 unfoldable pub refusalOf : Checks → ℕ
-refusalOf k =
-    firstThat
-    (check (k .one) 1 ∷ check (k .six) 6 ∷ check (k .five) 5 ∷ check (k .two) 2 ∷ check (k .three) 3 ∷ check (k .four) 4 ∷ check (k .eight) 8 ∷ [])
+refusalOf k = firstThat (ordered k)
 
 -- a call's answer, or its refusal
 abbrev pub unless : {A : Type 0} → Checks → (ℕ → A) → A → A
