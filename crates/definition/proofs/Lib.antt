@@ -1,2 +1,5 @@
 pub mod Examples
 pub mod Refusals
+pub mod Lists
+pub mod Asked030
+pub mod Page030
