@@ -88,4 +88,4 @@ abbrev pub frameOf : ℕ → ℕ → ℕ
 frameOf tc page = page / 2 ^ pageBits tc * 2 ^ pageBits tc
 
 abbrev pub physical040 : ℕ → ℕ → ℕ → ℕ
-physical040 tc page address = frameOf tc page + address % 2 ^ pageBits tc
+physical040 tc page address = (frameOf tc page + address % 2 ^ pageBits tc) % 2 ^ 32
