@@ -16,11 +16,13 @@ use Rattle.definition.specs.declared.Descriptor.{Descriptor}
 use Rattle.definition.specs.declared.Descriptor.the-variants.{Whole, Lost}
 use Rattle.definition.specs.declared.Registers.{Registers}
 use Rattle.definition.specs.declared.Root.{Root}
+use Rattle.definition.proofs.Choice.{if-both}
 use Rattle.definition.proofs.Lists.{in-left, in-right}
+use Rattle.definition.proofs.Agree.{Agree, if-same}
 
--- the two memories give the same at each address of l
-abbrev pub Agree : Memory → Memory → List ℕ → Type 0
-Agree m m′ l = (a : ℕ) → In a l → fetchOf m a ≡ fetchOf m′ a
+-- the addresses of the longs that were asked for
+abbrev askedBy : Outcome → List ℕ
+askedBy o = o .found .asked
 
 -- how many longs a descriptor took
 abbrev took : Descriptor → ℕ
@@ -64,9 +66,8 @@ target-asked consumed to f (Lost lost n) = refl
 abbrev Keeps : (ℕ → Bool → Found → Outcome) → Type 0
 Keeps next = (a t : ℕ) (l : Bool) (f : Found) → In a (f .asked) → In a (next t l f .found .asked)
 
-if-in : (b : Bool) (x y : Outcome) (a : ℕ) → In a (x .found .asked) → In a (y .found .asked) → In a ((if b then x else y) .found .asked)
-if-in true x y a i j = i
-if-in false x y a i j = j
+abbrev Has : ℕ → Outcome → Type 0
+Has a o = In a (o .found .asked)
 
 module _ (m : Memory) where
   table-keeps : (a consumed kind field : ℕ) (wp sup : Bool) (f : Found) (rest : List Step) (next : ℕ → Bool → Found → Outcome) → Keeps next
@@ -79,24 +80,19 @@ module _ (m : Memory) where
       → In a (f .asked ++ longsAt at (took d)) → In a (onDescriptor m consumed at f rest next d .found .asked)
   descriptor-keeps a consumed at f rest next (Lost lost n) k i = i
   descriptor-keeps a consumed at f rest next (Whole kind field wp sup n) k i =
-      if-in (eqb kind 1) _ _ a i
-      (if-in (ltb kind 2) _ _ a i (table-keeps a consumed kind field wp sup (deeper (asking at n f)) rest next k i))
+      if-both (Has a) (eqb kind 1) _ _ i
+      (if-both (Has a) (ltb kind 2) _ _ i (table-keeps a consumed kind field wp sup (deeper (asking at n f)) rest next k i))
 
   walk-keeps : (limit : ℕ) (ss : List Step) → Keeps (λ t l f. walkFrom m limit ss t l f)
   unfolding walkFrom
   walk-keeps limit [] a t l f i = i
   walk-keeps limit (step ∷ rest) a t l f i =
-      if-in (leb limit (f .levels)) _ _ a i
+      if-both (Has a) (leb limit (f .levels)) _ _ i
       (descriptor-keeps a (step .consumed) (entryOf t (step .index) l) f rest _ (readOf m (entryOf t (step .index) l) l)
       (walk-keeps limit rest) (in-left a (f .asked) _ i))
 
 -- ---- each choice, table, descriptor and level ends alike
 module _ (m m′ : Memory) where
-  if-same : (b : Bool) (x y x′ y′ : Outcome) → (Agree m m′ (x .found .asked) → x ≡ x′) → (Agree m m′ (y .found .asked) → y ≡ y′)
-      → Agree m m′ ((if b then x else y) .found .asked) → (if b then x else y) ≡ (if b then x′ else y′)
-  if-same true x y x′ y′ h k q = h q
-  if-same false x y x′ y′ h k q = k q
-
   abbrev Same : (ℕ → Bool → Found → Outcome) → (ℕ → Bool → Found → Outcome) → Type 0
   Same next next′ = (t : ℕ) (l : Bool) (f : Found) → Agree m m′ (next t l f .found .asked) → next t l f ≡ next′ t l f
 
@@ -115,15 +111,15 @@ module _ (m m′ : Memory) where
         → onDescriptor m consumed at f rest next d ≡ onDescriptor m′ consumed at f rest next′ d
     descriptor-same consumed at f rest (Lost lost n) q = refl
     descriptor-same consumed at f rest (Whole kind field wp sup n) q =
-        if-same (eqb kind 1) _ _ _ _ (λ _. refl)
-        (if-same (ltb kind 2) _ _ _ _ (λ _. refl) (table-same consumed kind field wp sup (deeper (asking at n f)) rest)) q
+        if-same askedBy m m′ (eqb kind 1) _ _ _ _ (λ _. refl)
+        (if-same askedBy m m′ (ltb kind 2) _ _ _ _ (λ _. refl) (table-same consumed kind field wp sup (deeper (asking at n f)) rest)) q
 
   from-same : (limit : ℕ) (ss : List Step) (t : ℕ) (l : Bool) (f : Found)
       → Agree m m′ (walkFrom m limit ss t l f .found .asked) → walkFrom m limit ss t l f ≡ walkFrom m′ limit ss t l f
   unfolding walkFrom
   from-same limit [] t l f q = refl
   from-same limit (step ∷ rest) t l f q =
-      if-same (leb limit (f .levels)) _ _ _ _ (λ _. refl)
+      if-same askedBy m m′ (leb limit (f .levels)) _ _ _ _ (λ _. refl)
       (λ q.
       descriptor-same (λ t l f. walkFrom m limit rest t l f) (λ t l f. walkFrom m′ limit rest t l f) (from-same limit rest)
       (step .consumed) at f rest (readOf m at l) q
@@ -139,7 +135,7 @@ module _ (m m′ : Memory) where
       → walkSteps m root limit ss ≡ walkSteps m′ root limit ss
   steps-same root limit [] q = refl
   steps-same root limit (step ∷ rest) q =
-      if-same (ltb (root .limit % 4) 2) _ _ _ _ (λ _. refl)
+      if-same askedBy m m′ (ltb (root .limit % 4) 2) _ _ _ _ (λ _. refl)
       (from-same limit (step ∷ rest) (root .address / 16 * 16) (eqb (root .limit % 4) 3) (start (root .address))) q
 
   -- the law: the same longs, the same outcome

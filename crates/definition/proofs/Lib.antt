@@ -1,5 +1,9 @@
 pub mod Examples
 pub mod Refusals
+pub mod Choice
 pub mod Lists
+pub mod Agree
 pub mod Asked030
 pub mod Page030
+pub mod Asked040
+pub mod Page040

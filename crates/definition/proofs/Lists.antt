@@ -1,11 +1,14 @@
 -- Laws of lists: what is one of them, what all of them are, and where the first that passes stands. Assumes nothing.
-use Prim.Native.Nat.{ℕ, zero, suc, _+_, _≤_, _<_, zero-le, suc-le-suc}
-use mathlib.Core.Path.{_≡_, refl, ap, sym, _∙_}
+use Prim.Native.Nat.{ℕ, zero, suc, _≤_, _<_, zero-le, suc-le-suc}
+use mathlib.Core.Path.{_≡_, refl, sym, subst}
 use mathlib.Core.List.{List, [], _∷_, _++_, map}
-use mathlib.Core.Bool.{Bool, true, false}
+use mathlib.Core.Bool.{Bool, true, false, _&&_}
 use mathlib.Core.Logic.{_⊎_, inl, inr}
+use native.Mathlib.Nat.{le-refl, le-of-suc-le-suc, not-suc-le-zero}
+use native.Mathlib.Omega.{arith}
+use native.Mathlib.Decide.{decLe}
 use lib.ListN.{length, getD, set, replicate}
-use Rattle.definition.specs.Words.{firstOf}
+use Rattle.definition.specs.Words.{if_then_else_, allOf, firstOf}
 use Rattle.definition.specs.Replay.{In}
 
 -- ---- one of them
@@ -37,11 +40,71 @@ module _ {X : Type 0} (P : X → Type 0) where
   all-replicate zero x p = tt
   all-replicate (suc n) x p = (p, all-replicate n x p)
 
-  pub all-in : (l : List X) → ((x : X) → In x l → P x) → All P l
-  all-in [] h = tt
-  all-in (y ∷ l) h = (h y (inl refl), all-in l (λ x i. h x (inr i)))
-
 pub all-map : {X Y : Type 0} (P : X → Type 0) (Q : Y → Type 0) (f : X → Y) → ((x : X) → P x → Q (f x)) → (l : List X) → All P l
     → All Q (map f l)
 all-map P Q f h [] a = tt
 all-map P Q f h (x ∷ l) a = (h x (a .0), all-map P Q f h l (a .1))
+
+-- ---- the first that passes
+module _ {X : Type 0} (p : X → Bool) where
+  pub first-passes : (l : List X) (d : X) → firstOf p l < length l → p (getD l (firstOf p l) d) ≡ true
+  unfolding firstOf
+  first-passes [] d h = absurd (not-suc-le-zero h)
+  first-passes (x ∷ l) d h = go (p x) refl h (first-passes l d)
+    where
+      go : (b : Bool) → p x ≡ b → (if b then zero else suc (firstOf p l)) < suc (length l)
+          → (firstOf p l < length l → p (getD l (firstOf p l) d) ≡ true) → p (getD (x ∷ l) (if b then zero else suc (firstOf p l)) d) ≡ true
+      go true e h k = e
+      go false e h k = k (le-of-suc-le-suc h)
+
+  pub first-within : (l : List X) (x : X) → In x l → p x ≡ true → firstOf p l < length l
+  unfolding firstOf
+  first-within (y ∷ l) x (inl e) t = rw (← e, t) (suc-le-suc zero-le)
+  first-within (y ∷ l) x (inr i) t = go (p y) (first-within l x i t)
+    where
+      go : (b : Bool) → firstOf p l < length l → (if b then zero else suc (firstOf p l)) < suc (length l)
+      go true h = suc-le-suc zero-le
+      go false h = suc-le-suc h
+
+  pub all-pass : (l : List X) → ((x : X) → In x l → p x ≡ true) → allOf p l ≡ true
+  unfolding allOf
+  all-pass [] h = refl
+  all-pass (x ∷ l) h = rw (h x (inl refl)) (all-pass l (λ y i. h y (inr i)))
+
+-- ---- the smallest
+-- x is one of l, and none has a smaller number
+pub record Least {X : Type 0} (number : X → ℕ) (l : List X) (x : X) : Type 0 where
+  pub one : In x l
+  pub lowest : (y : X) → In y l → number x ≤ number y
+
+module _ {X : Type 0} (number : X → ℕ) where
+  least-one : (x : X) → Least number (x ∷ []) x
+  least-one x = record { one = inl refl; lowest = below }
+    where
+      below : (y : X) → In y (x ∷ []) → number x ≤ number y
+      below y (inl e) = rw e (le-refl (number x))
+
+  least-new : (x y : X) (l : List X) → number x ≤ number y → Least number l y → Least number (x ∷ l) x
+  least-new x y l h k = record { one = inl refl; lowest = below }
+    where
+      below : (z : X) → In z (x ∷ l) → number x ≤ number z
+      below z (inl e) = rw e (le-refl (number x))
+      below z (inr i) = omega (arith, k .lowest z i)
+
+  least-kept : (x y : X) (l : List X) → number y ≤ number x → Least number l y → Least number (x ∷ l) y
+  least-kept x y l h k = record { one = inr (k .one); lowest = below }
+    where
+      below : (z : X) → In z (x ∷ l) → number y ≤ number z
+      below z (inl e) = rw e h
+      below z (inr i) = k .lowest z i
+
+  pub least-of : (x : X) (l : List X) → (y : X) × Least number (x ∷ l) y
+  least-of x [] = (x, least-one x)
+  least-of x (y ∷ l) = go (least-of y l)
+    where
+      go : (z : X) × Least number (y ∷ l) z → (z : X) × Least number (x ∷ y ∷ l) z
+      go k = choose (decLe (number x) (number (k .0)))
+        where
+          choose : Dec (number x ≤ number (k .0)) → (z : X) × Least number (x ∷ y ∷ l) z
+          choose (yes h) = (x, least-new x (k .0) (y ∷ l) h (k .1))
+          choose (no h) = (k .0, least-kept x (k .0) (y ∷ l) (omega arith) (k .1))

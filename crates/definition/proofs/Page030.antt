@@ -3,7 +3,7 @@
 use Prim.Native.Nat.{ℕ, _+_, _-_, _*_, _/_, _%_, _^_, _≤_, _<_}
 use mathlib.Core.Path.{_≡_, refl, ap, sym, _∙_}
 use mathlib.Core.List.{List, [], _∷_}
-use mathlib.Core.Bool.{Bool, true, false, _&&_, and-eq-true-iff}
+use mathlib.Core.Bool.{Bool, true, false, _&&_}
 use native.Mathlib.Omega.{arith}
 use native.Mathlib.Nat.{mod-lt}
 use borrow.Author.Tests.{leb-true}
@@ -22,6 +22,7 @@ use Rattle.definition.specs.declared.Registers.{Registers}
 use Rattle.definition.specs.declared.Root.{Root}
 use Rattle.definition.specs.declared.Shift.{Shift}
 use Rattle.definition.specs.declared.Shift.the-variants.{Bits, NoPage}
+use Rattle.definition.proofs.Choice.{if-both, and-left, and-right}
 
 -- ---- the page shift
 -- what TC's page shift leaves for the levels: 32 bits in all, some of them on either side
@@ -35,9 +36,8 @@ from-cut sum s e = go (leb 1 sum && leb sum 31) refl e
   where
     go : (b : Bool) → (leb 1 sum && leb sum 31) ≡ b → (if b then Bits (32 - sum) else NoPage) ≡ Bits s → Cut sum s
     go true t e =
-        let two = and-eq-true-iff (leb 1 sum) (leb sum 31) .0 t in
-        let low = leb-true 1 sum (two .0) in
-        let high = leb-true sum 31 (two .1) in
+        let low = leb-true 1 sum (and-left (leb 1 sum) (leb sum 31) t) in
+        let high = leb-true sum 31 (and-right (leb 1 sum) (leb sum 31) t) in
         let is : 32 - sum ≡ s = cc in
         record { some = omega arith; most = omega arith; whole = omega arith }
     go false t e = let z : _≡_ {A = ℕ} 0 1 = cc in absurd (omega arith)
@@ -112,21 +112,16 @@ module _ (m : Memory) (most : ℕ) where
   AtMost (BusError at) = Unit {0}
   AtMost Config = Unit {0}
 
+  abbrev Ends : Outcome → Type 0
+  Ends o = AtMost (o .end)
+
   abbrev Within : List Step → Type 0
   Within [] = Unit {0}
   Within (step ∷ rest) = (step .consumed ≤ most) × Within rest
 
-  if-most : (b : Bool) (x y : Outcome) → AtMost (x .end) → AtMost (y .end) → AtMost ((if b then x else y) .end)
-  if-most true x y h k = h
-  if-most false x y h k = k
-
   target-most : (c to : ℕ) (f : Found) (d : Descriptor) → c ≤ most → AtMost (onTarget c to f d .end)
   target-most c to f (Lost lost n) h = tt
-  target-most c to f (Whole kind long wp sup n) h = go (eqb kind 1)
-    where
-      go : (b : Bool) → AtMost (if b then Page long c else Invalid true)
-      go true = h
-      go false = tt
+  target-most c to f (Whole kind long wp sup n) h = if-both AtMost (eqb kind 1) (Page long c) (Invalid true) h tt
 
   table-most : (c kind long : ℕ) (wp sup : Bool) (f : Found) (rest : List Step) (next : ℕ → Bool → Found → Outcome)
       → ((t : ℕ) (l : Bool) (f : Found) → AtMost (next t l f .end)) → c ≤ most → AtMost (onTable m c kind long wp sup f rest next .end)
@@ -137,13 +132,13 @@ module _ (m : Memory) (most : ℕ) where
       → ((t : ℕ) (l : Bool) (f : Found) → AtMost (next t l f .end)) → c ≤ most → AtMost (onDescriptor m c at f rest next d .end)
   descriptor-most c at f rest next (Lost lost n) k h = tt
   descriptor-most c at f rest next (Whole kind long wp sup n) k h =
-      if-most (eqb kind 1) _ _ h (if-most (ltb kind 2) _ _ tt (table-most c kind long wp sup _ rest next k h))
+      if-both Ends (eqb kind 1) _ _ h (if-both Ends (ltb kind 2) _ _ tt (table-most c kind long wp sup _ rest next k h))
 
   walk-most : (limit : ℕ) (ss : List Step) → Within ss → (t : ℕ) (l : Bool) (f : Found) → AtMost (walkFrom m limit ss t l f .end)
   unfolding walkFrom
   walk-most limit [] h t l f = tt
   walk-most limit (step ∷ rest) h t l f =
-      if-most (leb limit (f .levels)) _ _ tt
+      if-both Ends (leb limit (f .levels)) _ _ tt
       (descriptor-most (step .consumed) (entryOf t (step .index) l) f rest _ (readOf m (entryOf t (step .index) l) l)
       (walk-most limit rest (h .1)) (h .0))
 
@@ -158,7 +153,7 @@ module _ (m : Memory) (most : ℕ) where
   root-most : (root : Root) (limit : ℕ) (ss : List Step) → Within ss → AtMost (walkSteps m root limit ss .end)
   root-most root limit [] h = tt
   root-most root limit (step ∷ rest) h =
-      if-most (ltb (root .limit % 4) 2) _ _ tt
+      if-both Ends (ltb (root .limit % 4) 2) _ _ tt
       (walk-most limit (step ∷ rest) h (root .address / 16 * 16) (eqb (root .limit % 4) 3) (start (root .address)))
 
 -- the law: a page that is found leaves the page's bits

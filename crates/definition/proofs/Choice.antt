@@ -1,0 +1,36 @@
+-- Laws of choice: what holds of both sides of an `if` holds of it; what tests that pass tell. Assumes nothing.
+use mathlib.Core.Path.{_≡_, refl}
+use mathlib.Core.Bool.{Bool, true, false, _&&_, _||_, not, false≢true, true≢false}
+use Rattle.definition.specs.Words.{if_then_else_}
+use Rattle.definition.specs.Cache040.{sameBool}
+
+-- with what the test came to
+pub if-by : {A : Type 0} (P : A → Type 0) (b : Bool) (x y : A) → (b ≡ true → P x) → (b ≡ false → P y) → P (if b then x else y)
+if-by P true x y h k = h refl
+if-by P false x y h k = k refl
+
+pub if-both : {A : Type 0} (P : A → Type 0) (b : Bool) (x y : A) → P x → P y → P (if b then x else y)
+if-both P true x y h k = h
+if-both P false x y h k = k
+
+pub and-left : (a b : Bool) → (a && b) ≡ true → a ≡ true
+and-left true b e = refl
+and-left false b e = e
+
+pub and-right : (a b : Bool) → (a && b) ≡ true → b ≡ true
+and-right true b e = e
+and-right false b e = absurd (false≢true e)
+
+pub or-left : (a b : Bool) → (a || b) ≡ false → a ≡ false
+or-left true b e = e
+or-left false b e = refl
+
+pub or-right : (a b : Bool) → (a || b) ≡ false → b ≡ false
+or-right true b e = absurd (true≢false e)
+or-right false b e = e
+
+pub same-bool : (a b : Bool) → sameBool a b ≡ true → a ≡ b
+same-bool true true e = refl
+same-bool true false e = absurd (false≢true e)
+same-bool false true e = absurd (false≢true e)
+same-bool false false e = refl
