@@ -7,3 +7,6 @@ pub mod Asked030
 pub mod Page030
 pub mod Asked040
 pub mod Page040
+pub mod Entries030
+pub mod Entries040
+pub mod Entries
