@@ -11,6 +11,14 @@ use Rattle.definition.specs.Replay.{In}
 abbrev pub Agree : Memory → Memory → List ℕ → Type 0
 Agree m m′ l = (a : ℕ) → In a l → fetchOf m a ≡ fetchOf m′ a
 
+-- each memory of P gives the same as m there
+abbrev pub Throughout : (Memory → Type 0) → Memory → List ℕ → Type 0
+Throughout P m l = (m′ : Memory) → P m′ → Agree m m′ l
+
+-- no memory
+abbrev pub None : Memory → Type 0
+None m = ⊥
+
 -- a choice ends alike where the side that is taken does
 pub if-same : {O : Type 0} (asked : O → List ℕ) (m m′ : Memory) (b : Bool) (x y x′ y′ : O) → (Agree m m′ (asked x) → x ≡ x′)
     → (Agree m m′ (asked y) → y ≡ y′) → Agree m m′ (asked (if b then x else y)) → (if b then x else y) ≡ (if b then x′ else y′)

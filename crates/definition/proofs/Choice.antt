@@ -13,6 +13,11 @@ pub if-both : {A : Type 0} (P : A → Type 0) (b : Bool) (x y : A) → P x → P
 if-both P true x y h k = h
 if-both P false x y h k = k
 
+-- two choices by one test are alike where their sides are
+pub if-alike : {A B : Type 0} (f : A → B) (b : Bool) (x y x′ y′ : A) → f x ≡ f x′ → f y ≡ f y′ → f (if b then x else y) ≡ f (if b then x′ else y′)
+if-alike f true x y x′ y′ h k = h
+if-alike f false x y x′ y′ h k = k
+
 pub and-left : (a b : Bool) → (a && b) ≡ true → a ≡ true
 and-left true b e = refl
 and-left false b e = e

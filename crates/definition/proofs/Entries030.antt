@@ -83,7 +83,7 @@ shifted-shift c s = if-by (λ (d : Cache030). d .shift ≡ s) (eqb (c .shift) s)
 
 -- ---- each change of the cache
 module _ (g : Registers) (P : Memory → Type 0) where
-  no-entry : (s : ℕ) → Backed030 g P s noEntry
+  pub no-entry : (s : ℕ) → Backed030 g P s noEntry
   no-entry s e = absurd (false≢true e)
 
   pub empty-sound : Sound030 g P empty030

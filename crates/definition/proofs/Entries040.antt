@@ -34,8 +34,11 @@ module _ (g : Registers) (P : Memory → Type 0) where
   emptied-backed : (s : Slot) → Backed040 g P (emptied s)
   emptied-backed s v = absurd (false≢true v)
 
+  pub no-slot : Backed040 g P noSlot
+  no-slot v = absurd (false≢true v)
+
   pub empty-sound : Sound040 g P empty040
-  empty-sound = all-replicate (Backed040 g P) 64 noSlot (λ v. absurd (false≢true v))
+  empty-sound = all-replicate (Backed040 g P) 64 noSlot no-slot
 
   -- an insert adds the one slot that its walk found
   pub inserted-sound : (c : Cache040) (frame : ℕ) (supervisor : Bool) (base : ℕ) (wp sup : Bool) → Walked040 g P frame supervisor base wp sup

@@ -10,3 +10,5 @@ pub mod Page040
 pub mod Entries030
 pub mod Entries040
 pub mod Entries
+pub mod Hits030
+pub mod Hits040

@@ -1,0 +1,160 @@
+-- A hit of the 68030 cache gives what the walk gives, where the walk's longs read the same over every memory that filled the cache. Assumes nothing.
+use Prim.Native.Nat.{ℕ, _/_, _%_, _^_, _<_}
+use mathlib.Core.Path.{_≡_, refl, ap, sym, subst, _∙_}
+use mathlib.Core.List.{List, [], _∷_}
+use mathlib.Core.Bool.{Bool, true, false, not, _&&_}
+use native.Mathlib.Omega.{arith}
+use borrow.Author.Tests.{ltb-true, eqb-true}
+use lib.Dec.{eqb, ltb}
+use lib.ListN.{length, getD}
+use Rattle.definition.specs.Words.{if_then_else_, bitOf, firstOf}
+use Rattle.definition.specs.Memory.{Memory}
+use Rattle.definition.specs.Walk030.{Outcome, walk030, everyLevel, physicalOf, shiftOf}
+use Rattle.definition.specs.Cache030.{Entry, Cache030, noEntry, empty030, matches, matching, found, permitted, hitOf, afterHit}
+use Rattle.definition.specs.Translate.{baseOf, hitAddress, Searched, onEnd030, concluded030, search030, onHit030, with030}
+use Rattle.definition.specs.declared.End.{End}
+use Rattle.definition.specs.declared.End.the-variants.{Page, Invalid, LevelStop, BusError, Config}
+use Rattle.definition.specs.declared.Hit.{Hit}
+use Rattle.definition.specs.declared.Hit.the-variants.{At, Miss}
+use Rattle.definition.specs.declared.Registers.{Registers}
+use Rattle.definition.specs.declared.Shift.{Shift}
+use Rattle.definition.specs.declared.Shift.the-variants.{Bits, NoPage}
+use Rattle.definition.specs.declared.Translation.{Translation}
+use Rattle.definition.specs.declared.Translation.the-variants.{Address}
+use Rattle.definition.proofs.Choice.{if-by, if-both, if-alike, and-left, and-right}
+use Rattle.definition.proofs.Lists.{all-get, first-passes}
+use Rattle.definition.proofs.Agree.{None, Throughout}
+use Rattle.definition.proofs.Asked030.{asked-030}
+use Rattle.definition.proofs.Page030.{page-030, base-030, consumed-030}
+use Rattle.definition.proofs.Entries030.{Walked030, Backed030, Sound030, no-entry, empty-sound}
+
+-- ---- what a search answers and asks for does not depend on the cache
+end-answer : (tc : ℕ) (c c′ : Cache030) (code address : ℕ) (write wp sup : Bool) (asked : List ℕ) (e : End)
+    → onEnd030 tc c code address write wp sup asked e .answer ≡ onEnd030 tc c′ code address write wp sup asked e .answer
+end-answer tc c c′ code address write wp sup asked (Page field consumed) =
+    if-alike (λ (s : Searched). s .answer) (sup && not (bitOf code 2)) _ _ _ _ refl refl
+end-answer tc c c′ code address write wp sup asked (Invalid indirect) = refl
+end-answer tc c c′ code address write wp sup asked LevelStop = refl
+end-answer tc c c′ code address write wp sup asked (BusError at) = refl
+end-answer tc c c′ code address write wp sup asked Config = refl
+
+end-asked : (tc : ℕ) (c : Cache030) (code address : ℕ) (write wp sup : Bool) (asked : List ℕ) (e : End)
+    → onEnd030 tc c code address write wp sup asked e .asked ≡ asked
+end-asked tc c code address write wp sup asked (Page field consumed) =
+    if-both (λ (s : Searched). s .asked ≡ asked) (sup && not (bitOf code 2)) _ _ refl refl
+end-asked tc c code address write wp sup asked (Invalid indirect) = refl
+end-asked tc c code address write wp sup asked LevelStop = refl
+end-asked tc c code address write wp sup asked (BusError at) = refl
+end-asked tc c code address write wp sup asked Config = refl
+
+module _ (g : Registers) (m : Memory) (code address : ℕ) (write : Bool) where
+  pub search-answer : (c c′ : Cache030) → search030 g m c code address write .answer ≡ search030 g m c′ code address write .answer
+  unfolding search030
+  search-answer c c′ = end-answer (g .tc) c c′ code address write _ _ _ (walk030 m g address code everyLevel .end)
+
+  pub search-asked : (c : Cache030) → search030 g m c code address write .asked ≡ walk030 m g address code everyLevel .found .asked
+  unfolding search030
+  search-asked c = end-asked (g .tc) c code address write _ _ _ (walk030 m g address code everyLevel .end)
+
+-- ---- the entry that hits
+matching-matches : (c : Cache030) (code page : ℕ) → matching c code page < length (c .entries)
+    → matches code page (getD (c .entries) (matching c code page) noEntry) ≡ true
+unfolding matching
+matching-matches c code page =
+    if-by (λ (n : ℕ). n < length (c .entries) → matches code page (getD (c .entries) n noEntry) ≡ true)
+    (matches code page (getD (c .entries) (c .recent) noEntry)) (c .recent) (firstOf (matches code page) (c .entries)) (λ t l. t)
+    (λ f l. first-passes (matches code page) (c .entries) noEntry l)
+
+-- a hit has its walk, and does not write where WP is
+pub record Hits030 (g : Registers) (P : Memory → Type 0) (s code page base : ℕ) (write : Bool) : Type 0 where
+  pub wp : Bool
+  pub walked : Walked030 g P s code page base wp
+  pub may : (write && wp) ≡ false
+
+module _ (g : Registers) (P : Memory → Type 0) where
+  entry-hits : (e : Entry) (s code page base : ℕ) (write : Bool) → Backed030 g P s e → matches code page e ≡ true → permitted write e ≡ At base
+      → Hits030 g P s code page base write
+  entry-hits e s code page base write k t h = go (write && e .wp) refl h
+    where
+      valid : e .valid ≡ true
+      valid = and-left (e .valid) _ t
+
+      key : (eqb (e .code) code && eqb (e .page) page) ≡ true
+      key = and-right (e .valid) _ t
+
+      go : (b : Bool) → (write && e .wp) ≡ b → (if b then Miss else At (e .base)) ≡ At base → Hits030 g P s code page base write
+      go true f h = let z : _≡_ {A = ℕ} 0 1 = cc in absurd (omega arith)
+      go false f h =
+          let same : e .base ≡ base = cc in
+          record {
+            wp = e .wp;
+            walked = rw (eqb-true (e .code) code (and-left _ _ key), eqb-true (e .page) page (and-right (eqb (e .code) code) _ key), same) at (k valid);
+            may = f;
+          }
+
+  pub hit-030 : (c : Cache030) (code page s base : ℕ) (write : Bool) → Sound030 g P c → hitOf c code page s write ≡ At base
+      → Hits030 g P s code page base write
+  unfolding hitOf
+  hit-030 c code page s base write h e = go (found c code page s) refl e
+    where
+      go : (b : Bool) → found c code page s ≡ b
+          → (if b then permitted write (getD (c .entries) (matching c code page) noEntry) else Miss) ≡ At base → Hits030 g P s code page base write
+      go true t e =
+          let same = eqb-true (c .shift) s (and-left (eqb (c .shift) s) _ t) in
+          let there = ltb-true (matching c code page) (length (c .entries)) (and-right (eqb (c .shift) s) _ t) in
+          entry-hits (getD (c .entries) (matching c code page) noEntry) s code page base write
+          (subst (λ (n : ℕ). Backed030 g P n (getD (c .entries) (matching c code page) noEntry)) same
+          (all-get (Backed030 g P (c .shift)) (c .entries) (matching c code page) noEntry (no-entry g P (c .shift)) (h .backed)))
+          (matching-matches c code page there) e
+      go false t e = let z : _≡_ {A = ℕ} 0 1 = cc in absurd (omega arith)
+
+  -- ---- a hit answers as a search does
+  page-answer : (c : Cache030) (code address field consumed : ℕ) (write wp : Bool) (o : Outcome) → o .end ≡ Page field consumed → o .found .wp ≡ wp
+      → (o .found .sup && not (bitOf code 2)) ≡ false → (write && wp) ≡ false
+      → concluded030 (g .tc) c code address write o .answer ≡ Address (physicalOf field consumed address)
+  page-answer c code address field consumed write wp o e p a f = rw (e, p, a, f)
+
+  module _ (m : Memory) (code address : ℕ) (write : Bool) (steady : Throughout P m (walk030 m g address code everyLevel .found .asked)) where
+    hit-answer : (c : Cache030) (s base : ℕ) → Hits030 g P s code (address / 2 ^ s) base write
+        → Address (hitAddress base address s) ≡ search030 g m c code address write .answer
+    unfolding search030
+    hit-answer c s base k =
+        let w = k .walked in
+        let same : walk030 m g address code everyLevel ≡ walk030 (w .over) g (w .address) code everyLevel =
+        asked-030 m (w .over) g address code everyLevel (steady (w .over) (w .seen))
+        ∙ page-030 address (w .address) s (sym (w .at)) (w .over) g code everyLevel (w .shift) in
+        let left = consumed-030 (w .over) g (w .address) code everyLevel s (w .field) (w .consumed) (w .shift) (w .end) in
+        ap (λ (b : ℕ). Address (hitAddress b address s)) (sym (w .based))
+        ∙ ap Address (base-030 (w .address) address s (w .at) (w .field) (w .consumed) left)
+        ∙ sym (page-answer c code address (w .field) (w .consumed) write (k .wp) (walk030 (w .over) g (w .address) code everyLevel)
+        (w .end) (w .protect) (w .allowed) (k .may))
+        ∙ ap (λ (o : Outcome). concluded030 (g .tc) c code address write o .answer) (sym same)
+
+    -- the law: with such a cache a translation answers as a search from the empty one
+    pub with-answer : (c : Cache030) (recorded : Bool) (sh : Shift) → Sound030 g P c
+        → with030 g m c recorded code address write sh .answer ≡ search030 g m empty030 code address write .answer
+    with-answer c recorded NoPage h = search-answer g m code address write c empty030
+    with-answer c recorded (Bits s) h = go (hitOf c code (address / 2 ^ s) s write) refl
+      where
+        go : (hit : Hit) → hitOf c code (address / 2 ^ s) s write ≡ hit
+            → onHit030 g m (afterHit c recorded code (address / 2 ^ s) s) code address write s hit .answer
+            ≡ search030 g m empty030 code address write .answer
+        go (At base) e = hit-answer empty030 s base (hit-030 c code (address / 2 ^ s) s base write h e)
+        go Miss e = search-answer g m code address write _ empty030
+
+-- ---- the cacheless walk: no memory filled the empty cache
+module _ (g : Registers) (m : Memory) (code address : ℕ) (write recorded : Bool) where
+  pub empty-answer : (sh : Shift)
+      → with030 g m empty030 recorded code address write sh .answer ≡ search030 g m empty030 code address write .answer
+  empty-answer sh = with-answer g None m code address write (λ m′ b. absurd b) empty030 recorded sh (empty-sound g None)
+
+  pub empty-asked : (sh : Shift)
+      → with030 g m empty030 recorded code address write sh .asked ≡ walk030 m g address code everyLevel .found .asked
+  empty-asked NoPage = search-asked g m code address write empty030
+  empty-asked (Bits s) = go (hitOf empty030 code (address / 2 ^ s) s write) refl
+    where
+      go : (hit : Hit) → hitOf empty030 code (address / 2 ^ s) s write ≡ hit
+          → onHit030 g m (afterHit empty030 recorded code (address / 2 ^ s) s) code address write s hit .asked
+          ≡ walk030 m g address code everyLevel .found .asked
+      go (At base) e = absurd (hit-030 g None empty030 code (address / 2 ^ s) s base write (empty-sound g None) e .walked .seen)
+      go Miss e = search-asked g m code address write (afterHit empty030 recorded code (address / 2 ^ s) s)
