@@ -25,6 +25,11 @@ abbrev pub after : Registers → Caches → Moment → Caches
 after g c (watched a m) = translate g a m c .caches
 after g c (other call m) = calling g m c call .caches
 
+-- the caches after a run over the moments
+unfoldable pub afterAll : Registers → Caches → List Moment → Caches
+afterAll g c [] = c
+afterAll g c (now ∷ rest) = afterAll g (after g c now) rest
+
 -- the answers of the watched accesses, in order, in a run over the moments
 unfoldable pub answersFrom : Registers → Caches → List Moment → List Translation
 answersFrom g c [] = []
