@@ -12,3 +12,4 @@ pub mod Entries040
 pub mod Entries
 pub mod Hits030
 pub mod Hits040
+pub mod Independence

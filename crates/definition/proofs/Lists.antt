@@ -45,6 +45,17 @@ pub all-map : {X Y : Type 0} (P : X → Type 0) (Q : Y → Type 0) (f : X → Y)
 all-map P Q f h [] a = tt
 all-map P Q f h (x ∷ l) a = (h x (a .0), all-map P Q f h l (a .1))
 
+-- two lists with the same keys in order, where equal keys give equal values, give the same values
+pub map-alike : {X Y Z : Type 0} (key : X → Y) (f : X → Z) (l l′ : List X) → map key l ≡ map key l′
+    → ((x x′ : X) → In x l → In x′ l′ → key x ≡ key x′ → f x ≡ f x′) → map f l ≡ map f l′
+map-alike key f [] [] e h = refl
+map-alike key f [] (x′ ∷ l′) e h = let z : _≡_ {A = ℕ} 0 1 = cc in absurd (omega arith)
+map-alike key f (x ∷ l) [] e h = let z : _≡_ {A = ℕ} 0 1 = cc in absurd (omega arith)
+map-alike key f (x ∷ l) (x′ ∷ l′) e h =
+    let one : key x ≡ key x′ = cc in
+    let more : map key l ≡ map key l′ = cc in
+    rw (h x x′ (inl refl) (inl refl) one, map-alike key f l l′ more (λ y y′ i i′. h y y′ (inr i) (inr i′)))
+
 -- ---- the first that passes
 module _ {X : Type 0} (p : X → Bool) where
   pub first-passes : (l : List X) (d : X) → firstOf p l < length l → p (getD l (firstOf p l) d) ≡ true

@@ -1,0 +1,225 @@
+-- The mission's demand 3: what a watched access is answered does not depend on anything but the longs that its cacheless walk asks for.
+-- Assumes nothing but what the statements say.
+use Prim.Native.Nat.{ℕ, _/_, _^_}
+use mathlib.Core.Path.{_≡_, refl, ap, sym, subst, _∙_}
+use mathlib.Core.List.{List, [], _∷_, _++_, map}
+use mathlib.Core.Bool.{Bool, true, false, not, _&&_, _||_}
+use mathlib.Core.Logic.{_⊎_, inl, inr}
+use borrow.Author.Tests.{eq-eqb}
+use lib.Dec.{eqb}
+use Rattle.definition.specs.Words.{if_then_else_}
+use Rattle.definition.specs.Registers.{on, asSupervisor, asInstruction, walkCode, comparedCode}
+use Rattle.definition.specs.Memory.{Memory, fetchOf}
+use Rattle.definition.specs.Transparent.{transparent}
+use Rattle.definition.specs.Walk030.{Outcome, walk030, everyLevel, shiftOf}
+use Rattle.definition.specs.Walk040.{Outcome040}
+use Rattle.definition.specs.Cache030.{Cache030, empty030}
+use Rattle.definition.specs.Refusal.{Checks, refusalOf}
+use Rattle.definition.specs.Translate.{Caches, emptyCaches, Translated, atOnce, concluded030, search030, with030, translate030, concluded040, translate040, inOrder, translateChecks, translate, cacheless}
+use Rattle.definition.specs.Replay.{Moment, watched, other, memoryAt, after, afterAll, answersFrom, answers, watchedOf, walksOf, In, Steady, Accepted}
+use Rattle.definition.specs.declared.Registers.{Registers}
+use Rattle.definition.specs.declared.Access.{Access}
+use Rattle.definition.specs.declared.Translation.{Translation}
+use Rattle.definition.specs.declared.Translation.the-variants.{Address, Refused}
+use Rattle.definition.proofs.Lists.{in-left, in-right, map-alike}
+use Rattle.definition.proofs.Agree.{Agree, Throughout}
+use Rattle.definition.proofs.Asked030.{asked-030}
+use Rattle.definition.proofs.Asked040.{asked-040}
+use Rattle.definition.proofs.Entries030.{passes-four}
+use Rattle.definition.proofs.Entries.{Sound, empty-sound, after-sound}
+use Rattle.definition.proofs.Hits030 as hits030
+use Rattle.definition.proofs.Hits040 as hits040
+
+-- ---- one access
+-- the order of a translation, by what its three tests give: off, a transparent match, family 30
+abbrev byTests : Bool → Bool → Bool → Registers → Access → Memory → Caches → Translated
+byTests off through old g a m c =
+    if off
+    then atOnce (Address (a .address)) c
+    else if through
+    then atOnce (Address (a .address)) c
+    else if old then translate030 g a m c else translate040 g a m c
+
+module _ (g : Registers) (P : Memory → Type 0) (a : Access) (m : Memory) (c : Caches) (h : Sound g P c) where
+  same-030 : Throughout P m (translate030 g a m emptyCaches .asked) → translate030 g a m c .answer ≡ translate030 g a m emptyCaches .answer
+  unfolding translate030
+  same-030 t =
+      hits030.with-answer g P m (walkCode a) (a .address) (a .write)
+      (rw (hits030.empty-asked g m (walkCode a) (a .address) (a .write) (a .recorded) (shiftOf (g .tc))) at t)
+      (c .c030) (a .recorded) (shiftOf (g .tc)) (h .in030)
+      ∙ sym (hits030.empty-answer g m (walkCode a) (a .address) (a .write) (a .recorded) (shiftOf (g .tc)))
+
+  same-040 : Throughout P m (translate040 g a m emptyCaches .asked) → translate040 g a m c .answer ≡ translate040 g a m emptyCaches .answer
+  same-040 t =
+      hits040.with-answer g P m a (rw (hits040.empty-asked g m a) at t) c (h .in040) ∙ sym (hits040.empty-answer g m a)
+
+  same-by : (off through old : Bool) → Throughout P m (byTests off through old g a m emptyCaches .asked)
+      → byTests off through old g a m c .answer ≡ byTests off through old g a m emptyCaches .answer
+  same-by true through old t = refl
+  same-by false true old t = refl
+  same-by false false true t = same-030 t
+  same-by false false false t = same-040 t
+
+  same-order : Throughout P m (inOrder g a m emptyCaches .asked) → inOrder g a m c .answer ≡ inOrder g a m emptyCaches .answer
+  unfolding inOrder
+  same-order t = same-by (not (on g)) (transparent g (a .address) (comparedCode a) (asInstruction a)) (eqb (g .family) 30) t
+
+  -- check 4 passes, so the refusal is the cacheless walk's
+  same-checks : translateChecks g a m c ≡ translateChecks g a m emptyCaches
+  same-checks = rw (passes-four g P (c .c030) (h .in030))
+
+  -- the law of one access: caches that were filled over memories where its walk's longs read the same change nothing
+  pub translate-answer : Throughout P m (cacheless g a m .asked) → translate g a m c .answer ≡ cacheless g a m .answer
+  unfolding translate
+  translate-answer t = rw same-checks (go (eqb (refusalOf (translateChecks g a m emptyCaches)) 0) t)
+    where
+      n : ℕ
+      n = refusalOf (translateChecks g a m emptyCaches)
+
+      go : (b : Bool) → Throughout P m ((if b then inOrder g a m emptyCaches else atOnce (Refused n) emptyCaches) .asked)
+          → (if b then inOrder g a m c else atOnce (Refused n) c) .answer ≡ (if b then inOrder g a m emptyCaches else atOnce (Refused n) emptyCaches) .answer
+      go true t = same-order t
+      go false t = refl
+
+-- ---- one access over two memories
+module _ (g : Registers) (a : Access) (m m′ : Memory) where
+  two-030 : Agree m m′ (translate030 g a m emptyCaches .asked) → translate030 g a m emptyCaches .answer ≡ translate030 g a m′ emptyCaches .answer
+  unfolding translate030 search030
+  two-030 t =
+      hits030.empty-answer g m (walkCode a) (a .address) (a .write) (a .recorded) (shiftOf (g .tc))
+      ∙ ap (λ (o : Outcome). concluded030 (g .tc) empty030 (walkCode a) (a .address) (a .write) o .answer)
+      (asked-030 m m′ g (a .address) (walkCode a) everyLevel
+      (rw (hits030.empty-asked g m (walkCode a) (a .address) (a .write) (a .recorded) (shiftOf (g .tc))) at t))
+      ∙ sym (hits030.empty-answer g m′ (walkCode a) (a .address) (a .write) (a .recorded) (shiftOf (g .tc)))
+
+  two-040 : Agree m m′ (translate040 g a m emptyCaches .asked) → translate040 g a m emptyCaches .answer ≡ translate040 g a m′ emptyCaches .answer
+  two-040 t =
+      hits040.empty-answer g m a
+      ∙ ap (λ (o : Outcome040). concluded040 g a emptyCaches o .answer)
+      (asked-040 m m′ g (a .address) (asSupervisor a) (rw (hits040.empty-asked g m a) at t))
+      ∙ sym (hits040.empty-answer g m′ a)
+
+  two-by : (off through old : Bool) → Agree m m′ (byTests off through old g a m emptyCaches .asked)
+      → byTests off through old g a m emptyCaches .answer ≡ byTests off through old g a m′ emptyCaches .answer
+  two-by true through old t = refl
+  two-by false true old t = refl
+  two-by false false true t = two-030 t
+  two-by false false false t = two-040 t
+
+  two-order : Agree m m′ (inOrder g a m emptyCaches .asked) → inOrder g a m emptyCaches .answer ≡ inOrder g a m′ emptyCaches .answer
+  unfolding inOrder
+  two-order t = two-by (not (on g)) (transparent g (a .address) (comparedCode a) (asInstruction a)) (eqb (g .family) 30) t
+
+  accepted : (m : Memory) → refusalOf (translateChecks g a m emptyCaches) ≡ 0 → cacheless g a m ≡ inOrder g a m emptyCaches
+  unfolding translate
+  accepted m e = rw (eq-eqb (refusalOf (translateChecks g a m emptyCaches)) 0 e)
+
+  -- the law of one cacheless walk: over two memories that give the same at its longs it answers alike
+  pub cacheless-answer : refusalOf (translateChecks g a m emptyCaches) ≡ 0 → refusalOf (translateChecks g a m′ emptyCaches) ≡ 0
+      → Agree m m′ (cacheless g a m .asked) → cacheless g a m .answer ≡ cacheless g a m′ .answer
+  cacheless-answer e e′ t =
+      ap (λ (r : Translated). r .answer) (accepted m e)
+      ∙ two-order (subst (λ (r : Translated). Agree m m′ (r .asked)) (accepted m e) t)
+      ∙ ap (λ (r : Translated). r .answer) (sym (accepted m′ e′))
+
+-- ---- a replay
+-- m is the memory of one of the moments
+pub record Of (l : List Moment) (m : Memory) : Type 0 where
+  pub now : Moment
+  pub one : In now l
+  pub is : memoryAt now ≡ m
+
+module _ (g : Registers) (P : Memory → Type 0) where
+  pub run-sound : (l : List Moment) → ((now : Moment) → In now l → P (memoryAt now)) → (c : Caches) → Sound g P c → Sound g P (afterAll g c l)
+  unfolding afterAll
+  run-sound [] p c h = h
+  run-sound (now ∷ rest) p c h = run-sound rest (λ n i. p n (inr i)) (after g c now) (after-sound g P now (p now (inl refl)) c h)
+
+  run-answers : (l : List Moment) → ((now : Moment) → In now l → P (memoryAt now))
+      → ((a : Access) (m : Memory) → In (watched a m) l → Throughout P m (cacheless g a m .asked)) → (c : Caches) → Sound g P c
+      → answersFrom g c l ≡ walksOf g l
+  unfolding answersFrom walksOf
+  run-answers [] p s c h = refl
+  run-answers (watched a m ∷ rest) p s c h =
+      rw (
+        translate-answer g P a m c h (s a m (inl refl)),
+        run-answers rest (λ n i. p n (inr i)) (λ b n i. s b n (inr i)) (after g c (watched a m))
+            (after-sound g P (watched a m) (p (watched a m) (inl refl)) c h),
+      )
+  run-answers (other call m ∷ rest) p s c h =
+      run-answers rest (λ n i. p n (inr i)) (λ b n i. s b n (inr i)) (after g c (other call m))
+      (after-sound g P (other call m) (p (other call m) (inl refl)) c h)
+
+-- after any moments whatever a watched access gets the cacheless walk's answer, if at each of them its longs read as they do now
+pub after-anything : (g : Registers) (before : List Moment) (a : Access) (m : Memory)
+    → ((now : Moment) (at : ℕ) → In now before → In at (cacheless g a m .asked) → fetchOf (memoryAt now) at ≡ fetchOf m at)
+    → translate g a m (afterAll g emptyCaches before) .answer ≡ cacheless g a m .answer
+after-anything g before a m s =
+    translate-answer g (Of before) a m (afterAll g emptyCaches before)
+    (run-sound g (Of before) before (λ now i. record { now = now; one = i; is = refl }) emptyCaches (empty-sound g (Of before)))
+    (λ m′ o at i. sym (rw (o .is) at (s (o .now) at (o .one) i)))
+
+-- one replay: each watched access gets the cacheless walk's address, fault or refusal
+pub watched-is-cacheless : (g : Registers) (l : List Moment) → Steady g l → answers g l ≡ walksOf g l
+watched-is-cacheless g l s =
+    run-answers g (Of l) l (λ now i. record { now = now; one = i; is = refl })
+    (λ a m i m′ o at j. sym (rw (o .is) at (s .same a m (o .now) at i (o .one) j))) emptyCaches (empty-sound g (Of l))
+
+-- ---- two replays
+-- the watched accesses, each with its memory
+abbrev Pair : Type 0
+Pair = Access × Memory
+
+pairsOf : List Moment → List Pair
+pairsOf [] = []
+pairsOf (watched a m ∷ rest) = (a, m) ∷ pairsOf rest
+pairsOf (other call m ∷ rest) = pairsOf rest
+
+watched-pairs : (l : List Moment) → watchedOf l ≡ map (λ (p : Pair). p .0) (pairsOf l)
+unfolding watchedOf pairsOf
+watched-pairs [] = refl
+watched-pairs (watched a m ∷ rest) = rw (watched-pairs rest)
+watched-pairs (other call m ∷ rest) = watched-pairs rest
+
+walks-pairs : (g : Registers) (l : List Moment) → walksOf g l ≡ map (λ (p : Pair). cacheless g (p .0) (p .1) .answer) (pairsOf l)
+unfolding walksOf pairsOf
+walks-pairs g [] = refl
+walks-pairs g (watched a m ∷ rest) = rw (walks-pairs g rest)
+walks-pairs g (other call m ∷ rest) = walks-pairs g rest
+
+pair-in : (l : List Moment) (p : Pair) → In p (pairsOf l) → In (watched (p .0) (p .1)) l
+unfolding pairsOf
+pair-in (watched a m ∷ rest) p (inl e) = inl (ap (λ (q : Pair). watched (q .0) (q .1)) e)
+pair-in (watched a m ∷ rest) p (inr i) = inr (pair-in rest p i)
+pair-in (other call m ∷ rest) p i = inr (pair-in rest p i)
+
+module _ (g : Registers) (l : List Moment) (s : Steady g l) (t : Accepted g l) where
+  -- one access, watched at two moments
+  at-two : (a : Access) (m m′ : Memory) → In (watched a m) l → In (watched a m′) l → cacheless g a m .answer ≡ cacheless g a m′ .answer
+  at-two a m m′ i i′ = cacheless-answer g a m m′ (t .none a m i) (t .none a m′ i′) (λ at j. sym (s .same a m (watched a m′) at i i′ j))
+
+  pairs-alike : (p q : Pair) → In (watched (p .0) (p .1)) l → In (watched (q .0) (q .1)) l → p .0 ≡ q .0
+      → cacheless g (p .0) (p .1) .answer ≡ cacheless g (q .0) (q .1) .answer
+  pairs-alike p q i j e =
+      at-two (p .0) (p .1) (q .1) i (subst (λ (a : Access). In (watched a (q .1)) l) (sym e) j)
+      ∙ ap (λ (a : Access). cacheless g a (q .1) .answer) e
+
+-- the demand: two replays with the same watched accesses in the same order, where every long that their cacheless walks ask for reads the same
+-- throughout both, and none is refused, give each the same address or fault: the cacheless walk's
+pub independence : (g : Registers) (l l′ : List Moment) → watchedOf l ≡ watchedOf l′ → Steady g (l ++ l′) → Accepted g (l ++ l′)
+    → (answers g l ≡ answers g l′) × (answers g l ≡ walksOf g l)
+independence g l l′ e s t = (one ∙ both ∙ sym two, one)
+  where
+    one : answers g l ≡ walksOf g l
+    one = watched-is-cacheless g l (record { same = λ a m now at i j k. s .same a m now at (in-left _ l l′ i) (in-left _ l l′ j) k })
+
+    two : answers g l′ ≡ walksOf g l′
+    two = watched-is-cacheless g l′ (record { same = λ a m now at i j k. s .same a m now at (in-right _ l l′ i) (in-right _ l l′ j) k })
+
+    both : walksOf g l ≡ walksOf g l′
+    both =
+        walks-pairs g l
+        ∙ map-alike (λ (p : Pair). p .0) (λ (p : Pair). cacheless g (p .0) (p .1) .answer) (pairsOf l) (pairsOf l′)
+        (sym (watched-pairs l) ∙ e ∙ watched-pairs l′)
+        (λ p q i j k. pairs-alike g (l ++ l′) s t p q (in-left _ l l′ (pair-in l p i)) (in-right _ l l′ (pair-in l′ q j)) k)
+        ∙ sym (walks-pairs g l′)
