@@ -5,10 +5,9 @@ use mathlib.Core.List.{List, [], _∷_, _++_}
 use mathlib.Core.Bool.{Bool, true, false}
 use mathlib.Core.Logic.{inl, inr}
 use lib.Dec.{leb, ltb, eqb}
-use Rattle.definition.specs.Words.{if_then_else_}
 use Rattle.definition.specs.Memory.{Memory, fetchOf}
 use Rattle.definition.specs.Registers.{rootOf}
-use Rattle.definition.specs.Walk030.{entryOf, shortOf, onSecond, longOf, readOf, Step, stepsOf, Found, Outcome, ended, longsAt, asking, deeper, guarded, onTarget, onTable, onDescriptor, walkFrom, start, walkSteps, walk030}
+use Rattle.definition.specs.Walk030.{entryOf, shortOf, onSecond, longOf, readOf, Step, stepsOf, Found, Outcome, longsAt, asking, deeper, guarded, onTarget, onTable, onDescriptor, walkFrom, start, walkSteps, walk030}
 use Rattle.definition.specs.Replay.{In}
 use Rattle.definition.specs.declared.Fetched.{Fetched}
 use Rattle.definition.specs.declared.Fetched.the-variants.{Long, Failed}

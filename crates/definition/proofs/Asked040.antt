@@ -2,12 +2,12 @@
 use Prim.Native.Nat.{ℕ, _*_, _/_, _%_}
 use mathlib.Core.Path.{_≡_, refl, ap, _∙_}
 use mathlib.Core.List.{List, [], _∷_, _++_}
-use mathlib.Core.Bool.{Bool, true, false, _||_}
+use mathlib.Core.Bool.{Bool, _||_}
 use mathlib.Core.Logic.{inl}
 use lib.Dec.{ltb, eqb}
-use Rattle.definition.specs.Words.{if_then_else_, bitOf}
+use Rattle.definition.specs.Words.{bitOf}
 use Rattle.definition.specs.Memory.{Memory, fetchOf}
-use Rattle.definition.specs.Walk040.{Outcome040, ended040, onLong, asks, rootAt, pointerAt, pageAt, onPage, onEntry, onPointer, onRoot, walk040}
+use Rattle.definition.specs.Walk040.{Outcome040, onLong, asks, rootAt, pointerAt, pageAt, onPage, onEntry, onPointer, onRoot, walk040}
 use Rattle.definition.specs.Replay.{In}
 use Rattle.definition.specs.declared.Fetched.{Fetched}
 use Rattle.definition.specs.declared.Fetched.the-variants.{Long, Failed}

@@ -1,6 +1,6 @@
 -- Laws of choice: what holds of both sides of an `if` holds of it; what tests that pass tell. Assumes nothing.
 use mathlib.Core.Path.{_≡_, refl}
-use mathlib.Core.Bool.{Bool, true, false, _&&_, _||_, not, false≢true, true≢false}
+use mathlib.Core.Bool.{Bool, true, false, _&&_, _||_, false≢true, true≢false}
 use Rattle.definition.specs.Words.{if_then_else_}
 use Rattle.definition.specs.Cache040.{sameBool}
 

@@ -2,22 +2,20 @@
 -- Assumes nothing.
 use Prim.Native.Nat.{ℕ, _/_, _^_}
 use mathlib.Core.Path.{_≡_, refl}
-use mathlib.Core.List.{List, [], _∷_}
-use mathlib.Core.Bool.{Bool, true, false, not, _&&_, _||_}
+use mathlib.Core.Bool.{Bool, false, not, _&&_, _||_}
 use lib.Dec.{eqb}
-use Rattle.definition.specs.Words.{if_then_else_}
 use Rattle.definition.specs.Registers.{on, asSupervisor, asInstruction, walkCode, comparedCode}
 use Rattle.definition.specs.Memory.{Memory}
 use Rattle.definition.specs.Transparent.{transparent, transparent030}
 use Rattle.definition.specs.Walk030.{shiftOf}
 use Rattle.definition.specs.Walk040.{walk040, pageBits, frameOf}
-use Rattle.definition.specs.Cache030.{Cache030, flushedPage}
+use Rattle.definition.specs.Cache030.{flushedPage}
 use Rattle.definition.specs.Cache040.{hit040}
 use Rattle.definition.specs.Refusal.{Checks, refusalOf, badCache, badFrame, aboveSeven}
-use Rattle.definition.specs.Translate.{Caches, emptyCaches, Translated, translated, translate030, onEnd040, onHit040, translate040, inOrder, translateChecks, translate}
-use Rattle.definition.specs.Load.{Loaded, stopped, afterDrop, loadInOrder, loadChecks, load}
+use Rattle.definition.specs.Translate.{Caches, emptyCaches, Translated, translate030, onEnd040, onHit040, translate040, inOrder, translateChecks, translate}
+use Rattle.definition.specs.Load.{Loaded, stopped, loadInOrder, loadChecks, load}
 use Rattle.definition.specs.Flush.{Flushed, flushChecks, flushUnless, flushAll, flushCode, flushPage, flushFrame}
-use Rattle.definition.specs.Calls.{Call, access, loading, testing, probing, flushingAll, flushingCode, flushingPage, flushingFrame, Called, calling}
+use Rattle.definition.specs.Calls.{Call, access, loading, testing, probing, flushingAll, flushingCode, flushingPage, flushingFrame, calling}
 use Rattle.definition.specs.Replay.{Moment, watched, other, memoryAt, after}
 use Rattle.definition.specs.declared.Registers.{Registers}
 use Rattle.definition.specs.declared.Access.{Access}
@@ -26,15 +24,23 @@ use Rattle.definition.specs.declared.End040.the-variants.{Resident, Abse
 use Rattle.definition.specs.declared.Hit.{Hit}
 use Rattle.definition.specs.declared.Hit.the-variants.{At, Miss}
 use Rattle.definition.proofs.Choice.{if-both}
-use Rattle.definition.proofs.Entries030.{Sound030, search-sound, with-sound, flushed-page-sound}
+use Rattle.definition.proofs.Entries030.{Sound030, passes-four, search-sound, with-sound, flushed-page-sound}
 use Rattle.definition.proofs.Entries030 as of030
-use Rattle.definition.proofs.Entries040.{Walked040, Sound040}
+use Rattle.definition.proofs.Entries040.{Sound040}
 use Rattle.definition.proofs.Entries040 as of040
 
 -- both caches as they can be: check 4 passes, and each valid entry has its walk under g, over a memory of P
 pub record Sound (g : Registers) (P : Memory → Type 0) (c : Caches) : Type 0 where
   pub in030 : Sound030 g P (c .c030)
   pub in040 : Sound040 g P (c .c040)
+
+-- after a flush of all the caches are as they can be under any registers and memories: it isn't refused, and leaves no valid entry
+pub flush-all-sound : (g : Registers) (P : Memory → Type 0) (g′ : Registers) (P′ : Memory → Type 0) (c : Caches) → Sound g P c
+    → Sound g′ P′ (flushAll c .caches)
+unfolding flushAll refusalOf
+flush-all-sound g P g′ P′ c h =
+    rw (passes-four g P (c .c030) (h .in030))
+    (record { in030 = of030.flushed-all-sound g P g′ P′ (c .c030) (h .in030); in040 = of040.flushed-all-sound g P g′ P′ (c .c040) (h .in040) })
 
 module _ (g : Registers) (P : Memory → Type 0) where
   pub empty-sound : Sound g P emptyCaches
@@ -103,12 +109,6 @@ module _ (g : Registers) (P : Memory → Type 0) where
   flush-sound : (k : Checks) (c : Caches) (done : Flushed) → Sound g P c → Sound g P (done .caches) → Sound g P (flushUnless k c done .caches)
   flush-sound k c done h d = if-both (λ (f : Flushed). Sound g P (f .caches)) (eqb (refusalOf k) 0) _ _ d h
 
-  pub flush-all-sound : (c : Caches) → Sound g P c → Sound g P (flushAll c .caches)
-  unfolding flushAll
-  flush-all-sound c h =
-      flush-sound (flushChecks false (badCache (c .c030))) c _ h
-      (record { in030 = of030.flushed-all-sound g P (c .c030) (h .in030); in040 = of040.flushed-all-sound g P (c .c040) (h .in040) })
-
   pub flush-code-sound : (code mask : ℕ) (c : Caches) → Sound g P c → Sound g P (flushCode code mask c .caches)
   unfolding flushCode
   flush-code-sound code mask c h =
@@ -134,7 +134,7 @@ module _ (g : Registers) (P : Memory → Type 0) where
   calling-sound m seen c h (loading code write address) = load-sound m seen code write address c h
   calling-sound m seen c h (testing code write level address) = h
   calling-sound m seen c h (probing own instruction write address) = h
-  calling-sound m seen c h flushingAll = flush-all-sound c h
+  calling-sound m seen c h flushingAll = flush-all-sound g P g P c h
   calling-sound m seen c h (flushingCode code mask) = flush-code-sound code mask c h
   calling-sound m seen c h (flushingPage code mask address) = flush-page-sound code mask address c h
   calling-sound m seen c h (flushingFrame frame) = flush-frame-sound frame c h

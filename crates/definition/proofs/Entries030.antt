@@ -1,16 +1,16 @@
 -- The 68030 cache's valid entries: nothing adds one but a walk of its key; and the cache keeps its 22 places and passes check 4. Assumes nothing.
-use Prim.Native.Nat.{ℕ, zero, suc, _+_, _-_, _/_, _^_, _≤_, _<_}
-use mathlib.Core.Path.{_≡_, refl, ap, sym, _∙_}
-use mathlib.Core.List.{List, [], _∷_, map}
-use mathlib.Core.Bool.{Bool, true, false, not, _&&_, _||_, false≢true}
+use Prim.Native.Nat.{ℕ, _+_, _-_, _/_, _^_, _≤_, _<_}
+use mathlib.Core.Path.{_≡_, refl, _∙_}
+use mathlib.Core.List.{List, [], _∷_}
+use mathlib.Core.Bool.{Bool, true, false, not, _&&_, false≢true}
 use native.Mathlib.Omega.{arith}
 use native.Mathlib.Nat.{not-suc-le-zero}
 use borrow.Author.Tests.{ltb-true, le-leb, le-ltb, eqb-true}
 use lib.Dec.{eqb, ltb, leb}
-use lib.ListN.{length, getD, set, length-map, length-set}
-use Rattle.definition.specs.Words.{if_then_else_, bitOf, firstOf, allOf, agrees}
+use lib.ListN.{length, getD, length-map, length-set}
+use Rattle.definition.specs.Words.{bitOf, firstOf, allOf, agrees}
 use Rattle.definition.specs.Memory.{Memory}
-use Rattle.definition.specs.Walk030.{Outcome, walk030, everyLevel, physicalOf, shiftOf}
+use Rattle.definition.specs.Walk030.{walk030, everyLevel, physicalOf, shiftOf}
 use Rattle.definition.specs.Cache030.{Entry, Cache030, noEntry, empty030, matches, matching, stamped, rested, putAt, touched, found, hitOf, afterHit, dropped, shifted, oldest, victim, inserted, dropIf, flushedAll, flushedCode, flushedPage}
 use Rattle.definition.specs.Translate.{baseOf, cached, Searched, onEnd030, search030, onHit030, with030}
 use Rattle.definition.specs.Refusal.{badCache}
@@ -23,7 +23,7 @@ use Rattle.definition.specs.declared.Shift.{Shift}
 use Rattle.definition.specs.declared.Shift.the-variants.{Bits, NoPage}
 use Rattle.definition.proofs.Choice.{if-by, if-both, and-right}
 use Rattle.definition.proofs.Lists.{All, all-set, all-get, all-replicate, all-map, first-within, all-pass, Least, least-of}
-use Rattle.definition.proofs.Page030.{Cut, shift-cut}
+use Rattle.definition.proofs.Page030.{shift-cut}
 
 -- a walk of this code and page, over a memory of P, found the page with this base and WP, and S let it be cached
 pub record Walked030 (g : Registers) (P : Memory → Type 0) (s code page base : ℕ) (wp : Bool) : Type 0 where
@@ -81,6 +81,22 @@ shifted-shift : (c : Cache030) (s : ℕ) → shifted c s .shift ≡ s
 unfolding shifted
 shifted-shift c s = if-by (λ (d : Cache030). d .shift ≡ s) (eqb (c .shift) s) _ _ (λ t. eqb-true (c .shift) s t) (λ f. refl)
 
+-- ---- a flush of all
+dropped-backed : (g : Registers) (P : Memory → Type 0) (s : ℕ) (e : Entry) → Backed030 g P s (dropped e)
+dropped-backed g P s e v = absurd (false≢true v)
+
+-- no valid entry is left, so the cache is as it can be under any registers and memories
+pub flushed-all-sound : (g : Registers) (P : Memory → Type 0) (g′ : Registers) (P′ : Memory → Type 0) (c : Cache030) → Sound030 g P c
+    → Sound030 g′ P′ (flushedAll c)
+unfolding flushedAll
+flushed-all-sound g P g′ P′ c h =
+    record {
+      size = length-map (c .entries) _ ∙ h .size;
+      recent = h .recent;
+      shift = h .shift;
+      backed = all-map (Backed030 g P (c .shift)) (Backed030 g′ P′ (c .shift)) _ (λ e k. dropped-backed g′ P′ (c .shift) e) (c .entries) (h .backed);
+    }
+
 -- ---- each change of the cache
 module _ (g : Registers) (P : Memory → Type 0) where
   pub no-entry : (s : ℕ) → Backed030 g P s noEntry
@@ -132,9 +148,6 @@ module _ (g : Registers) (P : Memory → Type 0) where
       touched-sound c (matching c code page) (rw (h .size) at l) h)
       (λ f. h)
 
-  dropped-backed : (s : ℕ) (e : Entry) → Backed030 g P s (dropped e)
-  dropped-backed s e v = absurd (false≢true v)
-
   shifted-sound : (c : Cache030) (s : ℕ) → s ≤ 31 → Sound030 g P c → Sound030 g P (shifted c s)
   unfolding shifted
   shifted-sound c s l h =
@@ -143,7 +156,7 @@ module _ (g : Registers) (P : Memory → Type 0) where
         size = length-map (c .entries) dropped ∙ h .size;
         recent = h .recent;
         shift = l;
-        backed = all-map (Backed030 g P (c .shift)) (Backed030 g P s) dropped (λ e k. dropped-backed s e) (c .entries) (h .backed);
+        backed = all-map (Backed030 g P (c .shift)) (Backed030 g P s) dropped (λ e k. dropped-backed g P s e) (c .entries) (h .backed);
       })
 
   -- an insert adds the one entry that its walk found
@@ -166,12 +179,8 @@ module _ (g : Registers) (P : Memory → Type 0) where
         recent = h .recent;
         shift = h .shift;
         backed = all-map (Backed030 g P (c .shift)) (Backed030 g P (c .shift)) _
-            (λ e k. if-both (Backed030 g P (c .shift)) (p e) (dropped e) e (dropped-backed (c .shift) e) k) (c .entries) (h .backed);
+            (λ e k. if-both (Backed030 g P (c .shift)) (p e) (dropped e) e (dropped-backed g P (c .shift) e) k) (c .entries) (h .backed);
       }
-
-  pub flushed-all-sound : (c : Cache030) → Sound030 g P c → Sound030 g P (flushedAll c)
-  unfolding flushedAll
-  flushed-all-sound c h = drop-sound (λ (e : Entry). true) c h
 
   pub flushed-code-sound : (c : Cache030) (code mask : ℕ) → Sound030 g P c → Sound030 g P (flushedCode c code mask)
   unfolding flushedCode

@@ -1,10 +1,8 @@
 -- The 68040 cache's valid slots: nothing adds one but a walk of its key. Assumes nothing.
 use Prim.Native.Nat.{ℕ, _/_, _%_, _^_}
-use mathlib.Core.Path.{_≡_, refl}
-use mathlib.Core.List.{List}
-use mathlib.Core.Bool.{Bool, true, false, not, _&&_, false≢true}
+use mathlib.Core.Path.{_≡_}
+use mathlib.Core.Bool.{Bool, true, false≢true}
 use lib.Dec.{eqb}
-use Rattle.definition.specs.Words.{if_then_else_}
 use Rattle.definition.specs.Memory.{Memory}
 use Rattle.definition.specs.Walk040.{walk040, pageBits, frameOf}
 use Rattle.definition.specs.Cache040.{Slot, Cache040, noSlot, empty040, slotAt, inserted040, emptied, flushedAll040, flushedFrame}
@@ -30,10 +28,16 @@ Backed040 g P s = s .valid ≡ true → Walked040 g P (s .frame) (s .supervisor)
 abbrev pub Sound040 : Registers → (Memory → Type 0) → Cache040 → Type 0
 Sound040 g P c = All (Backed040 g P) (c .slots)
 
-module _ (g : Registers) (P : Memory → Type 0) where
-  emptied-backed : (s : Slot) → Backed040 g P (emptied s)
-  emptied-backed s v = absurd (false≢true v)
+emptied-backed : (g : Registers) (P : Memory → Type 0) (s : Slot) → Backed040 g P (emptied s)
+emptied-backed g P s v = absurd (false≢true v)
 
+-- no valid slot is left, so the cache is as it can be under any registers and memories
+pub flushed-all-sound : (g : Registers) (P : Memory → Type 0) (g′ : Registers) (P′ : Memory → Type 0) (c : Cache040) → Sound040 g P c
+    → Sound040 g′ P′ (flushedAll040 c)
+unfolding flushedAll040
+flushed-all-sound g P g′ P′ c h = all-map (Backed040 g P) (Backed040 g′ P′) emptied (λ s k. emptied-backed g′ P′ s) (c .slots) h
+
+module _ (g : Registers) (P : Memory → Type 0) where
   pub no-slot : Backed040 g P noSlot
   no-slot v = absurd (false≢true v)
 
@@ -47,12 +51,8 @@ module _ (g : Registers) (P : Memory → Type 0) where
   inserted-sound c frame supervisor base wp sup w h = all-set (Backed040 g P) (c .slots) (frame % 64) _ (λ _. w) h
 
   -- a flush adds nothing
-  pub flushed-all-sound : (c : Cache040) → Sound040 g P c → Sound040 g P (flushedAll040 c)
-  unfolding flushedAll040
-  flushed-all-sound c h = all-map (Backed040 g P) (Backed040 g P) emptied (λ s k. emptied-backed s) (c .slots) h
-
   pub flushed-frame-sound : (c : Cache040) (frame : ℕ) → Sound040 g P c → Sound040 g P (flushedFrame c frame)
   unfolding flushedFrame
   flushed-frame-sound c frame h =
       if-both (Sound040 g P) (eqb (slotAt c frame .frame) frame) _ c
-      (all-set (Backed040 g P) (c .slots) (frame % 64) (emptied (slotAt c frame)) (emptied-backed (slotAt c frame)) h) h
+      (all-set (Backed040 g P) (c .slots) (frame % 64) (emptied (slotAt c frame)) (emptied-backed g P (slotAt c frame)) h) h

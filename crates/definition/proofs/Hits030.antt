@@ -1,17 +1,17 @@
 -- A hit of the 68030 cache gives what the walk gives, where the walk's longs read the same over every memory that filled the cache. Assumes nothing.
-use Prim.Native.Nat.{ℕ, _/_, _%_, _^_, _<_}
+use Prim.Native.Nat.{ℕ, _/_, _^_, _<_}
 use mathlib.Core.Path.{_≡_, refl, ap, sym, subst, _∙_}
-use mathlib.Core.List.{List, [], _∷_}
+use mathlib.Core.List.{List}
 use mathlib.Core.Bool.{Bool, true, false, not, _&&_}
 use native.Mathlib.Omega.{arith}
 use borrow.Author.Tests.{ltb-true, eqb-true}
-use lib.Dec.{eqb, ltb}
+use lib.Dec.{eqb}
 use lib.ListN.{length, getD}
 use Rattle.definition.specs.Words.{if_then_else_, bitOf, firstOf}
 use Rattle.definition.specs.Memory.{Memory}
-use Rattle.definition.specs.Walk030.{Outcome, walk030, everyLevel, physicalOf, shiftOf}
+use Rattle.definition.specs.Walk030.{Outcome, walk030, everyLevel, physicalOf}
 use Rattle.definition.specs.Cache030.{Entry, Cache030, noEntry, empty030, matches, matching, found, permitted, hitOf, afterHit}
-use Rattle.definition.specs.Translate.{baseOf, hitAddress, Searched, onEnd030, concluded030, search030, onHit030, with030}
+use Rattle.definition.specs.Translate.{hitAddress, Searched, onEnd030, concluded030, search030, onHit030, with030}
 use Rattle.definition.specs.declared.End.{End}
 use Rattle.definition.specs.declared.End.the-variants.{Page, Invalid, LevelStop, BusError, Config}
 use Rattle.definition.specs.declared.Hit.{Hit}
@@ -19,7 +19,6 @@ use Rattle.definition.specs.declared.Hit.the-variants.{At, Miss}
 use Rattle.definition.specs.declared.Registers.{Registers}
 use Rattle.definition.specs.declared.Shift.{Shift}
 use Rattle.definition.specs.declared.Shift.the-variants.{Bits, NoPage}
-use Rattle.definition.specs.declared.Translation.{Translation}
 use Rattle.definition.specs.declared.Translation.the-variants.{Address}
 use Rattle.definition.proofs.Choice.{if-by, if-both, if-alike, and-left, and-right}
 use Rattle.definition.proofs.Lists.{all-get, first-passes}

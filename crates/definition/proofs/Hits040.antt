@@ -2,7 +2,7 @@
 use Prim.Native.Nat.{ℕ, _/_, _%_, _^_}
 use mathlib.Core.Path.{_≡_, refl, ap, sym, _∙_}
 use mathlib.Core.List.{List}
-use mathlib.Core.Bool.{Bool, true, false, not, _&&_, _||_}
+use mathlib.Core.Bool.{Bool, true, false, not, _&&_}
 use native.Mathlib.Omega.{arith}
 use borrow.Author.Tests.{eqb-true, not-true}
 use lib.Dec.{eqb}
@@ -10,7 +10,7 @@ use Rattle.definition.specs.Words.{if_then_else_}
 use Rattle.definition.specs.Registers.{asSupervisor}
 use Rattle.definition.specs.Memory.{Memory}
 use Rattle.definition.specs.Walk040.{Outcome040, walk040, pageBits, physical040}
-use Rattle.definition.specs.Cache040.{Slot, Cache040, noSlot, empty040, slotAt, sameBool, holds, forbids, slotHit, hit040}
+use Rattle.definition.specs.Cache040.{Slot, Cache040, noSlot, empty040, slotAt, holds, forbids, slotHit, hit040}
 use Rattle.definition.specs.Translate.{Caches, emptyCaches, Translated, onEnd040, concluded040, joined, onHit040, translate040}
 use Rattle.definition.specs.declared.Access.{Access}
 use Rattle.definition.specs.declared.End040.{End040}
@@ -18,7 +18,6 @@ use Rattle.definition.specs.declared.End040.the-variants.{Resident, Abse
 use Rattle.definition.specs.declared.Hit.{Hit}
 use Rattle.definition.specs.declared.Hit.the-variants.{At, Miss}
 use Rattle.definition.specs.declared.Registers.{Registers}
-use Rattle.definition.specs.declared.Translation.{Translation}
 use Rattle.definition.specs.declared.Translation.the-variants.{Address}
 use Rattle.definition.proofs.Choice.{if-both, if-alike, and-left, and-right, or-left, or-right, same-bool}
 use Rattle.definition.proofs.Lists.{all-get}

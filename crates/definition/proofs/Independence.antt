@@ -1,25 +1,24 @@
 -- The mission's demand 3: what a watched access is answered does not depend on anything but the longs that its cacheless walk asks for.
 -- Assumes nothing but what the statements say.
-use Prim.Native.Nat.{ℕ, _/_, _^_}
+use Prim.Native.Nat.{ℕ}
 use mathlib.Core.Path.{_≡_, refl, ap, sym, subst, _∙_}
 use mathlib.Core.List.{List, [], _∷_, _++_, map}
-use mathlib.Core.Bool.{Bool, true, false, not, _&&_, _||_}
-use mathlib.Core.Logic.{_⊎_, inl, inr}
+use mathlib.Core.Bool.{Bool, true, false, not}
+use mathlib.Core.Logic.{inl, inr}
 use borrow.Author.Tests.{eq-eqb}
 use lib.Dec.{eqb}
 use Rattle.definition.specs.Words.{if_then_else_}
 use Rattle.definition.specs.Registers.{on, asSupervisor, asInstruction, walkCode, comparedCode}
 use Rattle.definition.specs.Memory.{Memory, fetchOf}
 use Rattle.definition.specs.Transparent.{transparent}
-use Rattle.definition.specs.Walk030.{Outcome, walk030, everyLevel, shiftOf}
+use Rattle.definition.specs.Walk030.{Outcome, everyLevel, shiftOf}
 use Rattle.definition.specs.Walk040.{Outcome040}
-use Rattle.definition.specs.Cache030.{Cache030, empty030}
-use Rattle.definition.specs.Refusal.{Checks, refusalOf}
-use Rattle.definition.specs.Translate.{Caches, emptyCaches, Translated, atOnce, concluded030, search030, with030, translate030, concluded040, translate040, inOrder, translateChecks, translate, cacheless}
+use Rattle.definition.specs.Cache030.{empty030}
+use Rattle.definition.specs.Refusal.{refusalOf}
+use Rattle.definition.specs.Translate.{Caches, emptyCaches, Translated, atOnce, concluded030, search030, translate030, concluded040, translate040, inOrder, translateChecks, translate, cacheless}
 use Rattle.definition.specs.Replay.{Moment, watched, other, memoryAt, after, afterAll, answersFrom, answers, watchedOf, walksOf, In, Steady, Accepted}
 use Rattle.definition.specs.declared.Registers.{Registers}
 use Rattle.definition.specs.declared.Access.{Access}
-use Rattle.definition.specs.declared.Translation.{Translation}
 use Rattle.definition.specs.declared.Translation.the-variants.{Address, Refused}
 use Rattle.definition.proofs.Lists.{in-left, in-right, map-alike}
 use Rattle.definition.proofs.Agree.{Agree, Throughout}
@@ -82,6 +81,10 @@ module _ (g : Registers) (P : Memory → Type 0) (a : Access) (m : Memory) (c : 
       go false t = refl
 
 -- ---- one access over two memories
+accepted : (g : Registers) (a : Access) (m : Memory) → refusalOf (translateChecks g a m emptyCaches) ≡ 0 → cacheless g a m ≡ inOrder g a m emptyCaches
+unfolding translate
+accepted g a m e = rw (eq-eqb (refusalOf (translateChecks g a m emptyCaches)) 0 e)
+
 module _ (g : Registers) (a : Access) (m m′ : Memory) where
   two-030 : Agree m m′ (translate030 g a m emptyCaches .asked) → translate030 g a m emptyCaches .answer ≡ translate030 g a m′ emptyCaches .answer
   unfolding translate030 search030
@@ -110,17 +113,13 @@ module _ (g : Registers) (a : Access) (m m′ : Memory) where
   unfolding inOrder
   two-order t = two-by (not (on g)) (transparent g (a .address) (comparedCode a) (asInstruction a)) (eqb (g .family) 30) t
 
-  accepted : (m : Memory) → refusalOf (translateChecks g a m emptyCaches) ≡ 0 → cacheless g a m ≡ inOrder g a m emptyCaches
-  unfolding translate
-  accepted m e = rw (eq-eqb (refusalOf (translateChecks g a m emptyCaches)) 0 e)
-
   -- the law of one cacheless walk: over two memories that give the same at its longs it answers alike
   pub cacheless-answer : refusalOf (translateChecks g a m emptyCaches) ≡ 0 → refusalOf (translateChecks g a m′ emptyCaches) ≡ 0
       → Agree m m′ (cacheless g a m .asked) → cacheless g a m .answer ≡ cacheless g a m′ .answer
   cacheless-answer e e′ t =
-      ap (λ (r : Translated). r .answer) (accepted m e)
-      ∙ two-order (subst (λ (r : Translated). Agree m m′ (r .asked)) (accepted m e) t)
-      ∙ ap (λ (r : Translated). r .answer) (sym (accepted m′ e′))
+      ap (λ (r : Translated). r .answer) (accepted g a m e)
+      ∙ two-order (subst (λ (r : Translated). Agree m m′ (r .asked)) (accepted g a m e) t)
+      ∙ ap (λ (r : Translated). r .answer) (sym (accepted g a m′ e′))
 
 -- ---- a replay
 -- m is the memory of one of the moments

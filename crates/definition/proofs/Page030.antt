@@ -20,7 +20,6 @@ use Rattle.definition.specs.declared.End.{End}
 use Rattle.definition.specs.declared.End.the-variants.{Page, Invalid, LevelStop, BusError, Config}
 use Rattle.definition.specs.declared.Registers.{Registers}
 use Rattle.definition.specs.declared.Root.{Root}
-use Rattle.definition.specs.declared.Shift.{Shift}
 use Rattle.definition.specs.declared.Shift.the-variants.{Bits, NoPage}
 use Rattle.definition.proofs.Choice.{if-both, and-left, and-right}
 

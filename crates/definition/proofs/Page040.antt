@@ -1,16 +1,16 @@
 -- Two addresses of one page take the same 68040 walk, so they ask for the same longs and end alike; and the cached base gives each its own
 -- physical address. Assumes nothing.
-use Prim.Native.Nat.{ℕ, _+_, _*_, _/_, _%_, _^_, _≤_, _<_}
-use mathlib.Core.Path.{_≡_, refl, ap, _∙_}
+use Prim.Native.Nat.{ℕ, _*_, _/_, _%_, _^_, _≤_}
+use mathlib.Core.Path.{_≡_, refl}
 use mathlib.Core.List.{List, []}
-use mathlib.Core.Bool.{Bool, true, false, _||_}
+use mathlib.Core.Bool.{Bool, true, false}
 use native.Mathlib.Omega.{arith}
 use native.Mathlib.Nat.{mod-lt}
 use lib.Pow.{pow-pos}
-use lib.Bits.{bitOr, or-shifted}
+use lib.Bits.{or-shifted}
 use Rattle.definition.specs.Words.{if_then_else_, bitOf}
 use Rattle.definition.specs.Memory.{Memory, fetchOf}
-use Rattle.definition.specs.Walk040.{Outcome040, onLong, asks, longAt, pageBits, rootAt, pointerAt, pageAt, onEntry, onPointer, onRoot, walk040, frameOf, physical040}
+use Rattle.definition.specs.Walk040.{Outcome040, onLong, longAt, pageBits, rootAt, pointerAt, pageAt, onPointer, onRoot, walk040, frameOf, physical040}
 use Rattle.definition.specs.Translate.{joined}
 use Rattle.definition.specs.declared.Fetched.{Fetched}
 use Rattle.definition.specs.declared.Fetched.the-variants.{Long, Failed}
