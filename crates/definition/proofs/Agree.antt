@@ -2,10 +2,11 @@
 use Prim.Native.Nat.{ℕ}
 use mathlib.Core.Path.{_≡_}
 use mathlib.Core.List.{List}
-use mathlib.Core.Bool.{Bool, true, false}
+use mathlib.Core.Bool.{Bool}
 use Rattle.definition.specs.Words.{if_then_else_}
 use Rattle.definition.specs.Memory.{Memory, fetchOf}
 use Rattle.definition.specs.Replay.{In}
+use Rattle.definition.proofs.Choice.{if-given}
 
 -- the two memories give the same, value or bus error, at each address of l
 abbrev pub Agree : Memory → Memory → List ℕ → Type 0
@@ -22,5 +23,4 @@ None m = ⊥
 -- a choice ends alike where the side that is taken does
 pub if-same : {O : Type 0} (asked : O → List ℕ) (m m′ : Memory) (b : Bool) (x y x′ y′ : O) → (Agree m m′ (asked x) → x ≡ x′)
     → (Agree m m′ (asked y) → y ≡ y′) → Agree m m′ (asked (if b then x else y)) → (if b then x else y) ≡ (if b then x′ else y′)
-if-same asked m m′ true x y x′ y′ h k q = h q
-if-same asked m m′ false x y x′ y′ h k q = k q
+if-same {O} asked m m′ = if-given (λ (o : O). Agree m m′ (asked o)) (λ (o : O). o)

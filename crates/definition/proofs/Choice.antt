@@ -1,23 +1,30 @@
--- Laws of choice: what holds of both sides of an `if` holds of it; what tests that pass tell. Assumes nothing.
+-- Laws of choice: what holds of the sides of an `if` holds of it; what tests that pass tell. Assumes nothing.
 use mathlib.Core.Path.{_≡_, refl}
 use mathlib.Core.Bool.{Bool, true, false, _&&_, _||_, false≢true, true≢false}
 use Rattle.definition.specs.Words.{if_then_else_}
 use Rattle.definition.specs.Cache040.{sameBool}
 
--- with what the test came to
+-- what holds of each side, where its test gives it, holds of the choice
 pub if-by : {A : Type 0} (P : A → Type 0) (b : Bool) (x y : A) → (b ≡ true → P x) → (b ≡ false → P y) → P (if b then x else y)
 if-by P true x y h k = h refl
 if-by P false x y h k = k refl
 
 pub if-both : {A : Type 0} (P : A → Type 0) (b : Bool) (x y : A) → P x → P y → P (if b then x else y)
-if-both P true x y h k = h
-if-both P false x y h k = k
+if-both P b x y h k = if-by P b x y (λ _. h) (λ _. k)
 
--- two choices by one test are alike where their sides are
-pub if-alike : {A B : Type 0} (f : A → B) (b : Bool) (x y x′ y′ : A) → f x ≡ f x′ → f y ≡ f y′ → f (if b then x else y) ≡ f (if b then x′ else y′)
-if-alike f true x y x′ y′ h k = h
-if-alike f false x y x′ y′ h k = k
+-- two choices by one test look alike through f where their sides do
+pub if-alike : {A B : Type 0} (f : A → B) (b : Bool) (x y x′ y′ : A) → (b ≡ true → f x ≡ f x′) → (b ≡ false → f y ≡ f y′)
+    → f (if b then x else y) ≡ f (if b then x′ else y′)
+if-alike f true x y x′ y′ h k = h refl
+if-alike f false x y x′ y′ h k = k refl
 
+-- the same, given what the side that is taken gives
+pub if-given : {A B : Type 0} (Q : A → Type 0) (f : A → B) (b : Bool) (x y x′ y′ : A) → (Q x → f x ≡ f x′) → (Q y → f y ≡ f y′)
+    → Q (if b then x else y) → f (if b then x else y) ≡ f (if b then x′ else y′)
+if-given Q f true x y x′ y′ h k q = h q
+if-given Q f false x y x′ y′ h k q = k q
+
+-- ---- tests
 pub and-left : (a b : Bool) → (a && b) ≡ true → a ≡ true
 and-left true b e = refl
 and-left false b e = e

@@ -7,7 +7,7 @@ use native.Mathlib.Omega.{arith}
 use borrow.Author.Tests.{ltb-true, eqb-true}
 use lib.Dec.{eqb}
 use lib.ListN.{length, getD}
-use Rattle.definition.specs.Words.{if_then_else_, bitOf, firstOf}
+use Rattle.definition.specs.Words.{bitOf, firstOf}
 use Rattle.definition.specs.Memory.{Memory}
 use Rattle.definition.specs.Walk030.{Outcome, walk030, everyLevel, physicalOf}
 use Rattle.definition.specs.Cache030.{Entry, Cache030, noEntry, empty030, matches, matching, found, permitted, hitOf, afterHit}
@@ -31,7 +31,7 @@ use Rattle.definition.proofs.Entries030.{Walked030, Backed030, Sound030
 end-answer : (tc : ℕ) (c c′ : Cache030) (code address : ℕ) (write wp sup : Bool) (asked : List ℕ) (e : End)
     → onEnd030 tc c code address write wp sup asked e .answer ≡ onEnd030 tc c′ code address write wp sup asked e .answer
 end-answer tc c c′ code address write wp sup asked (Page field consumed) =
-    if-alike (λ (s : Searched). s .answer) (sup && not (bitOf code 2)) _ _ _ _ refl refl
+    if-alike (λ (s : Searched). s .answer) (sup && not (bitOf code 2)) _ _ _ _ (λ _. refl) (λ _. refl)
 end-answer tc c c′ code address write wp sup asked (Invalid indirect) = refl
 end-answer tc c c′ code address write wp sup asked LevelStop = refl
 end-answer tc c c′ code address write wp sup asked (BusError at) = refl
@@ -56,6 +56,9 @@ module _ (g : Registers) (m : Memory) (code address : ℕ) (write : Bool) where
   search-asked c = end-asked (g .tc) c code address write _ _ _ (walk030 m g address code everyLevel .end)
 
 -- ---- the entry that hits
+pub no-hit : {X : Type 0} (base : ℕ) → Miss ≡ At base → X
+no-hit base e = let z : _≡_ {A = ℕ} 0 1 = cc in absurd (omega arith)
+
 matching-matches : (c : Cache030) (code page : ℕ) → matching c code page < length (c .entries)
     → matches code page (getD (c .entries) (matching c code page) noEntry) ≡ true
 unfolding matching
@@ -73,39 +76,33 @@ pub record Hits030 (g : Registers) (P : Memory → Type 0) (s code page base : �
 module _ (g : Registers) (P : Memory → Type 0) where
   entry-hits : (e : Entry) (s code page base : ℕ) (write : Bool) → Backed030 g P s e → matches code page e ≡ true → permitted write e ≡ At base
       → Hits030 g P s code page base write
-  entry-hits e s code page base write k t h = go (write && e .wp) refl h
-    where
-      valid : e .valid ≡ true
-      valid = and-left (e .valid) _ t
-
-      key : (eqb (e .code) code && eqb (e .page) page) ≡ true
-      key = and-right (e .valid) _ t
-
-      go : (b : Bool) → (write && e .wp) ≡ b → (if b then Miss else At (e .base)) ≡ At base → Hits030 g P s code page base write
-      go true f h = let z : _≡_ {A = ℕ} 0 1 = cc in absurd (omega arith)
-      go false f h =
-          let same : e .base ≡ base = cc in
-          record {
-            wp = e .wp;
-            walked = rw (eqb-true (e .code) code (and-left _ _ key), eqb-true (e .page) page (and-right (eqb (e .code) code) _ key), same) at (k valid);
-            may = f;
-          }
+  entry-hits e s code page base write k t =
+      let key = and-right (e .valid) _ t in
+      if-by (λ (hit : Hit). hit ≡ At base → Hits030 g P s code page base write) (write && e .wp) _ _
+      (λ t h. no-hit base h)
+      (λ f h.
+      let same : e .base ≡ base = cc in
+      record {
+        wp = e .wp;
+        walked =
+            rw (eqb-true (e .code) code (and-left _ _ key), eqb-true (e .page) page (and-right (eqb (e .code) code) _ key), same)
+            at (k (and-left (e .valid) _ t));
+        may = f;
+      })
 
   pub hit-030 : (c : Cache030) (code page s base : ℕ) (write : Bool) → Sound030 g P c → hitOf c code page s write ≡ At base
       → Hits030 g P s code page base write
   unfolding hitOf
-  hit-030 c code page s base write h e = go (found c code page s) refl e
-    where
-      go : (b : Bool) → found c code page s ≡ b
-          → (if b then permitted write (getD (c .entries) (matching c code page) noEntry) else Miss) ≡ At base → Hits030 g P s code page base write
-      go true t e =
-          let same = eqb-true (c .shift) s (and-left (eqb (c .shift) s) _ t) in
-          let there = ltb-true (matching c code page) (length (c .entries)) (and-right (eqb (c .shift) s) _ t) in
-          entry-hits (getD (c .entries) (matching c code page) noEntry) s code page base write
-          (subst (λ (n : ℕ). Backed030 g P n (getD (c .entries) (matching c code page) noEntry)) same
-          (all-get (Backed030 g P (c .shift)) (c .entries) (matching c code page) noEntry (no-entry g P (c .shift)) (h .backed)))
-          (matching-matches c code page there) e
-      go false t e = let z : _≡_ {A = ℕ} 0 1 = cc in absurd (omega arith)
+  hit-030 c code page s base write h =
+      if-by (λ (hit : Hit). hit ≡ At base → Hits030 g P s code page base write) (found c code page s) _ _
+      (λ t e.
+      let same = eqb-true (c .shift) s (and-left (eqb (c .shift) s) _ t) in
+      let there = ltb-true (matching c code page) (length (c .entries)) (and-right (eqb (c .shift) s) _ t) in
+      entry-hits (getD (c .entries) (matching c code page) noEntry) s code page base write
+      (subst (λ (n : ℕ). Backed030 g P n (getD (c .entries) (matching c code page) noEntry)) same
+      (all-get (Backed030 g P (c .shift)) (c .entries) (matching c code page) noEntry (no-entry g P (c .shift)) (h .backed)))
+      (matching-matches c code page there) e)
+      (λ f e. no-hit base e)
 
   -- ---- a hit answers as a search does
   page-answer : (c : Cache030) (code address field consumed : ℕ) (write wp : Bool) (o : Outcome) → o .end ≡ Page field consumed → o .found .wp ≡ wp

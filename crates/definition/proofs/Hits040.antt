@@ -2,11 +2,9 @@
 use Prim.Native.Nat.{ℕ, _/_, _%_, _^_}
 use mathlib.Core.Path.{_≡_, refl, ap, sym, _∙_}
 use mathlib.Core.List.{List}
-use mathlib.Core.Bool.{Bool, true, false, not, _&&_}
-use native.Mathlib.Omega.{arith}
+use mathlib.Core.Bool.{Bool, false, not, _&&_}
 use borrow.Author.Tests.{eqb-true, not-true}
 use lib.Dec.{eqb}
-use Rattle.definition.specs.Words.{if_then_else_}
 use Rattle.definition.specs.Registers.{asSupervisor}
 use Rattle.definition.specs.Memory.{Memory}
 use Rattle.definition.specs.Walk040.{Outcome040, walk040, pageBits, physical040}
@@ -19,18 +17,19 @@ use Rattle.definition.specs.declared.Hit.{Hit}
 use Rattle.definition.specs.declared.Hit.the-variants.{At, Miss}
 use Rattle.definition.specs.declared.Registers.{Registers}
 use Rattle.definition.specs.declared.Translation.the-variants.{Address}
-use Rattle.definition.proofs.Choice.{if-both, if-alike, and-left, and-right, or-left, or-right, same-bool}
+use Rattle.definition.proofs.Choice.{if-by, if-both, if-alike, and-left, and-right, or-left, or-right, same-bool}
 use Rattle.definition.proofs.Lists.{all-get}
 use Rattle.definition.proofs.Agree.{None, Throughout}
 use Rattle.definition.proofs.Asked040.{asked-040}
 use Rattle.definition.proofs.Page040.{page-040, base-040}
+use Rattle.definition.proofs.Hits030.{no-hit}
 use Rattle.definition.proofs.Entries040.{Walked040, Backed040, Sound040, no-slot, empty-sound}
 
 -- ---- what a search answers and asks for does not depend on the caches
 end-answer : (g : Registers) (a : Access) (c c′ : Caches) (asked : List ℕ) (e : End040) → onEnd040 g a c asked e .answer ≡ onEnd040 g a c′ asked e .answer
 end-answer g a c c′ asked (Resident field wp sup) =
-    if-alike (λ (t : Translated). t .answer) (a .write && wp) _ _ _ _ refl
-    (if-alike (λ (t : Translated). t .answer) (not (asSupervisor a) && sup) _ _ _ _ refl refl)
+    if-alike (λ (t : Translated). t .answer) (a .write && wp) _ _ _ _ (λ _. refl)
+    (λ _. if-alike (λ (t : Translated). t .answer) (not (asSupervisor a) && sup) _ _ _ _ (λ _. refl) (λ _. refl))
 end-answer g a c c′ asked (Absent missing) = refl
 end-answer g a c c′ asked (Lost at) = refl
 
@@ -63,25 +62,23 @@ pub record Hits040 (g : Registers) (P : Memory → Type 0) (frame : ℕ) (superv
 module _ (g : Registers) (P : Memory → Type 0) where
   slot-hits : (s : Slot) (frame : ℕ) (supervisor : Bool) (base : ℕ) (write : Bool) → Backed040 g P s → slotHit frame supervisor write s ≡ At base
       → Hits040 g P frame supervisor base write
-  slot-hits s frame supervisor base write k h = go (holds frame supervisor s && not (forbids supervisor write s)) refl h
-    where
-      go : (b : Bool) → (holds frame supervisor s && not (forbids supervisor write s)) ≡ b → (if b then At (s .base) else Miss) ≡ At base
-          → Hits040 g P frame supervisor base write
-      go true t h =
-          let held = and-left (holds frame supervisor s) _ t in
-          let key = and-right (s .valid) _ held in
-          let free = not-true (forbids supervisor write s) (and-right (holds frame supervisor s) _ t) in
-          let same : s .base ≡ base = cc in
-          record {
-            wp = s .wp;
-            sup = s .sup;
-            walked =
-                rw (eqb-true (s .frame) frame (and-left _ _ key), same-bool (s .supervisor) supervisor (and-right (eqb (s .frame) frame) _ key), same)
-                at (k (and-left (s .valid) _ held));
-            may = or-left (write && s .wp) _ free;
-            allowed = or-right (write && s .wp) _ free;
-          }
-      go false t h = let z : _≡_ {A = ℕ} 0 1 = cc in absurd (omega arith)
+  slot-hits s frame supervisor base write k =
+      if-by (λ (hit : Hit). hit ≡ At base → Hits040 g P frame supervisor base write) (holds frame supervisor s && not (forbids supervisor write s)) _ _
+      (λ t h.
+      let held = and-left (holds frame supervisor s) _ t in
+      let key = and-right (s .valid) _ held in
+      let free = not-true (forbids supervisor write s) (and-right (holds frame supervisor s) _ t) in
+      let same : s .base ≡ base = cc in
+      record {
+        wp = s .wp;
+        sup = s .sup;
+        walked =
+            rw (eqb-true (s .frame) frame (and-left _ _ key), same-bool (s .supervisor) supervisor (and-right (eqb (s .frame) frame) _ key), same)
+            at (k (and-left (s .valid) _ held));
+        may = or-left (write && s .wp) _ free;
+        allowed = or-right (write && s .wp) _ free;
+      })
+      (λ f h. no-hit base h)
 
   pub hit-040 : (c : Cache040) (frame : ℕ) (supervisor : Bool) (base : ℕ) (write : Bool) → Sound040 g P c → hit040 c frame supervisor write ≡ At base
       → Hits040 g P frame supervisor base write

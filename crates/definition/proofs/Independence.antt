@@ -3,11 +3,10 @@
 use Prim.Native.Nat.{ℕ}
 use mathlib.Core.Path.{_≡_, refl, ap, sym, subst, _∙_}
 use mathlib.Core.List.{List, [], _∷_, _++_, map}
-use mathlib.Core.Bool.{Bool, true, false, not}
+use mathlib.Core.Bool.{not}
 use mathlib.Core.Logic.{inl, inr}
 use borrow.Author.Tests.{eq-eqb}
 use lib.Dec.{eqb}
-use Rattle.definition.specs.Words.{if_then_else_}
 use Rattle.definition.specs.Registers.{on, asSupervisor, asInstruction, walkCode, comparedCode}
 use Rattle.definition.specs.Memory.{Memory, fetchOf}
 use Rattle.definition.specs.Transparent.{transparent}
@@ -15,11 +14,12 @@ use Rattle.definition.specs.Walk030.{Outcome, everyLevel, shiftOf}
 use Rattle.definition.specs.Walk040.{Outcome040}
 use Rattle.definition.specs.Cache030.{empty030}
 use Rattle.definition.specs.Refusal.{refusalOf}
-use Rattle.definition.specs.Translate.{Caches, emptyCaches, Translated, atOnce, concluded030, search030, translate030, concluded040, translate040, inOrder, translateChecks, translate, cacheless}
+use Rattle.definition.specs.Translate.{Caches, emptyCaches, Translated, concluded030, search030, translate030, concluded040, translate040, inOrder, translateChecks, translate, cacheless}
 use Rattle.definition.specs.Replay.{Moment, watched, other, memoryAt, after, afterAll, answersFrom, answers, watchedOf, walksOf, In, Steady, Accepted}
 use Rattle.definition.specs.declared.Registers.{Registers}
 use Rattle.definition.specs.declared.Access.{Access}
-use Rattle.definition.specs.declared.Translation.the-variants.{Address, Refused}
+use Rattle.definition.specs.declared.Translation.{Translation}
+use Rattle.definition.proofs.Choice.{if-given}
 use Rattle.definition.proofs.Lists.{in-left, in-right, map-alike}
 use Rattle.definition.proofs.Agree.{Agree, Throughout}
 use Rattle.definition.proofs.Asked030.{asked-030}
@@ -30,14 +30,8 @@ use Rattle.definition.proofs.Hits030 as hits030
 use Rattle.definition.proofs.Hits040 as hits040
 
 -- ---- one access
--- the order of a translation, by what its three tests give: off, a transparent match, family 30
-abbrev byTests : Bool → Bool → Bool → Registers → Access → Memory → Caches → Translated
-byTests off through old g a m c =
-    if off
-    then atOnce (Address (a .address)) c
-    else if through
-    then atOnce (Address (a .address)) c
-    else if old then translate030 g a m c else translate040 g a m c
+abbrev answerOf : Translated → Translation
+answerOf t = t .answer
 
 module _ (g : Registers) (P : Memory → Type 0) (a : Access) (m : Memory) (c : Caches) (h : Sound g P c) where
   same-030 : Throughout P m (translate030 g a m emptyCaches .asked) → translate030 g a m c .answer ≡ translate030 g a m emptyCaches .answer
@@ -52,16 +46,16 @@ module _ (g : Registers) (P : Memory → Type 0) (a : Access) (m : Memory) (c : 
   same-040 t =
       hits040.with-answer g P m a (rw (hits040.empty-asked g m a) at t) c (h .in040) ∙ sym (hits040.empty-answer g m a)
 
-  same-by : (off through old : Bool) → Throughout P m (byTests off through old g a m emptyCaches .asked)
-      → byTests off through old g a m c .answer ≡ byTests off through old g a m emptyCaches .answer
-  same-by true through old t = refl
-  same-by false true old t = refl
-  same-by false false true t = same-030 t
-  same-by false false false t = same-040 t
+  -- its longs read the same throughout P
+  abbrev Still : Translated → Type 0
+  Still t = Throughout P m (t .asked)
 
-  same-order : Throughout P m (inOrder g a m emptyCaches .asked) → inOrder g a m c .answer ≡ inOrder g a m emptyCaches .answer
+  same-order : Still (inOrder g a m emptyCaches) → inOrder g a m emptyCaches .answer ≡ inOrder g a m c .answer
   unfolding inOrder
-  same-order t = same-by (not (on g)) (transparent g (a .address) (comparedCode a) (asInstruction a)) (eqb (g .family) 30) t
+  same-order =
+      if-given Still answerOf (not (on g)) _ _ _ _ (λ _. refl)
+      (if-given Still answerOf (transparent g (a .address) (comparedCode a) (asInstruction a)) _ _ _ _ (λ _. refl)
+      (if-given Still answerOf (eqb (g .family) 30) _ _ _ _ (λ t. sym (same-030 t)) (λ t. sym (same-040 t))))
 
   -- check 4 passes, so the refusal is the cacheless walk's
   same-checks : translateChecks g a m c ≡ translateChecks g a m emptyCaches
@@ -70,15 +64,9 @@ module _ (g : Registers) (P : Memory → Type 0) (a : Access) (m : Memory) (c : 
   -- the law of one access: caches that were filled over memories where its walk's longs read the same change nothing
   pub translate-answer : Throughout P m (cacheless g a m .asked) → translate g a m c .answer ≡ cacheless g a m .answer
   unfolding translate
-  translate-answer t = rw same-checks (go (eqb (refusalOf (translateChecks g a m emptyCaches)) 0) t)
-    where
-      n : ℕ
-      n = refusalOf (translateChecks g a m emptyCaches)
-
-      go : (b : Bool) → Throughout P m ((if b then inOrder g a m emptyCaches else atOnce (Refused n) emptyCaches) .asked)
-          → (if b then inOrder g a m c else atOnce (Refused n) c) .answer ≡ (if b then inOrder g a m emptyCaches else atOnce (Refused n) emptyCaches) .answer
-      go true t = same-order t
-      go false t = refl
+  translate-answer t =
+      rw same-checks
+      (sym (if-given Still answerOf (eqb (refusalOf (translateChecks g a m emptyCaches)) 0) _ _ _ _ same-order (λ _. refl) t))
 
 -- ---- one access over two memories
 accepted : (g : Registers) (a : Access) (m : Memory) → refusalOf (translateChecks g a m emptyCaches) ≡ 0 → cacheless g a m ≡ inOrder g a m emptyCaches
@@ -102,24 +90,24 @@ module _ (g : Registers) (a : Access) (m m′ : Memory) where
       (asked-040 m m′ g (a .address) (asSupervisor a) (rw (hits040.empty-asked g m a) at t))
       ∙ sym (hits040.empty-answer g m′ a)
 
-  two-by : (off through old : Bool) → Agree m m′ (byTests off through old g a m emptyCaches .asked)
-      → byTests off through old g a m emptyCaches .answer ≡ byTests off through old g a m′ emptyCaches .answer
-  two-by true through old t = refl
-  two-by false true old t = refl
-  two-by false false true t = two-030 t
-  two-by false false false t = two-040 t
+  -- the second memory gives the same at its longs
+  abbrev Kept : Translated → Type 0
+  Kept t = Agree m m′ (t .asked)
 
-  two-order : Agree m m′ (inOrder g a m emptyCaches .asked) → inOrder g a m emptyCaches .answer ≡ inOrder g a m′ emptyCaches .answer
+  two-order : Kept (inOrder g a m emptyCaches) → inOrder g a m emptyCaches .answer ≡ inOrder g a m′ emptyCaches .answer
   unfolding inOrder
-  two-order t = two-by (not (on g)) (transparent g (a .address) (comparedCode a) (asInstruction a)) (eqb (g .family) 30) t
+  two-order =
+      if-given Kept answerOf (not (on g)) _ _ _ _ (λ _. refl)
+      (if-given Kept answerOf (transparent g (a .address) (comparedCode a) (asInstruction a)) _ _ _ _ (λ _. refl)
+      (if-given Kept answerOf (eqb (g .family) 30) _ _ _ _ two-030 two-040))
 
   -- the law of one cacheless walk: over two memories that give the same at its longs it answers alike
   pub cacheless-answer : refusalOf (translateChecks g a m emptyCaches) ≡ 0 → refusalOf (translateChecks g a m′ emptyCaches) ≡ 0
       → Agree m m′ (cacheless g a m .asked) → cacheless g a m .answer ≡ cacheless g a m′ .answer
   cacheless-answer e e′ t =
-      ap (λ (r : Translated). r .answer) (accepted g a m e)
-      ∙ two-order (subst (λ (r : Translated). Agree m m′ (r .asked)) (accepted g a m e) t)
-      ∙ ap (λ (r : Translated). r .answer) (sym (accepted g a m′ e′))
+      ap answerOf (accepted g a m e)
+      ∙ two-order (subst Kept (accepted g a m e) t)
+      ∙ ap answerOf (sym (accepted g a m′ e′))
 
 -- ---- a replay
 -- m is the memory of one of the moments

@@ -9,7 +9,7 @@ use native.Mathlib.Nat.{mod-lt}
 use borrow.Author.Tests.{leb-true}
 use lib.Pow.{field, shl-shr, shr-shr, mod-pow-add, pow-pos, pow-mono}
 use lib.Dec.{leb, ltb, eqb}
-use Rattle.definition.specs.Words.{if_then_else_, bitOf}
+use Rattle.definition.specs.Words.{bitOf}
 use Rattle.definition.specs.Memory.{Memory}
 use Rattle.definition.specs.Registers.{rootOf}
 use Rattle.definition.specs.Walk030.{entryOf, readOf, Step, steps, stepsWith, stepsOf, topIndex, isOf, used, widthsOf, sumOf, Found, Outcome, onTarget, onTable, onDescriptor, walkFrom, start, walkSteps, walk030, lowOf, physicalOf, shiftFrom, shiftOf}
@@ -20,8 +20,9 @@ use Rattle.definition.specs.declared.End.{End}
 use Rattle.definition.specs.declared.End.the-variants.{Page, Invalid, LevelStop, BusError, Config}
 use Rattle.definition.specs.declared.Registers.{Registers}
 use Rattle.definition.specs.declared.Root.{Root}
-use Rattle.definition.specs.declared.Shift.the-variants.{Bits, NoPage}
-use Rattle.definition.proofs.Choice.{if-both, and-left, and-right}
+use Rattle.definition.specs.declared.Shift.{Shift}
+use Rattle.definition.specs.declared.Shift.the-variants.{Bits}
+use Rattle.definition.proofs.Choice.{if-by, if-both, and-left, and-right}
 
 -- ---- the page shift
 -- what TC's page shift leaves for the levels: 32 bits in all, some of them on either side
@@ -31,15 +32,14 @@ pub record Cut (sum s : ℕ) : Type 0 where
   pub whole : sum + s ≡ 32
 
 from-cut : (sum s : ℕ) → shiftFrom sum ≡ Bits s → Cut sum s
-from-cut sum s e = go (leb 1 sum && leb sum 31) refl e
-  where
-    go : (b : Bool) → (leb 1 sum && leb sum 31) ≡ b → (if b then Bits (32 - sum) else NoPage) ≡ Bits s → Cut sum s
-    go true t e =
-        let low = leb-true 1 sum (and-left (leb 1 sum) (leb sum 31) t) in
-        let high = leb-true sum 31 (and-right (leb 1 sum) (leb sum 31) t) in
-        let is : 32 - sum ≡ s = cc in
-        record { some = omega arith; most = omega arith; whole = omega arith }
-    go false t e = let z : _≡_ {A = ℕ} 0 1 = cc in absurd (omega arith)
+from-cut sum s =
+    if-by (λ (sh : Shift). sh ≡ Bits s → Cut sum s) (leb 1 sum && leb sum 31) _ _
+    (λ t e.
+    let low = leb-true 1 sum (and-left (leb 1 sum) _ t) in
+    let high = leb-true sum 31 (and-right (leb 1 sum) _ t) in
+    let is : 32 - sum ≡ s = cc in
+    record { some = omega arith; most = omega arith; whole = omega arith })
+    (λ f e. let z : _≡_ {A = ℕ} 0 1 = cc in absurd (omega arith))
 
 pub shift-cut : (tc s : ℕ) → shiftOf tc ≡ Bits s → Cut (isOf tc + sumOf (used (widthsOf tc))) s
 shift-cut tc s e = from-cut (isOf tc + sumOf (used (widthsOf tc))) s e
