@@ -5,6 +5,7 @@ use mathlib.Core.Path.{_≡_, refl, ap, sym, subst, _∙_}
 use mathlib.Core.List.{List, [], _∷_, _++_, map}
 use mathlib.Core.Bool.{not}
 use mathlib.Core.Logic.{inl, inr}
+use native.Mathlib.Omega.{arith}
 use borrow.Author.Tests.{eq-eqb}
 use lib.Dec.{eqb}
 use Rattle.definition.specs.Registers.{on, asSupervisor, asInstruction, walkCode, comparedCode}
@@ -154,10 +155,10 @@ watched-is-cacheless g l s =
 
 -- ---- two replays
 -- the watched accesses, each with its memory
-abbrev Pair : Type 0
+abbrev pub Pair : Type 0
 Pair = Access × Memory
 
-pairsOf : List Moment → List Pair
+unfoldable pub pairsOf : List Moment → List Pair
 pairsOf [] = []
 pairsOf (watched a m ∷ rest) = (a, m) ∷ pairsOf rest
 pairsOf (other call m ∷ rest) = pairsOf rest
@@ -179,6 +180,13 @@ unfolding pairsOf
 pair-in (watched a m ∷ rest) p (inl e) = inl (ap (λ (q : Pair). watched (q .0) (q .1)) e)
 pair-in (watched a m ∷ rest) p (inr i) = inr (pair-in rest p i)
 pair-in (other call m ∷ rest) p i = inr (pair-in rest p i)
+
+pub in-pairs : (l : List Moment) (a : Access) (m : Memory) → In (watched a m) l → In (a, m) (pairsOf l)
+unfolding pairsOf
+in-pairs (watched b n ∷ rest) a m (inl e) = let p : _≡_ {A = Pair} (a, m) (b, n) = cc in inl p
+in-pairs (watched b n ∷ rest) a m (inr i) = inr (in-pairs rest a m i)
+in-pairs (other call n ∷ rest) a m (inl e) = let z : _≡_ {A = ℕ} 0 1 = cc in absurd (omega arith)
+in-pairs (other call n ∷ rest) a m (inr i) = in-pairs rest a m i
 
 module _ (g : Registers) (l : List Moment) (s : Steady g l) (t : Accepted g l) where
   -- one access, watched at two moments

@@ -13,3 +13,4 @@ pub mod Entries
 pub mod Hits030
 pub mod Hits040
 pub mod Independence
+pub mod Witness

@@ -40,6 +40,10 @@ module _ {X : Type 0} (P : X → Type 0) where
   all-replicate zero x p = tt
   all-replicate (suc n) x p = (p, all-replicate n x p)
 
+  pub all-at : (l : List X) (x : X) → In x l → All P l → P x
+  all-at (y ∷ l) x (inl e) a = rw e (a .0)
+  all-at (y ∷ l) x (inr i) a = all-at l x i (a .1)
+
 pub all-map : {X Y : Type 0} (P : X → Type 0) (Q : Y → Type 0) (f : X → Y) → ((x : X) → P x → Q (f x)) → (l : List X) → All P l
     → All Q (map f l)
 all-map P Q f h [] a = tt

@@ -1,0 +1,129 @@
+-- The premises of demand 3 can be met by replays that differ in all else, and hits are what it speaks of: one pair of replays, by computation.
+-- Assumes nothing.
+use Prim.Native.Nat.{ℕ}
+use mathlib.Core.Path.{_≡_, refl}
+use mathlib.Core.List.{List, [], _∷_, _++_}
+use mathlib.Core.Bool.{true, false}
+use Rattle.definition.specs.Words.{anyOf, firstOf}
+use Rattle.definition.specs.Memory.{Memory, memory, fetchOf, touchesOf}
+use Rattle.definition.specs.Transparent.{transparent}
+use Rattle.definition.specs.Walk030.{readOf, widthsOf, walkFrom}
+use Rattle.definition.specs.Cache030.{matching, rested, hitOf, afterHit, shifted, oldest, victim, inserted, flushedPage}
+use Rattle.definition.specs.Cache040.{flushedFrame}
+use Rattle.definition.specs.Refusal.{refusalOf}
+use Rattle.definition.specs.Translate.{emptyCaches, search030, translate030, inOrder, translateChecks, translate, cacheless}
+use Rattle.definition.specs.Load.{loadInOrder, load}
+use Rattle.definition.specs.Flush.{flushFrame}
+use Rattle.definition.specs.Calls.{access, loading, testing, flushingFrame, calling}
+use Rattle.definition.specs.Replay.{Moment, watched, other, memoryAt, afterAll, answersFrom, answers, watchedOf, Steady, Accepted}
+use Rattle.definition.specs.declared.Registers.{Registers}
+use Rattle.definition.specs.declared.Access.{Access}
+use Rattle.definition.specs.declared.Override.{Override}
+use Rattle.definition.specs.declared.Translation.the-variants.{Address}
+use Rattle.definition.proofs.Lists.{All, all-at}
+use Rattle.definition.proofs.Independence.{Pair, pairsOf, in-pairs, independence}
+
+-- ---- the premises, as what computes on given lists
+-- each of these longs reads at a moment as in m
+abbrev pub Alike : List ℕ → Memory → Moment → Type 0
+Alike asked m now = All (λ (at : ℕ). fetchOf (memoryAt now) at ≡ fetchOf m at) asked
+
+-- the longs of a watched access's cacheless walk read so at each of the moments
+abbrev pub Stays : Registers → List Moment → Pair → Type 0
+Stays g l p = All (Alike (cacheless g (p .0) (p .1) .asked) (p .1)) l
+
+pub steady-by : (g : Registers) (l : List Moment) → All (Stays g l) (pairsOf l) → Steady g l
+steady-by g l h =
+    record {
+      same = λ a m now at i j k.
+          all-at (λ (at : ℕ). fetchOf (memoryAt now) at ≡ fetchOf m at) (cacheless g a m .asked) at k
+          (all-at (Alike (cacheless g a m .asked) m) l now j (all-at (Stays g l) (pairsOf l) (a, m) (in-pairs l a m i) h));
+    }
+
+pub accepted-by : (g : Registers) (l : List Moment) → All (λ (p : Pair). refusalOf (translateChecks g (p .0) (p .1) emptyCaches) ≡ 0) (pairsOf l)
+    → Accepted g l
+accepted-by g l h =
+    record {
+      none = λ a m i. all-at (λ (p : Pair). refusalOf (translateChecks g (p .0) (p .1) emptyCaches) ≡ 0) (pairsOf l) (a, m) (in-pairs l a m i) h;
+    }
+
+-- ---- two replays
+-- IS 15 and one level of one bit: pages of 64 KB, by a table of two short descriptors at 0
+abbrev registers : Registers
+registers =
+    record {
+      family = 30;
+      present = true;
+      enabled = true;
+      tc = 0xF1000;
+      crp = record { limit = 2; address = 0 };
+      srp = record { limit = 0; address = 0 };
+      tt0 = 0;
+      tt1 = 0;
+      itt0 = 0;
+      itt1 = 0;
+      dtt0 = 0;
+      dtt1 = 0;
+    }
+
+-- a read of user data
+abbrev reading : ℕ → Access
+reading address =
+    record { address = address; write = false; supervisor = false; instruction = false; own = false; code = Override.Plain; recorded = true }
+
+-- four memories that agree on the long at 4 alone: the third has no long at 0, and the fourth is refused
+abbrev one : Memory
+one = memory (0 ∷ 0x55001 ∷ []) 0 []
+
+abbrev two : Memory
+two = memory (7 ∷ 0x55001 ∷ 9 ∷ []) 0 []
+
+abbrev three : Memory
+three = memory (0x55001 ∷ []) 4 (record { first = 0x100; last = 0x1FF } ∷ [])
+
+abbrev four : Memory
+four = memory (0 ∷ 0x55001 ∷ []) 0 (record { first = 9; last = 8 } ∷ [])
+
+abbrev plain : List Moment
+plain = watched (reading 0x11ABC) one ∷ []
+
+-- a PLOAD of the page, an access with a bus error, a refused PTEST, a flush, and then the same access
+abbrev before : List Moment
+before =
+    other (loading 1 false 0x1F000) two ∷ other (access (reading 0x2000)) three ∷ other (testing 1 false 7 0x11ABC) four ∷ other (flushingFrame 5) four ∷ []
+
+abbrev busy : List Moment
+busy = before ++ (watched (reading 0x11ABC) three ∷ [])
+
+pub same-watched : watchedOf plain ≡ watchedOf busy
+unfolding watchedOf
+same-watched = refl
+
+each : All (Alike (4 ∷ []) one) (plain ++ busy)
+unfolding anyOf touchesOf
+each = ((refl, tt), ((refl, tt), ((refl, tt), ((refl, tt), ((refl, tt), ((refl, tt), tt))))))
+
+pub both-steady : Steady registers (plain ++ busy)
+unfolding pairsOf translate inOrder transparent translate030 search030 hitOf afterHit matching firstOf walkFrom readOf widthsOf refusalOf anyOf touchesOf
+both-steady = steady-by registers (plain ++ busy) (each, (each, tt))
+
+pub both-accepted : Accepted registers (plain ++ busy)
+unfolding pairsOf refusalOf anyOf
+both-accepted = accepted-by registers (plain ++ busy) (search)
+
+-- so both answer it alike
+pub answered-alike : answers registers plain ≡ answers registers busy
+answered-alike = independence registers plain busy same-watched both-steady both-accepted .0
+
+-- the first by a walk that asks for the long at 4, the second by a hit, which asks for none
+pub asked-alone : cacheless registers (reading 0x11ABC) one .asked ≡ 4 ∷ []
+unfolding translate inOrder transparent translate030 search030 hitOf matching firstOf walkFrom readOf widthsOf refusalOf anyOf afterHit
+asked-alone = refl
+
+pub asked-after : translate registers (reading 0x11ABC) three (afterAll registers emptyCaches before) .asked ≡ []
+unfolding afterAll calling load loadInOrder flushFrame flushedFrame flushedPage translate inOrder transparent translate030 search030 hitOf matching firstOf walkFrom readOf widthsOf refusalOf anyOf touchesOf afterHit inserted victim shifted rested oldest
+asked-after = refl
+
+pub answered : answers registers busy ≡ Address 0x56ABC ∷ []
+unfolding answersFrom afterAll calling load loadInOrder flushFrame flushedFrame flushedPage translate inOrder transparent translate030 search030 hitOf matching firstOf walkFrom readOf widthsOf refusalOf anyOf touchesOf afterHit inserted victim shifted rested oldest
+answered = refl
