@@ -1,0 +1,4 @@
+pub mod Lists
+pub mod Flags
+pub mod Entries
+pub mod Laws030

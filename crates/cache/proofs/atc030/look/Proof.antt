@@ -1,0 +1,47 @@
+use borrow.Author.Needs.{needs}
+use Rattle.cache.proofs.Laws030.{missed, looked}
+use Rattle.cache.proofs.atc030.look.Statement.{statement}
+use Rattle.cache.proofs.atc030.look.Tie as tie
+
+sized-requires : tie.Need-sized-requires
+sized-requires c κs = search needs
+
+key-of-requires : tie.Need-key-of-requires
+key-of-requires c κs = search needs
+
+held-requires : tie.Need-held-requires
+held-requires c κs = search needs
+
+returns : tie.Need-returns
+returns c = missed _ _ _ _ (search needs) _ _ _ _ _ (search needs) (c .before .before .key-of .ensures) (c .before .held .ensures) _ _ (c .if1 .taken)
+
+touch-requires : tie.Need-touch-requires
+touch-requires c κs = search needs
+
+mul-permitted : tie.Need-mul-permitted
+mul-permitted c = search needs
+
+element-copy-out-permitted : tie.Need-element-copy-out-permitted
+element-copy-out-permitted c = search needs
+
+permitted-requires : tie.Need-permitted-requires
+permitted-requires c κs = search needs
+
+returns-2 : tie.Need-returns-2
+returns-2 c =
+    looked _ _ _ _ (search needs) _ _ _ _ _ (search needs) (c .before .before .before .before .before .before .before .key-of .ensures) (c .before .before .before .before .before .before .held .ensures) _ _ _ _ _ (search needs)
+    (c .permitted .ensures) (c .before .before .touch .ensures)
+
+pub look-spec : {M : Type 1} → statement M
+look-spec =
+    tie.close
+    (tie.spec
+    sized-requires
+    key-of-requires
+    held-requires
+    returns
+    touch-requires
+    mul-permitted
+    element-copy-out-permitted
+    permitted-requires
+    returns-2)
