@@ -31,6 +31,9 @@ low-bit n = go (odd n) refl
         let h : (n % 2 ≡ 1) → ⊥ = eqb-false (n % 2) 1 e in
         omega arith
 
+pub odd-bit : (b : Bool) (n : ℕ) → odd n ≡ b → n % 2 ≡ bit b
+odd-bit b n e = sym (rw e at (low-bit n))
+
 pub even-true : (n : ℕ) → n % 2 ≡ 0 → not (odd n) ≡ true
 even-true n h = rw (odd-is false n h)
 

@@ -2,3 +2,4 @@ pub mod Lists
 pub mod Flags
 pub mod Entries
 pub mod Laws030
+pub mod Slots

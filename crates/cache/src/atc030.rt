@@ -1,5 +1,7 @@
 // The 68030's 22 entries: tags page * 16 + code * 2 + valid, pages base * 2 + WP, stamps; marks: the most recent index, the clock, the page shift.
 use crate::packed::flag;
+use crate::packed::lengths;
+use crate::packed::word;
 use definition::Hit;
 ghost use mathlib.Core.Path.{_≡_};
 ghost use mathlib.Core.Bool.{not, _&&_, _||_};
@@ -11,9 +13,6 @@ ghost use Rattle.definition.specs.Words.{if_then_else_, agrees, firstOf, countO
 ghost use Rattle.definition.specs.Cache030.{Cache030, touched, hitOf, shifted, inserted, flushedAll, flushedCode, flushedPage};
 ghost use Rattle.cache.specs.Packed.{odd, dropTag};
 ghost use Rattle.cache.specs.Atc030.{cacheOf, Sized, Stepped, Looked, keyOf, heldIn, leastOf, placeOf, ranked, restStamps, restClock, usedStamps, usedMarks};
-
-// The lengths of arrays that are lent: a slice's length is known.
-fn sized(tags: &[u64], pages: &[u64], stamps: &[u64], marks: &[u64]) {}
 
 // ---- searches
 
@@ -97,13 +96,6 @@ fn rank(stamps: &mut [u64; 22])
         stamps[i] = n;
         i += 1;
     }
-}
-
-// The same number, which fits its type: of one that is read behind a reference to an array that is not known.
-fn word(x: u64) -> u64
-    ensures { λ r. ⌜ (r ≡ x) × (r < 2 ^ 64) ⌝ }
-{
-    x
 }
 
 // The clock is raised by 1; at 2^64 - 1 the stamps are ranked first, and the clock becomes 22.
@@ -212,7 +204,8 @@ pub fn look(
     requires { ⌜ code < 8 ⌝ }
     ensures { λ r. ⌜ Looked (now (tags .entry)) (now (pages .entry)) (now (stamps .entry)) (now (marks .entry)) code page shift write recorded r (now (stamps .exit)) (now (marks .exit)) ⌝ }
 {
-    sized(tags, pages, stamps, marks);
+    lengths(tags, pages);
+    lengths(stamps, marks);
     let i = held(tags, marks, key_of(code, page), shift);
     if 22 <= i {
         return Hit::Miss;
@@ -235,7 +228,8 @@ pub fn probe(
     requires { ⌜ code < 8 ⌝ }
     ensures { λ r. ⌜ r ≡ hitOf (cacheOf (now (tags .entry)) (now (pages .entry)) (now (stamps .entry)) (now (marks .entry))) code page shift write ⌝ }
 {
-    sized(tags, pages, stamps, marks);
+    lengths(tags, pages);
+    lengths(stamps, marks);
     let i = held(tags, marks, key_of(code, page), shift);
     if 22 <= i {
         return Hit::Miss;
@@ -273,7 +267,8 @@ fn drop_tags(tags: &mut [u64; 22], code: u32, mask: u32, every: bool, page: u64)
 pub fn flush_all(tags: &mut [u64; 22], pages: &[u64; 22], stamps: &[u64; 22], marks: &[u64; 3])
     ensures { λ _. ⌜ Stepped flushedAll (now (tags .entry)) (now (pages .entry)) (now (stamps .entry)) (now (marks .entry)) (now (tags .exit)) (now (pages .entry)) (now (stamps .entry)) (now (marks .entry)) ⌝ }
 {
-    sized(tags, pages, stamps, marks);
+    lengths(tags, pages);
+    lengths(stamps, marks);
     drop_tags(tags, 0, 0, true, 0);
 }
 
@@ -288,7 +283,8 @@ pub fn flush_code(
 )
     ensures { λ _. ⌜ Stepped (λ (c : Cache030). flushedCode c code mask) (now (tags .entry)) (now (pages .entry)) (now (stamps .entry)) (now (marks .entry)) (now (tags .exit)) (now (pages .entry)) (now (stamps .entry)) (now (marks .entry)) ⌝ }
 {
-    sized(tags, pages, stamps, marks);
+    lengths(tags, pages);
+    lengths(stamps, marks);
     drop_tags(tags, code, mask, true, 0);
 }
 
@@ -314,7 +310,8 @@ pub fn flush_page(
 )
     ensures { λ _. ⌜ Stepped (λ (c : Cache030). flushedPage c code mask address) (now (tags .entry)) (now (pages .entry)) (now (stamps .entry)) (now (marks .entry)) (now (tags .exit)) (now (pages .entry)) (now (stamps .entry)) (now (marks .entry)) ⌝ }
 {
-    sized(tags, pages, stamps, marks);
+    lengths(tags, pages);
+    lengths(stamps, marks);
     let shift = marks[2];
     if shift == 0 {
         return;
@@ -373,7 +370,8 @@ pub fn insert(
     requires { ⌜ code < 8 ⌝ }
     ensures { λ _. ⌜ Stepped (λ (c : Cache030). inserted c code page shift base wp) (now (tags .entry)) (now (pages .entry)) (now (stamps .entry)) (now (marks .entry)) (now (tags .exit)) (now (pages .exit)) (now (stamps .exit)) (now (marks .exit)) ⌝ }
 {
-    sized(tags, pages, stamps, marks);
+    lengths(tags, pages);
+    lengths(stamps, marks);
     fit(tags, pages, stamps, marks, shift);
     let key = key_of(code, page);
     let i = place(tags, stamps, key);

@@ -3,8 +3,11 @@ use Rattle.cache.proofs.Laws030.{flushed-none, flushed-page}
 use Rattle.cache.proofs.atc030.flush_page.Statement.{statement}
 use Rattle.cache.proofs.atc030.flush_page.Tie as tie
 
-sized-requires : tie.Need-sized-requires
-sized-requires c κs = search needs
+lengths-requires : tie.Need-lengths-requires
+lengths-requires c κs = search needs
+
+lengths-requires-2 : tie.Need-lengths-requires-2
+lengths-requires-2 c κs = search needs
 
 element-copy-out-shift : tie.Need-element-copy-out-shift
 element-copy-out-shift c = search needs
@@ -25,7 +28,8 @@ pub flush-page-spec : {M : Type 1} → statement M
 flush-page-spec =
     tie.close
     (tie.spec
-    sized-requires
+    lengths-requires
+    lengths-requires-2
     element-copy-out-shift
     returns
     page-at-requires

@@ -3,8 +3,11 @@ use Rattle.cache.proofs.Laws030.{inserted-put}
 use Rattle.cache.proofs.atc030.insert.Statement.{statement}
 use Rattle.cache.proofs.atc030.insert.Tie as tie
 
-sized-requires : tie.Need-sized-requires
-sized-requires c κs = search needs
+lengths-requires : tie.Need-lengths-requires
+lengths-requires c κs = search needs
+
+lengths-requires-2 : tie.Need-lengths-requires-2
+lengths-requires-2 c κs = search needs
 
 fit-requires : tie.Need-fit-requires
 fit-requires c κs = search needs
@@ -48,7 +51,8 @@ pub insert-spec : {M : Type 1} → statement M
 insert-spec =
     tie.close
     (tie.spec
-    sized-requires
+    lengths-requires
+    lengths-requires-2
     fit-requires
     key-of-requires
     place-requires

@@ -3,8 +3,11 @@ use Rattle.cache.proofs.Laws030.{missed, looked}
 use Rattle.cache.proofs.atc030.look.Statement.{statement}
 use Rattle.cache.proofs.atc030.look.Tie as tie
 
-sized-requires : tie.Need-sized-requires
-sized-requires c κs = search needs
+lengths-requires : tie.Need-lengths-requires
+lengths-requires c κs = search needs
+
+lengths-requires-2 : tie.Need-lengths-requires-2
+lengths-requires-2 c κs = search needs
 
 key-of-requires : tie.Need-key-of-requires
 key-of-requires c κs = search needs
@@ -36,7 +39,8 @@ pub look-spec : {M : Type 1} → statement M
 look-spec =
     tie.close
     (tie.spec
-    sized-requires
+    lengths-requires
+    lengths-requires-2
     key-of-requires
     held-requires
     returns

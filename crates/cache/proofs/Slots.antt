@@ -1,0 +1,129 @@
+-- The definitions of the 68040's cache, at the cache that two arrays are.
+use Prim.Native.Nat.{ℕ, zero, suc, _+_, _*_, _-_, _/_, _%_, _<_, _≤_}
+use mathlib.Core.Path.{_≡_, refl, ap, sym, _∙_}
+use mathlib.Core.Bool.{Bool, true, false, _&&_, _||_, not, and-false}
+use mathlib.Core.List.{List, [], _∷_, map}
+use native.Mathlib.Omega.{arith}
+use borrow.Author.Tests.{eq-eqb, ne-eqb, eqb-true, eqb-false}
+use lib.Dec.{eqb}
+use lib.ListN.{length, getD, set, length-set, length-map}
+use lib.Seq.{set-getD}
+use Rattle.definition.specs.Words.{if_then_else_}
+use Rattle.definition.specs.Cache040.{Slot, Cache040, noSlot, sameBool, holds, hit040, inserted040, emptied, flushedAll040, flushedFrame}
+use Rattle.definition.specs.declared.Hit.{Hit}
+use Rattle.definition.specs.declared.Hit.the-variants.{At, Miss}
+use Rattle.cache.specs.Packed.{bit, odd}
+use Rattle.cache.specs.Atc040.{slotOf, slotsOf, cache040Of, keyOf040, Sized040, Stepped040}
+use Rattle.cache.proofs.Flags.{bit-small, odd-is, odd-bit}
+
+-- ---- one slot
+-- a key is a valid slot's just where it is this number
+key-holds : (frame : ℕ) (supervisor : Bool) (k b : ℕ) → holds frame supervisor (slotOf k b) ≡ eqb k (keyOf040 frame supervisor)
+key-holds frame supervisor k b = go (odd k) (eqb (k / 4) frame) (odd (k / 2)) supervisor refl refl refl
+  where
+    go : (v f s z : Bool) → odd k ≡ v → eqb (k / 4) frame ≡ f → odd (k / 2) ≡ s → v && (f && sameBool s z) ≡ eqb k (keyOf040 frame z)
+    go true true true true ev ef es =
+        sym (eq-eqb k (keyOf040 frame true) (omega (arith, odd-bit true k ev, eqb-true (k / 4) frame ef, odd-bit true (k / 2) es)))
+    go true true false false ev ef es =
+        sym (eq-eqb k (keyOf040 frame false) (omega (arith, odd-bit true k ev, eqb-true (k / 4) frame ef, odd-bit false (k / 2) es)))
+    go true true true false ev ef es = sym (ne-eqb k (keyOf040 frame false) (λ e. omega (arith, odd-bit true (k / 2) es)))
+    go true true false true ev ef es = sym (ne-eqb k (keyOf040 frame true) (λ e. omega (arith, odd-bit false (k / 2) es)))
+    go true false s z ev ef es = sym (ne-eqb k (keyOf040 frame z) (λ e. eqb-false (k / 4) frame ef (omega (arith, bit-small z))))
+    go false f s z ev ef es = sym (ne-eqb k (keyOf040 frame z) (λ e. omega (arith, odd-bit false k ev)))
+
+-- the slot that an insert makes
+key-slot : (frame base : ℕ) (supervisor wp sup : Bool)
+    → slotOf (keyOf040 frame supervisor) (base * 4 + bit wp * 2 + bit sup) ≡ record { valid = true; frame = frame; supervisor = supervisor; base = base; wp = wp; sup = sup }
+key-slot frame base supervisor wp sup =
+    let x = bit-small supervisor in
+    let y = bit-small wp in
+    let z = bit-small sup in
+    let k = keyOf040 frame supervisor in
+    let w = base * 4 + bit wp * 2 + bit sup in
+    let a : odd k ≡ true = odd-is true k (omega arith) in
+    let b : k / 4 ≡ frame = omega arith in
+    let d : odd (k / 2) ≡ supervisor = odd-is supervisor (k / 2) (omega arith) in
+    let e : w / 4 ≡ base = omega arith in
+    let f : odd (w / 2) ≡ wp = odd-is wp (w / 2) (omega arith) in
+    let g : odd w ≡ sup = odd-is sup w (omega arith) in
+    rw (a, b, d, e, f, g)
+
+drop-key : (k b : ℕ) → slotOf (k - k % 2) b ≡ emptied (slotOf k b)
+drop-key k b =
+    let a : odd (k - k % 2) ≡ false = odd-is false (k - k % 2) (omega arith) in
+    let d : (k - k % 2) / 4 ≡ k / 4 = omega arith in
+    let e : (k - k % 2) / 2 ≡ k / 2 = omega arith in
+    rw (a, d, e)
+
+-- ---- the slots
+slots-get : (ks bs : List ℕ) (i : ℕ) → length ks ≡ length bs → getD (slotsOf ks bs) i noSlot ≡ slotOf (getD ks i 0) (getD bs i 0)
+unfolding slotsOf
+slots-get [] [] i e = refl
+slots-get [] (b ∷ bs) i e = absurd (omega arith)
+slots-get (k ∷ ks) [] i e = absurd (omega arith)
+slots-get (k ∷ ks) (b ∷ bs) zero e = refl
+slots-get (k ∷ ks) (b ∷ bs) (suc i) e = slots-get ks bs i (omega arith)
+
+slots-set : (ks bs : List ℕ) (i k b : ℕ) → slotsOf (set ks i k) (set bs i b) ≡ set (slotsOf ks bs) i (slotOf k b)
+unfolding slotsOf
+slots-set [] bs i x y = refl
+slots-set (k ∷ ks) [] zero x y = refl
+slots-set (k ∷ ks) [] (suc i) x y = refl
+slots-set (k ∷ ks) (b ∷ bs) zero x y = refl
+slots-set (k ∷ ks) (b ∷ bs) (suc i) x y = ap (λ (l : List Slot). slotOf k b ∷ l) (slots-set ks bs i x y)
+
+slots-keys : (ks bs : List ℕ) → slotsOf (map (λ (k : ℕ). k - k % 2) ks) bs ≡ map emptied (slotsOf ks bs)
+unfolding slotsOf
+slots-keys [] bs = refl
+slots-keys (k ∷ ks) [] = refl
+slots-keys (k ∷ ks) (b ∷ bs) = rw (drop-key k b, slots-keys ks bs)
+
+module _ (ks bs : List ℕ) (w : Sized040 ks bs) where
+  slot-at : (i : ℕ) → getD (slotsOf ks bs) i noSlot ≡ slotOf (getD ks i 0) (getD bs i 0)
+  slot-at i = slots-get ks bs i (w .keys ∙ sym (w .bases))
+
+  module _ (frame i : ℕ) (ei : i ≡ frame % 64) where
+    pub missed-040 : (supervisor write : Bool) → (getD ks i 0 ≡ keyOf040 frame supervisor → ⊥) → Miss ≡ hit040 (cache040Of ks bs) frame supervisor write
+    unfolding hit040 cache040Of
+    missed-040 supervisor write n =
+        rw (← ei, slot-at i, key-holds frame supervisor (getD ks i 0) (getD bs i 0), ne-eqb (getD ks i 0) (keyOf040 frame supervisor) n)
+
+    pub looked-040 : (supervisor write : Bool) (r : Hit) → getD ks i 0 ≡ keyOf040 frame supervisor
+        → r ≡ (if write && odd (getD bs i 0 / 2) || not supervisor && odd (getD bs i 0) then Miss else At (getD bs i 0 / 4))
+        → r ≡ hit040 (cache040Of ks bs) frame supervisor write
+    unfolding hit040 cache040Of
+    looked-040 supervisor write r e h =
+        rw (← ei, slot-at i, key-holds frame supervisor (getD ks i 0) (getD bs i 0), eq-eqb (getD ks i 0) (keyOf040 frame supervisor) e)
+        (h ∙ go (write && odd (getD bs i 0 / 2) || not supervisor && odd (getD bs i 0)))
+      where
+        go : (b : Bool) → (if b then Miss else At (getD bs i 0 / 4)) ≡ (if not b then At (getD bs i 0 / 4) else Miss)
+        go true = refl
+        go false = refl
+
+    pub inserted-put-040 : (base k x y : ℕ) (supervisor wp sup : Bool) → k ≡ keyOf040 frame supervisor → x ≡ bit wp → y ≡ bit sup
+        → Stepped040 (λ (c : Cache040). inserted040 c frame supervisor base wp sup) ks bs (set ks i k) (set bs i (base * 4 + x * 2 + y))
+    unfolding inserted040 cache040Of
+    inserted-put-040 base k x y supervisor wp sup ek ex ey =
+        rw (ek, ex, ey)
+        (record {
+          leaves = rw (slots-set ks bs i (keyOf040 frame supervisor) (base * 4 + bit wp * 2 + bit sup), key-slot frame base supervisor wp sup, ei);
+          sized = record { keys = simp length-set (w .keys); bases = simp length-set (w .bases) };
+        })
+
+    pub flushed-same-040 : (getD ks i 0 / 4 ≡ frame → ⊥) → Stepped040 (λ (c : Cache040). flushedFrame c frame) ks bs ks bs
+    unfolding flushedFrame cache040Of
+    flushed-same-040 n = record { leaves = rw (← ei, slot-at i, ne-eqb (getD ks i 0 / 4) frame n) refl; sized = w }
+
+    pub flushed-frame : getD ks i 0 / 4 ≡ frame → Stepped040 (λ (c : Cache040). flushedFrame c frame) ks bs (set ks i (getD ks i 0 - getD ks i 0 % 2)) bs
+    unfolding flushedFrame cache040Of
+    flushed-frame e =
+        let s = slots-set ks bs i (getD ks i 0 - getD ks i 0 % 2) (getD bs i 0) in
+        record {
+          leaves = rw (← ei, slot-at i, eq-eqb (getD ks i 0 / 4) frame e, ← drop-key (getD ks i 0) (getD bs i 0)) (ap (λ (l : List Slot). record { slots = l }) (rw (set-getD bs i 0) at s));
+          sized = record { keys = simp length-set (w .keys); bases = w .bases };
+        }
+
+  pub flushed-all-040 : (ks′ : List ℕ) → ks′ ≡ map (λ (k : ℕ). k - k % 2) ks → Stepped040 flushedAll040 ks bs ks′ bs
+  unfolding flushedAll040 cache040Of
+  flushed-all-040 ks′ e =
+      rw e (record { leaves = rw (slots-keys ks bs); sized = record { keys = simp length-map (w .keys); bases = w .bases } })
