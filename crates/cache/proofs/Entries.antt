@@ -99,10 +99,10 @@ entries-first P q h (t ∷ ts) (p ∷ ps) [] v = absurd (omega (arith, v .stamps
 entries-first P q h (t ∷ ts) (p ∷ ps) (s ∷ ss) v = rw (h t p s, entries-first P q h ts ps ss (less v))
 
 -- ---- the arrays are read off the entries again
-abbrev tagOf : Entry → ℕ
+abbrev pub tagOf : Entry → ℕ
 tagOf e = e .page * 16 + e .code * 2 + bit (e .valid)
 
-abbrev pageOf : Entry → ℕ
+abbrev pub pageOf : Entry → ℕ
 pageOf e = e .base * 2 + bit (e .wp)
 
 pub record Read (ts ps ss : List ℕ) : Type 0 where

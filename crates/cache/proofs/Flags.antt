@@ -6,7 +6,6 @@ use native.Mathlib.Omega.{arith}
 use native.Mathlib.Nat.{le-refl, le-trans, div-eq-of-lt, pow-le-pow-right}
 use borrow.Author.Tests.{eq-eqb, ne-eqb, eqb-true, eqb-false}
 use mir.Val.{boolByte}
-use lib.Dec.{eqb}
 use Rattle.cache.specs.Packed.{bit, odd}
 
 -- a flag that is cast to a number

@@ -10,7 +10,7 @@ use lib.Bits.{bitXor, and-zero-r}
 use lib.ListN.{length, getD, set, length-set, length-map}
 use lib.Seq.{set-getD}
 use Rattle.definition.specs.Words.{if_then_else_, agrees, firstOf, countOf}
-use Rattle.definition.specs.Cache030.{Entry, Cache030, noEntry, matches, matching, stamped, rested, putAt, touched, found, hitOf, afterHit, dropped, shifted, victim, inserted, dropIf, flushedAll, flushedCode, flushedPage}
+use Rattle.definition.specs.Cache030.{Entry, Cache030, matches, matching, stamped, rested, putAt, touched, found, hitOf, afterHit, dropped, shifted, victim, inserted, dropIf, flushedAll, flushedCode, flushedPage}
 use Rattle.definition.specs.declared.Hit.{Hit}
 use Rattle.definition.specs.declared.Hit.the-variants.{At, Miss}
 use Rattle.cache.specs.Packed.{bit, odd, dropTag}
@@ -48,6 +48,9 @@ marks-are P (a ∷ b ∷ []) e f = absurd (omega arith)
 marks-are P (a ∷ b ∷ d ∷ []) e f = f a b d
 marks-are P (a ∷ b ∷ d ∷ x ∷ xs) e f = absurd (omega arith)
 
+pub marks-read : (ms : List ℕ) → length ms ≡ 3 → ms ≡ getD ms 0 0 ∷ getD ms 1 0 ∷ getD ms 2 0 ∷ []
+marks-read ms e = marks-are (λ (l : List ℕ). l ≡ getD l 0 0 ∷ getD l 1 0 ∷ getD l 2 0 ∷ []) ms e (λ a b d. refl)
+
 marks-put : (ms : List ℕ) (n i : ℕ) → length ms ≡ 3 → set (set ms 1 n) 0 i ≡ i ∷ n ∷ getD ms 2 0 ∷ []
 marks-put ms n i e = marks-are (λ (l : List ℕ). set (set l 1 n) 0 i ≡ i ∷ n ∷ getD l 2 0 ∷ []) ms e (λ a b d. refl)
 
@@ -55,7 +58,7 @@ marks-shift : (ms : List ℕ) (shift : ℕ) → length ms ≡ 3 → set ms 2 shi
 marks-shift ms shift e = marks-are (λ (l : List ℕ). set l 2 shift ≡ getD l 0 0 ∷ getD l 1 0 ∷ shift ∷ []) ms e (λ a b d. refl)
 
 module _ (ts ps ss ms : List ℕ) (w : Sized ts ps ss ms) where
-  level : Level ts ps ss
+  pub level : Level ts ps ss
   level = record { pages = w .tags ∙ sym (w .pages); stamps = w .tags ∙ sym (w .stamps) }
 
   entries-22 : length (entriesOf ts ps ss) ≡ 22

@@ -3,3 +3,4 @@ pub mod Flags
 pub mod Entries
 pub mod Laws030
 pub mod Slots
+pub mod Pairs

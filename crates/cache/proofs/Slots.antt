@@ -1,7 +1,7 @@
 -- The definitions of the 68040's cache, at the cache that two arrays are.
-use Prim.Native.Nat.{ℕ, zero, suc, _+_, _*_, _-_, _/_, _%_, _<_, _≤_}
+use Prim.Native.Nat.{ℕ, zero, suc, _+_, _*_, _-_, _/_, _%_}
 use mathlib.Core.Path.{_≡_, refl, ap, sym, _∙_}
-use mathlib.Core.Bool.{Bool, true, false, _&&_, _||_, not, and-false}
+use mathlib.Core.Bool.{Bool, true, false, _&&_, _||_, not}
 use mathlib.Core.List.{List, [], _∷_, map}
 use native.Mathlib.Omega.{arith}
 use borrow.Author.Tests.{eq-eqb, ne-eqb, eqb-true, eqb-false}
@@ -14,7 +14,7 @@ use Rattle.definition.specs.declared.Hit.{Hit}
 use Rattle.definition.specs.declared.Hit.the-variants.{At, Miss}
 use Rattle.cache.specs.Packed.{bit, odd}
 use Rattle.cache.specs.Atc040.{slotOf, slotsOf, cache040Of, keyOf040, Sized040, Stepped040}
-use Rattle.cache.proofs.Flags.{bit-small, odd-is, odd-bit}
+use Rattle.cache.proofs.Flags.{bit-small, odd-is, low-bit, odd-bit}
 
 -- ---- one slot
 -- a key is a valid slot's just where it is this number
@@ -78,6 +78,25 @@ slots-keys [] bs = refl
 slots-keys (k ∷ ks) [] = refl
 slots-keys (k ∷ ks) (b ∷ bs) = rw (drop-key k b, slots-keys ks bs)
 
+-- ---- the arrays are read off the slots again
+abbrev pub keyIn : Slot → ℕ
+keyIn s = s .frame * 4 + bit (s .supervisor) * 2 + bit (s .valid)
+
+abbrev pub baseIn : Slot → ℕ
+baseIn s = s .base * 4 + bit (s .wp) * 2 + bit (s .sup)
+
+pub slots-read : (ks bs : List ℕ) → length ks ≡ length bs → (map keyIn (slotsOf ks bs) ≡ ks) × (map baseIn (slotsOf ks bs) ≡ bs)
+unfolding slotsOf
+slots-read [] [] e = (refl, refl)
+slots-read [] (b ∷ bs) e = absurd (omega arith)
+slots-read (k ∷ ks) [] e = absurd (omega arith)
+slots-read (k ∷ ks) (b ∷ bs) e =
+    let r = slots-read ks bs (omega arith) in
+    let x : keyIn (slotOf k b) ≡ k = omega (arith, low-bit k, low-bit (k / 2)) in
+    let y : baseIn (slotOf k b) ≡ b = omega (arith, low-bit b, low-bit (b / 2)) in
+    (rw (x, r .0), rw (y, r .1))
+
+-- ---- the definitions
 module _ (ks bs : List ℕ) (w : Sized040 ks bs) where
   slot-at : (i : ℕ) → getD (slotsOf ks bs) i noSlot ≡ slotOf (getD ks i 0) (getD bs i 0)
   slot-at i = slots-get ks bs i (w .keys ∙ sym (w .bases))
