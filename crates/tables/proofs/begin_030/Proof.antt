@@ -1,0 +1,23 @@
+-- `tables::begin_030` meets its contract. Assumes nothing.
+use borrow.Author.Needs.{needs}
+use Rattle.tables.proofs.begin_030.Statement.{statement}
+use Rattle.tables.proofs.begin_030.Tie as tie
+
+kind-of-requires : tie.Need-kind-of-requires
+kind-of-requires c κs = search needs
+
+bit-requires : tie.Need-bit-requires
+bit-requires c κs = search needs
+
+table-of-requires : tie.Need-table-of-requires
+table-of-requires c κs = search needs
+
+no-walk-requires : tie.Need-no-walk-requires
+no-walk-requires c κs = search needs
+
+returns : tie.Need-returns
+returns c = rw (c .no-walk .ensures, c .before .table-of .ensures, c .before .before .bit .ensures, c .before .before .before .kind-of .ensures)
+
+pub begin-030-spec : {M : Type 1} → statement M
+begin-030-spec =
+    tie.close (tie.spec kind-of-requires bit-requires table-of-requires no-walk-requires returns)

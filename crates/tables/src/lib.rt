@@ -1,0 +1,599 @@
+// The 68030 and 68040 table walks over lent longs and lent bus-error ranges, and what a page's descriptor gives.
+// A function that is lent the ranges is thin: its proof is a walk by hand, which tools/ prints.
+ghost use mathlib.Core.Path.{_≡_};
+ghost use mathlib.Core.Bool.{false, _||_, _&&_};
+ghost use Prim.Native.Nat.{ℕ, _+_, _*_, _/_, _%_, _<_};
+ghost use lib.ListN.{length, getD};
+ghost use Rattle.definition.specs.Words.{bitOf, anyOf};
+ghost use Rattle.definition.specs.Memory.{memory, touchesOf, inRanges, fetchWith, fetchOf};
+ghost use Rattle.definition.specs.Refusal.{crossed};
+ghost use Rattle.definition.specs.Registers.{rootOf};
+ghost use Rattle.definition.specs.Walk030.{entryOf, shortOf, readOf, widthsOf, used, topIndex, walk030};
+ghost use Rattle.tables.specs.Walked.{shown};
+ghost use Rattle.tables.specs.Machine.{alone, describedOf, ofTwo, noWalk, beginOf, endedOf, onwardOf, nextK, aimOf, targetEnd, atTarget, atLevel, askedOf, tookOf, answered};
+use definition::Descriptor;
+use definition::End;
+use definition::Fetched;
+use definition::Range;
+use definition::Registers;
+use definition::Root;
+
+// ---- One long.
+
+// Whether any of the four bytes of the long at `at` lies from `first` to `last`.
+fn touches(first: u32, last: u32, at: u32) -> bool
+    ensures { λ r. ⌜ r ≡ touchesOf first last at ⌝ }
+{
+    if last < first {
+        return false;
+    }
+    if at as u64 + 3 < first as u64 {
+        return false;
+    }
+    at <= last
+}
+
+// The search for a range that has a byte of the long: one range more.
+fn hit_or(hit: bool, r: Range, at: u32) -> bool
+    ensures { λ y. ⌜ y ≡ (hit || touchesOf (r .first) (r .last) at) ⌝ }
+{
+    if hit {
+        return true;
+    }
+    touches(r.first, r.last, at)
+}
+
+// Whether any of the four bytes of the long at `at` lies in a range.
+fn hits(ranges: &[Range], at: u32) -> bool
+    ensures { λ r. ⌜ r ≡ inRanges (now (ranges .entry)) at ⌝ }
+{
+    let mut hit = false;
+    let mut i = 0;
+    while i < ranges.len() {
+        hit = hit_or(hit, ranges[i], at);
+        i += 1;
+    }
+    hit
+}
+
+// The search for a range whose first is above its last: one range more.
+fn crossed_or(found: bool, r: Range) -> bool
+    ensures { λ y. ⌜ y ≡ (found || crossed r) ⌝ }
+{
+    found | (r.last < r.first)
+}
+
+// Refusal 3: whether a range has its first above its last.
+pub fn any_crossed(ranges: &[Range]) -> bool
+    ensures { λ r. ⌜ r ≡ anyOf crossed (now (ranges .entry)) ⌝ }
+{
+    let mut found = false;
+    let mut i = 0;
+    while i < ranges.len() {
+        found = crossed_or(found, ranges[i]);
+        i += 1;
+    }
+    found
+}
+
+// The long at `at`, unless it lies outside the longs or the search hit a range.
+fn long_unless(longs: &[u32], base: u32, at: u32, hit: bool) -> Fetched
+    ensures { λ r. ⌜ r ≡ fetchWith (now (longs .entry)) base at hit ⌝ }
+{
+    if at < base {
+        return Fetched::Failed;
+    }
+    let off = at - base;
+    if off % 4 != 0 {
+        return Fetched::Failed;
+    }
+    let i = (off / 4) as usize;
+    if longs.len() <= i {
+        return Fetched::Failed;
+    }
+    if hit {
+        return Fetched::Failed;
+    }
+    Fetched::Long(longs[i])
+}
+
+// A long fails if it lies outside the longs or any of its four bytes lies in a range.
+pub fn fetch(longs: &[u32], base: u32, ranges: &[Range], at: u32) -> Fetched
+    ensures { λ r. ⌜ r ≡ fetchOf (memory (now (longs .entry)) base (now (ranges .entry))) at ⌝ }
+{
+    let hit = hits(ranges, at);
+    long_unless(longs, base, at, hit)
+}
+
+// ---- One 68030 descriptor.
+
+// Bit `k` of `x`.
+fn bit(x: u32, k: u32) -> bool
+    requires { ⌜ k < 32 ⌝ }
+    ensures { λ r. ⌜ r ≡ bitOf x k ⌝ }
+{
+    (x >> k) % 2 == 1
+}
+
+// Entry i of the table at `table` is 4i or 8i after it, wrapping.
+fn entry(table: u32, index: u32, long: bool) -> u32
+    ensures { λ r. ⌜ r ≡ entryOf table index long ⌝ }
+{
+    if long {
+        ((table as u64 + index as u64 * 8) % 4294967296) as u32
+    } else {
+        ((table as u64 + index as u64 * 4) % 4294967296) as u32
+    }
+}
+
+// The type of a descriptor or a root is in 1:0.
+fn kind_of(x: u32) -> u32
+    ensures { λ r. ⌜ r ≡ x % 4 ⌝ }
+{
+    x % 4
+}
+
+// The address of a table: field & FFFFFFF0.
+fn table_of(field: u32) -> u32
+    ensures { λ r. ⌜ r ≡ field / 16 * 16 ⌝ }
+{
+    field - field % 16
+}
+
+// The address of an indirect descriptor's target: field & FFFFFFFC.
+fn target_of(field: u32) -> u32
+    ensures { λ r. ⌜ r ≡ field / 4 * 4 ⌝ }
+{
+    field - field % 4
+}
+
+// Type in 1:0 and WP in bit 2 of the first long, S in bit 8 of the first long of a long descriptor.
+fn described(first: u32, field: u32, long: bool, asked: u32) -> Descriptor
+    ensures { λ r. ⌜ r ≡ describedOf first field long asked ⌝ }
+{
+    let kind = kind_of(first);
+    let wp = bit(first, 2);
+    let sup = bit(first, 8);
+    Descriptor::Whole {
+        kind,
+        field,
+        wp,
+        sup: long & sup,
+        asked,
+    }
+}
+
+// Whether the first long settles it: it failed, or the descriptor is short.
+fn is_alone(long: bool, first: Fetched) -> bool
+    ensures { λ r. ⌜ r ≡ alone long first ⌝ }
+{
+    match first {
+        Fetched::Long(_) => !long,
+        Fetched::Failed => true,
+    }
+}
+
+// A short descriptor is one long, which is its address field too.
+fn of_one(at: u32, first: Fetched) -> Descriptor
+    ensures { λ r. ⌜ r ≡ shortOf at first ⌝ }
+{
+    match first {
+        Fetched::Long(x) => described(x, x, false, 1),
+        Fetched::Failed => Descriptor::Lost { at, asked: 1 },
+    }
+}
+
+// Where the second long of a descriptor stands.
+fn second_at(at: u32) -> u32
+    ensures { λ r. ⌜ r ≡ entryOf at 1 false ⌝ }
+{
+    entry(at, 1, false)
+}
+
+// A long descriptor is two longs; the address field is the last.
+fn of_two(at: u32, first: Fetched, second: Fetched) -> Descriptor
+    ensures { λ r. ⌜ r ≡ ofTwo at first second ⌝ }
+{
+    match first {
+        Fetched::Long(x) => match second {
+            Fetched::Long(y) => described(x, y, true, 2),
+            Fetched::Failed => Descriptor::Lost {
+                at: second_at(at),
+                asked: 2,
+            },
+        },
+        Fetched::Failed => Descriptor::Lost { at, asked: 1 },
+    }
+}
+
+// The descriptor at `at`, short or long.
+pub fn read_desc(longs: &[u32], base: u32, ranges: &[Range], at: u32, long: bool) -> Descriptor
+    ensures { λ r. ⌜ r ≡ readOf (memory (now (longs .entry)) base (now (ranges .entry))) at long ⌝ }
+{
+    let first = fetch(longs, base, ranges, at);
+    if is_alone(long, first) {
+        return of_one(at, first);
+    }
+    let next = second_at(at);
+    let second = fetch(longs, base, ranges, next);
+    of_two(at, first, second)
+}
+
+// ---- The 68030 walk.
+
+// How a 68030 walk ended, with WP and S, the levels, the last descriptor's address and the number of longs asked for.
+pub struct Walked {
+    pub end: End,
+    pub wp: bool,
+    pub sup: bool,
+    pub levels: u32,
+    pub last: u32,
+    pub asked: u32,
+}
+
+// Where a 68030 walk stands between two descriptors. `target`: the next is the target of an indirect one. `coded`: the
+// function-code level is next. `k` is the number of widths consumed, `last` the last descriptor asked for or the next.
+struct Walking030 {
+    over: bool,
+    end: End,
+    target: bool,
+    coded: bool,
+    consumed: u32,
+    k: usize,
+    table: u32,
+    long: bool,
+    wp: bool,
+    sup: bool,
+    levels: u32,
+    asked: u32,
+    last: u32,
+}
+
+// The four index widths TIA, TIB, TIC and TID: TC nibbles 15:12 to 3:0.
+fn widths(tc: u32) -> [u32; 4]
+    ensures { λ r. ⌜ r ≡ widthsOf tc ⌝ }
+{
+    [(tc >> 12) % 16, (tc >> 8) % 16, (tc >> 4) % 16, tc % 16]
+}
+
+// How many widths there are, stopping at the first zero.
+fn level_count(ws: [u32; 4]) -> usize
+    ensures { λ r. ⌜ r ≡ length (used ws) ⌝ }
+{
+    let mut n: usize = 0;
+    while n < 4 {
+        if ws[n] == 0 {
+            return n;
+        }
+        n += 1;
+    }
+    n
+}
+
+// An index is the address shifted left by (consumed mod 32), bits lost, then right by 32 - width.
+fn top_index(address: u32, consumed: u32, width: u32) -> u32
+    requires { ⌜ width < 16 ⌝ }
+    ensures { λ r. ⌜ r ≡ topIndex address consumed width ⌝ }
+{
+    if width == 0 {
+        return 0;
+    }
+    (address << (consumed % 32)) >> (32 - width)
+}
+
+fn tc_of(g: Registers) -> u32
+    ensures { λ r. ⌜ r ≡ g .tc ⌝ }
+{
+    g.tc
+}
+
+// SRP is used if TC bit 25 is set and code bit 2 is set; else CRP.
+fn root_of(g: Registers, code: u32) -> Root
+    ensures { λ r. ⌜ r ≡ rootOf g code ⌝ }
+{
+    let sre = bit(g.tc, 25);
+    let supervisor = bit(code, 2);
+    if sre & supervisor {
+        let srp = g.srp;
+        return srp;
+    }
+    let crp = g.crp;
+    crp
+}
+
+// Root types 0 and 1 are a configuration fault, and no level at all is one too.
+fn no_walk(kind: u32, n: usize, coded: bool) -> bool
+    ensures { λ r. ⌜ r ≡ noWalk kind n coded ⌝ }
+{
+    (kind < 2) | ((n == 0) & !coded)
+}
+
+// Root type is limit bits 1:0; the table is at address & FFFFFFF0. IS (19:16) is consumed first; TC bit 24 adds a function-code level.
+fn begin_030(tc: u32, root: Root, n: usize) -> Walking030
+    ensures { λ r. ⌜ r ≡ beginOf tc root n ⌝ }
+{
+    let kind = kind_of(root.limit);
+    let coded = bit(tc, 24);
+    let table = table_of(root.address);
+    Walking030 {
+        over: no_walk(kind, n, coded),
+        end: End::Config,
+        target: false,
+        coded,
+        consumed: (tc >> 16) % 16,
+        k: 0,
+        table,
+        long: kind == 3,
+        wp: false,
+        sup: false,
+        levels: 0,
+        asked: 0,
+        last: root.address,
+    }
+}
+
+// The walk ends here.
+fn ended(s: Walking030, end: End, wp: bool, sup: bool, levels: u32, asked: u32) -> Walking030
+    ensures { λ r. ⌜ r ≡ endedOf s end wp sup levels asked ⌝ }
+{
+    Walking030 {
+        over: true,
+        end,
+        target: s.target,
+        coded: s.coded,
+        consumed: s.consumed,
+        k: s.k,
+        table: s.table,
+        long: s.long,
+        wp,
+        sup,
+        levels,
+        asked,
+        last: s.last,
+    }
+}
+
+// The walk goes on: to a table's next level, or to the target of an indirect descriptor.
+fn onward(
+    s: Walking030,
+    target: bool,
+    table: u32,
+    long: bool,
+    wp: bool,
+    sup: bool,
+    levels: u32,
+    asked: u32,
+    last: u32,
+) -> Walking030
+    ensures { λ r. ⌜ r ≡ onwardOf s target table long wp sup levels asked last ⌝ }
+{
+    Walking030 {
+        over: false,
+        end: End::Config,
+        target,
+        coded: s.coded,
+        consumed: s.consumed,
+        k: s.k,
+        table,
+        long,
+        wp,
+        sup,
+        levels,
+        asked,
+        last,
+    }
+}
+
+// The width of level `k`: 0 past the last.
+fn width_at(ws: [u32; 4], k: usize) -> u32
+    ensures { λ r. ⌜ r ≡ getD ws k 0 ⌝ }
+{
+    if k < 4 {
+        return ws[k];
+    }
+    0
+}
+
+// The number of widths consumed after one more.
+fn next_k(k: usize) -> usize
+    ensures { λ r. ⌜ r ≡ nextK k ⌝ }
+{
+    if k < 4 {
+        return k + 1;
+    }
+    k
+}
+
+// The level's index, by the code or by the address, settles where its descriptor stands; at most `limit` levels.
+fn aim(s: Walking030, ws: [u32; 4], address: u32, code: u32, limit: u32) -> Walking030
+    requires { ⌜ ((k : ℕ) → getD ws k 0 < 16) × (s .over ≡ false → s .target ≡ false → s .consumed < 1000) ⌝ }
+    ensures { λ r. ⌜ r ≡ aimOf ws address code limit s ⌝ }
+{
+    if s.over {
+        return s;
+    }
+    if s.target {
+        return s;
+    }
+    if limit <= s.levels {
+        return ended(s, End::LevelStop, s.wp, s.sup, s.levels, s.asked);
+    }
+    let mut t = s;
+    if s.coded {
+        let at = entry(s.table, code, s.long);
+        t.coded = false;
+        t.last = at;
+        return t;
+    }
+    let width = width_at(ws, s.k);
+    let index = top_index(address, s.consumed, width);
+    let at = entry(s.table, index, s.long);
+    t.consumed = s.consumed + width;
+    t.k = next_k(s.k);
+    t.last = at;
+    t
+}
+
+// The target of an indirect descriptor must be type 1.
+fn target_end(kind: u32, field: u32, consumed: u32) -> End
+    ensures { λ r. ⌜ r ≡ targetEnd kind field consumed ⌝ }
+{
+    if kind == 1 {
+        return End::Page { field, consumed };
+    }
+    End::Invalid { indirect: true }
+}
+
+// At the target of an indirect descriptor: it adds its own WP and S even if it isn't type 1, and counts no level.
+fn at_target(s: Walking030, kind: u32, field: u32, wp: bool, sup: bool, asked: u32) -> Walking030
+    ensures { λ r. ⌜ r ≡ atTarget s kind field wp sup asked ⌝ }
+{
+    let end = target_end(kind, field, s.consumed);
+    ended(s, end, s.wp | wp, s.sup | sup, s.levels, asked)
+}
+
+// At a level's descriptor, where `n` widths are used: type 0 invalid, type 1 page. Types 2 and 3 name the next table; on the last
+// level they are indirect. WP and S add up over all but type 0 and the indirect one.
+fn at_level(
+    s: Walking030,
+    n: usize,
+    kind: u32,
+    field: u32,
+    wp: bool,
+    sup: bool,
+    asked: u32,
+) -> Walking030
+    requires { ⌜ s .levels < 1000 ⌝ }
+    ensures { λ r. ⌜ r ≡ atLevel n s kind field wp sup asked ⌝ }
+{
+    let levels = s.levels + 1;
+    match kind {
+        1 => {
+            let end = End::Page {
+                field,
+                consumed: s.consumed,
+            };
+            ended(s, end, s.wp | wp, s.sup | sup, levels, asked)
+        }
+        2..=3 => {
+            let long = kind == 3;
+            if s.k == n {
+                let to = target_of(field);
+                onward(s, true, s.table, long, s.wp, s.sup, levels, asked, to)
+            } else {
+                let table = table_of(field);
+                onward(
+                    s,
+                    false,
+                    table,
+                    long,
+                    s.wp | wp,
+                    s.sup | sup,
+                    levels,
+                    asked,
+                    s.last,
+                )
+            }
+        }
+        _ => {
+            let end = End::Invalid { indirect: false };
+            ended(s, end, s.wp, s.sup, levels, asked)
+        }
+    }
+}
+
+// What a descriptor decides, where `n` widths are used. A failing fetch isn't in the levels.
+fn took(s: Walking030, n: usize, d: Descriptor) -> Walking030
+    requires { ⌜ (s .target ≡ false → s .levels < 1000) × (s .asked < 1000) × (askedOf d < 1000) ⌝ }
+    ensures { λ r. ⌜ r ≡ tookOf n s d ⌝ }
+{
+    match d {
+        Descriptor::Lost { at, asked } => {
+            let total = s.asked + asked;
+            ended(s, End::BusError { at }, s.wp, s.sup, s.levels, total)
+        }
+        Descriptor::Whole {
+            kind,
+            field,
+            wp,
+            sup,
+            asked,
+        } => {
+            let total = s.asked + asked;
+            if s.target {
+                at_target(s, kind, field, wp, sup, total)
+            } else {
+                at_level(s, n, kind, field, wp, sup, total)
+            }
+        }
+    }
+}
+
+fn is_over(s: Walking030) -> bool
+    ensures { λ r. ⌜ r ≡ s .over ⌝ }
+{
+    s.over
+}
+
+fn end_of(s: Walking030) -> End
+    ensures { λ r. ⌜ r ≡ s .end ⌝ }
+{
+    let end = s.end;
+    end
+}
+
+// Where the next descriptor stands, and whether it is a long one.
+fn wanted(s: Walking030) -> u32
+    ensures { λ r. ⌜ r ≡ s .last ⌝ }
+{
+    s.last
+}
+
+fn wants_long(s: Walking030) -> bool
+    ensures { λ r. ⌜ r ≡ s .long ⌝ }
+{
+    s.long
+}
+
+fn answer(s: Walking030, end: End) -> Walked
+    ensures { λ r. ⌜ r ≡ answered s end ⌝ }
+{
+    Walked {
+        end,
+        wp: s.wp,
+        sup: s.sup,
+        levels: s.levels,
+        last: s.last,
+        asked: s.asked,
+    }
+}
+
+// The walk ends at the first descriptor that decides.
+pub fn walk_030(
+    longs: &[u32],
+    base: u32,
+    ranges: &[Range],
+    g: Registers,
+    address: u32,
+    code: u32,
+    limit: u32,
+) -> Walked
+    ensures { λ r. ⌜ r ≡ shown (walk030 (memory (now (longs .entry)) base (now (ranges .entry))) g address code limit) ⌝ }
+{
+    let tc = tc_of(g);
+    let root = root_of(g, code);
+    let ws = widths(tc);
+    let n = level_count(ws);
+    let mut s = begin_030(tc, root, n);
+    let end = loop {
+        s = aim(s, ws, address, code, limit);
+        if is_over(s) {
+            break end_of(s);
+        }
+        let at = wanted(s);
+        let long = wants_long(s);
+        let d = read_desc(longs, base, ranges, at, long);
+        s = took(s, n, d);
+    };
+    answer(s, end)
+}
