@@ -6,13 +6,16 @@ use mathlib.Core.Bool.{Bool, true, false, not, _&&_, _||_, or-true}
 use native.Mathlib.Omega.{arith}
 use native.Mathlib.Numerals.{add-one}
 use native.Mathlib.Decide.{decLe}
+use native.Mathlib.Nat.{mod-eq-of-lt, lt-of-lt-of-le}
 use borrow.Author.Tests.{eq-eqb, ne-eqb, le-leb, leb-true, leb-false}
 use lib.Dec.{T, leb}
 use lib.ListN.{length, getD, drop}
 use lib.Seq.{drop-cons}
-use Rattle.definition.specs.Words.{if_then_else_}
+use lib.Pow.{field, shl-shr, split, pow-mono}
+use Rattle.definition.specs.Words.{if_then_else_, bitOf}
 use Rattle.definition.specs.Memory.{Memory, within, touchesOf, fetchOf}
-use Rattle.definition.specs.Walk030.{entryOf, shortOf, longOf, readOf, used}
+use Rattle.definition.specs.Walk030.{entryOf, shortOf, longOf, readOf, used, sumOf}
+use Rattle.definition.specs.Walk040.{physical040}
 use Rattle.definition.specs.declared.Fetched.{Fetched}
 use Rattle.definition.specs.declared.Fetched.the-variants.{Long, Failed}
 use Rattle.definition.specs.declared.Descriptor.{Descriptor}
@@ -58,6 +61,31 @@ pub read-two : (m : Memory) (at : ℕ) (long : Bool) {f : Fetched} {a : Bool} {n
     → n ≡ entryOf at 1 false → g ≡ fetchOf m n → d ≡ ofTwo at f g → d ≡ readOf m at long
 unfolding readOf
 read-two m at long {f} {a} {n} {g} {d} ef ea h en eg ed = ed ∙ ap (ofTwo at f) (eg ∙ ap (fetchOf m) en) ∙ two-is m at long f (sym ea ∙ T-false a h) ∙ rw ef
+
+-- the sum of the widths from k on
+pub sum-more : (l : List ℕ) (k : ℕ) → k < length l → sumOf (drop k l) ≡ getD l k 0 + sumOf (drop (k + 1) l)
+sum-more l k h = rw (drop-cons l k 0, add-one)
+
+-- left and right again by the same number keeps the low bits
+pub low-shift : (a c : ℕ) → c < 32 → a * 2 ^ c % 2 ^ 32 / 2 ^ c ≡ a % 2 ^ (32 - c)
+low-shift a c h =
+    let e : 32 - c + c ≡ 32 = omega arith in
+    rw (e, shl-shr a c) at (field (a * 2 ^ c) (32 - c) c)
+
+-- a shift of 32 and more keeps the whole address
+pub whole-address : (a s : ℕ) → a < 2 ^ 32 → 32 ≤ s → a ≡ a % 2 ^ s
+whole-address a s h l = sym (mod-eq-of-lt (lt-of-lt-of-le h (pow-mono {i = 32} {j = s} l)))
+
+-- a 68040 page's frame, and what the address's low bits make of it
+pub frame-is : (page s : ℕ) → page - page % 2 ^ s ≡ page / 2 ^ s * 2 ^ s
+frame-is page s = omega (arith, split page s)
+
+pub frame-room : (tc page address : ℕ) → page < 2 ^ 32 → physical040 tc page address < 2 ^ 32
+frame-room tc page address h = go (bitOf tc 14)
+  where
+    go : (b : Bool) → page / 2 ^ (if b then 13 else 12) * 2 ^ (if b then 13 else 12) + address % 2 ^ (if b then 13 else 12) < 2 ^ 32
+    go true = omega arith
+    go false = omega arith
 
 -- a byte is not within, where its being so is absurd
 not-within : (first last b : ℕ) → (first ≤ b → b ≤ last → ⊥) → within first last b ≡ false

@@ -1,14 +1,17 @@
 // The 68030 and 68040 table walks over lent longs and lent bus-error ranges, and what a page's descriptor gives.
 // A function that is lent the ranges is thin: its proof is a walk by hand, which tools/ prints.
 ghost use mathlib.Core.Path.{_≡_};
-ghost use mathlib.Core.Bool.{false, _||_, _&&_};
-ghost use Prim.Native.Nat.{ℕ, _+_, _*_, _/_, _%_, _<_};
+ghost use mathlib.Core.Bool.{false, not, _||_, _&&_};
+ghost use Prim.Native.Nat.{ℕ, _+_, _*_, _/_, _%_, _^_, _<_};
 ghost use lib.ListN.{length, getD};
+ghost use lib.Dec.{eqb, leb};
 ghost use Rattle.definition.specs.Words.{bitOf, anyOf};
 ghost use Rattle.definition.specs.Memory.{memory, touchesOf, inRanges, fetchWith, fetchOf};
 ghost use Rattle.definition.specs.Refusal.{crossed};
 ghost use Rattle.definition.specs.Registers.{rootOf};
-ghost use Rattle.definition.specs.Walk030.{entryOf, shortOf, readOf, widthsOf, used, topIndex, walk030};
+ghost use Rattle.definition.specs.Walk030.{entryOf, shortOf, readOf, widthsOf, used, topIndex, walk030, lowOf, physicalOf, shiftOf};
+ghost use Rattle.definition.specs.Walk040.{pageBits, frameOf, physical040};
+ghost use Rattle.definition.specs.Translate.{baseOf, hitAddress, joined};
 ghost use Rattle.tables.specs.Walked.{shown};
 ghost use Rattle.tables.specs.Machine.{alone, describedOf, ofTwo, noWalk, beginOf, endedOf, onwardOf, nextK, aimOf, targetEnd, atTarget, atLevel, askedOf, tookOf, answered};
 use definition::Descriptor;
@@ -17,6 +20,7 @@ use definition::Fetched;
 use definition::Range;
 use definition::Registers;
 use definition::Root;
+use definition::Shift;
 
 // ---- One long.
 
@@ -74,6 +78,16 @@ pub fn any_crossed(ranges: &[Range]) -> bool
         i += 1;
     }
     found
+}
+
+// Refusal 2: base not a multiple of 4, or base + 4 x longs above 2^32. It is `badBase` of any memory of `count` longs at `base`.
+pub fn bad_base(count: usize, base: u32) -> bool
+    ensures { λ r. ⌜ r ≡ not (eqb (base % 4) 0 && leb (base + 4 * count) (2 ^ 32)) ⌝ }
+{
+    if count > 1073741824 {
+        return true;
+    }
+    !((base % 4 == 0) & (base as u64 + 4 * count as u64 <= 4294967296))
 }
 
 // The long at `at`, unless it lies outside the longs or the search hit a range.
@@ -596,4 +610,104 @@ pub fn walk_030(
         s = took(s, n, d);
     };
     answer(s, end)
+}
+
+// ---- What a page gives.
+
+// The low 32 - consumed bits of the address (0 if consumed is 32 or more).
+fn low_bits(address: u32, consumed: u32) -> u32
+    ensures { λ r. ⌜ r ≡ lowOf address consumed ⌝ }
+{
+    if consumed < 32 {
+        return (address << consumed) >> consumed;
+    }
+    0
+}
+
+// Physical = (field & FFFFFF00) + the low 32 - consumed bits of the address, wrapping.
+pub fn physical(field: u32, consumed: u32, address: u32) -> u32
+    ensures { λ r. ⌜ r ≡ physicalOf field consumed address ⌝ }
+{
+    let low = low_bits(address, consumed);
+    (((field - field % 256) as u64 + low as u64) % 4294967296) as u32
+}
+
+// The page shift is 32 - (IS + levels up to the first zero) if that sum is 1 to 31; else nothing is cached.
+pub fn page_shift(tc: u32) -> Shift
+    ensures { λ r. ⌜ r ≡ shiftOf tc ⌝ }
+{
+    let ws = widths(tc);
+    let n = level_count(ws);
+    let mut sum = (tc >> 16) % 16;
+    for k in 0..n {
+        sum += ws[k];
+    }
+    match sum {
+        1..=31 => Shift::Bits(32 - sum),
+        _ => Shift::NoPage,
+    }
+}
+
+// The address's low `shift` bits.
+fn in_page(address: u32, shift: u32) -> u32
+    ensures { λ r. ⌜ r ≡ address % 2 ^ shift ⌝ }
+{
+    if shift < 32 {
+        return low_bits(address, 32 - shift);
+    }
+    address
+}
+
+// The page's base that is cached: physical less the address's low page-shift bits, wrapping.
+pub fn page_base(physical: u32, address: u32, shift: u32) -> u32
+    ensures { λ r. ⌜ r ≡ baseOf physical address shift ⌝ }
+{
+    let low = in_page(address, shift);
+    ((physical as u64 + (4294967296 - low as u64)) % 4294967296) as u32
+}
+
+// A hit adds the address's low page-shift bits.
+pub fn hit_address(base: u64, address: u32, shift: u32) -> u32
+    ensures { λ r. ⌜ r ≡ hitAddress base address shift ⌝ }
+{
+    let low = in_page(address, shift);
+    ((base % 4294967296 + low as u64) % 4294967296) as u32
+}
+
+// How many low bits lie in a 68040 page: 13 with TC bit 14, else 12.
+pub fn page_bits(tc: u32) -> u32
+    ensures { λ r. ⌜ r ≡ pageBits tc ⌝ }
+{
+    if bit(tc, 14) {
+        return 13;
+    }
+    12
+}
+
+// The page descriptor without its low 12 (or 13) bits.
+pub fn frame_base(tc: u32, page: u32) -> u32
+    ensures { λ r. ⌜ r ≡ frameOf tc page ⌝ }
+{
+    let bits = page_bits(tc);
+    let low = in_page(page, bits);
+    page - low
+}
+
+// Physical is the page descriptor, its low 12 (or 13) bits replaced by the address's.
+pub fn physical_040(tc: u32, page: u32, address: u32) -> u32
+    ensures { λ r. ⌜ r ≡ physical040 tc page address ⌝ }
+{
+    let frame = frame_base(tc, page);
+    let bits = page_bits(tc);
+    let low = in_page(address, bits);
+    frame + low
+}
+
+// A 68040 hit joins the stored base and the address's low bits by OR.
+pub fn joined_040(tc: u32, base: u64, address: u32) -> u32
+    ensures { λ r. ⌜ r ≡ joined tc base address ⌝ }
+{
+    let bits = page_bits(tc);
+    let low = in_page(address, bits);
+    ((base | low as u64) % 4294967296) as u32
 }
