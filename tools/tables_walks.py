@@ -1,5 +1,5 @@
 # What hand_walk.py is told of the crate `tables`: its enums, what its functions ensure, and the proof at each return.
-ENUMS = {'Fetched', 'Descriptor', 'End'}
+ENUMS = {'Fetched', 'Descriptor', 'End', 'End040'}
 
 USES = [
     'use Rattle.definition.specs.Words.{anyOf}',
@@ -7,8 +7,10 @@ USES = [
     'use Rattle.definition.specs.Refusal.{crossed}',
     'use Rattle.definition.specs.Registers.{rootOf}',
     'use Rattle.definition.specs.Walk030.{entryOf, shortOf, readOf, widthsOf, used, walk030}',
-    'use Rattle.tables.specs.Walked.{shown}',
-    'use Rattle.tables.specs.Machine.{noRange, alone, ofTwo, beginOf, aimOf, tookOf, askedOf, answered}',
+    'use Rattle.definition.specs.Walk040.{walk040}',
+    'use Rattle.tables.specs.Walked.{shown, shown040}',
+    'use Rattle.tables.specs.Machine030.{alone, ofTwo, beginOf, aimOf, tookOf, askedOf, answered}',
+    'use Rattle.tables.specs.Machine040.{begin040, took040, answered040}',
 ]
 
 
@@ -46,6 +48,15 @@ CALLEES = {
         says=lambda s, n, d, r: f'{r} ≡ tookOf {n} {s} {d}'),
     'answer': dict(says=lambda s, end, r: f'{r} ≡ answered {s} {end}'),
     'walk_030': dict(says=lambda longs, base, ranges, g, address, code, limit, r: f'{r} ≡ shown (walk030 {memory(longs, base, ranges)} {g} {address} {code} {limit})'),
+    'begin_040': dict(says=lambda g, supervisor, address, r: f'{r} ≡ begin040 {g} {supervisor} {address}'),
+    'is_over_040': dict(says=lambda s, r: f'{r} ≡ {s} .over'),
+    'end_of_040': dict(says=lambda s, r: f'{r} ≡ {s} .end'),
+    'wanted_040': dict(says=lambda s, r: f'{r} ≡ {s} .at'),
+    'took_040': dict(
+        asks=lambda s, g, address, x: f'{s} .asked < 1000',
+        says=lambda s, g, address, x, r: f'{r} ≡ took040 ({g} .tc) {address} {s} {x}'),
+    'answer_040': dict(says=lambda s, end, r: f'{r} ≡ answered040 {s} {end}'),
+    'walk_040': dict(says=lambda longs, base, ranges, g, address, supervisor, r: f'{r} ≡ shown040 (walk040 {memory(longs, base, ranges)} {g} {address} {supervisor})'),
 }
 
 
@@ -71,7 +82,7 @@ def search(name, test, vars):
     return dict(
         says=CALLEES[name]['says'],
         uses=['use Rattle.tables.proofs.Searching as law'],
-        size=8, default='noRange',
+        size=8, default='law.none',
         fits=lambda op, a, b: 'law.mul-fits (t .0) h1 (i1 .0 .1 .1)' if op == 'mul' else 'law.add-fits (t .0) h1 (i1 .0 .1 .0)',
         inside=lambda i: '(law.inside (t .0) h1)',
         loop=dict(
@@ -92,6 +103,14 @@ WALK030 = f'{MEMORY} (x4 .tc) (rootOf x4 x6) x5 x6 x7'
 
 def read030(facts):
     return all_facts(facts, 'aim', 'is_over', 'else', 'wanted', 'wants_long', 'read_desc')
+
+
+# the 68040 walk: x4 are the registers, x5 the address, x6 whether it is a supervisor's
+WALK040 = f'{MEMORY} x4 x5 x6'
+
+
+def asked040(facts):
+    return all_facts(facts, 'is_over_040', 'else', 'wanted_040', 'fetch', 'took_040')
 
 
 FUNCTIONS = {
@@ -123,6 +142,20 @@ FUNCTIONS = {
             next=lambda t, h, fs, v: f'law.next {WALK030} ({t}) {read030(fs)} {fact(fs, "took")}',
             less=lambda t, h, fs: f'law.turned {WALK030} ({t}) {read030(fs)} {fact(fs, "took")} .1',
             ends=lambda t, h, fs: f'law.ends {WALK030} ({t}) {all_facts(fs, "aim", "is_over")} {h} {all_facts(fs, "end_of", "answer")}',
+        ),
+    ),
+    'walk_040': dict(
+        says=CALLEES['walk_040']['says'],
+        uses=['use Rattle.tables.proofs.Driving040 as law'],
+        pre={'took_040': lambda fs: f'law.took-asks {WALK040} (t .0) {all_facts(fs, "is_over_040", "else")}'},
+        loop=dict(
+            vars={7: 's'},
+            state='law.Turn ' + WALK040,
+            measure=lambda t: f'law.left {WALK040} ({t})',
+            start=lambda fs, v: f'law.begin {WALK040} {fact(fs, "begin_040")}',
+            next=lambda t, h, fs, v: f'law.next {WALK040} ({t}) {asked040(fs)}',
+            less=lambda t, h, fs: f'law.less {WALK040} ({t}) {asked040(fs)}',
+            ends=lambda t, h, fs: f'law.ends {WALK040} ({t}) {fact(fs, "is_over_040")} {h} {all_facts(fs, "end_of_040", "answer_040")}',
         ),
     ),
 }

@@ -17,7 +17,7 @@ use Rattle.definition.specs.declared.Descriptor.{Descriptor}
 use Rattle.definition.specs.declared.Descriptor.the-variants.{Whole, Lost}
 use Rattle.definition.specs.declared.End.{End}
 use Rattle.tables.specs.Walked.{shown}
-use Rattle.tables.specs.Machine.{beginOf, nextK, aimOf, tookOf, askedOf, answered}
+use Rattle.tables.specs.Machine030.{beginOf, nextK, aimOf, tookOf, askedOf, answered}
 use Rattle.tables.specs.declared.Walked.{Walked}
 use Rattle.tables.specs.declared.Walking030.{Walking030}
 use Rattle.tables.proofs.Lemmas.{T-true, T-false, clash}

@@ -19,7 +19,7 @@ use Rattle.definition.specs.Walk040.{physical040}
 use Rattle.definition.specs.declared.Fetched.{Fetched}
 use Rattle.definition.specs.declared.Fetched.the-variants.{Long, Failed}
 use Rattle.definition.specs.declared.Descriptor.{Descriptor}
-use Rattle.tables.specs.Machine.{alone, ofTwo}
+use Rattle.tables.specs.Machine030.{alone, ofTwo}
 
 -- a test that holds, and one that does not
 pub T-true : (b : Bool) → T b → b ≡ true

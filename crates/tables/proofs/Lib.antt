@@ -4,3 +4,4 @@ pub mod Branching
 pub mod Ways030
 pub mod Steps030
 pub mod Driving030
+pub mod Driving040

@@ -10,7 +10,10 @@ use lib.Dec.{T, ltb, ltb→lt, nltb→le}
 use lib.Seq.{drop-cons}
 use Rattle.definition.specs.Words.{anyOf}
 use Rattle.definition.specs.declared.Range.{Range}
-use Rattle.tables.specs.Machine.{noRange as none}
+
+-- what stands past the last range
+abbrev pub none : Range
+none = record { first = 0; last = 0 }
 
 pub record Seen (p : Range → Bool) (xs : List Range) : Type 0 where
   pub i : ℕ

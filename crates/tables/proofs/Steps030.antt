@@ -12,7 +12,7 @@ use Rattle.definition.specs.Walk030.{entryOf, topIndex}
 use Rattle.definition.specs.declared.Descriptor.{Descriptor}
 use Rattle.definition.specs.declared.Descriptor.the-variants.{Whole, Lost}
 use Rattle.definition.specs.declared.End.the-variants.{Page, Invalid, LevelStop, BusError}
-use Rattle.tables.specs.Machine.{endedOf, onwardOf, aimedOf, nextK, aimOf, atTarget, atLevel, tookOf}
+use Rattle.tables.specs.Machine030.{endedOf, onwardOf, aimedOf, nextK, aimOf, atTarget, atLevel, tookOf}
 use Rattle.tables.specs.declared.Walking030.{Walking030}
 
 -- ---- at a level's descriptor

@@ -1,2 +1,3 @@
 pub mod Walked
-pub mod Machine
+pub mod Machine030
+pub mod Machine040

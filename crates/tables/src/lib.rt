@@ -10,12 +10,15 @@ ghost use Rattle.definition.specs.Memory.{memory, touchesOf, inRanges, fetchWit
 ghost use Rattle.definition.specs.Refusal.{crossed};
 ghost use Rattle.definition.specs.Registers.{rootOf};
 ghost use Rattle.definition.specs.Walk030.{entryOf, shortOf, readOf, widthsOf, used, topIndex, walk030, lowOf, physicalOf, shiftOf};
-ghost use Rattle.definition.specs.Walk040.{pageBits, frameOf, physical040};
+ghost use Rattle.definition.specs.Walk040.{rootAt, pointerAt, pageAt, walk040, pageBits, frameOf, physical040};
 ghost use Rattle.definition.specs.Translate.{baseOf, hitAddress, joined};
-ghost use Rattle.tables.specs.Walked.{shown};
-ghost use Rattle.tables.specs.Machine.{alone, describedOf, ofTwo, noWalk, beginOf, endedOf, onwardOf, nextK, aimOf, targetEnd, atTarget, atLevel, askedOf, tookOf, answered};
+ghost use Rattle.tables.specs.Walked.{shown, shown040};
+ghost use Rattle.tables.specs.Machine030.{alone, describedOf, ofTwo, noWalk, beginOf, endedOf, onwardOf, nextK, aimOf, targetEnd, atTarget, atLevel, askedOf, tookOf, answered};
+ghost use Rattle.tables.specs.Machine040.{onward040, over040, begin040, pageEnd, decidedOf, took040, answered040};
 use definition::Descriptor;
 use definition::End;
+use definition::End040;
+use definition::FaultCause;
 use definition::Fetched;
 use definition::Range;
 use definition::Registers;
@@ -610,6 +613,200 @@ pub fn walk_030(
         s = took(s, n, d);
     };
     answer(s, end)
+}
+
+// ---- The 68040 walk.
+
+// How a 68040 walk ended, and the number of longs asked for.
+pub struct Walked040 {
+    pub end: End040,
+    pub asked: u32,
+}
+
+// What a long of a 68040 walk is: an entry of one of the three tables, or the target of an indirect one.
+enum Level {
+    Root,
+    Pointer,
+    Page,
+    Target,
+}
+
+// Where a 68040 walk stands between two longs: the one at `at` is next, `wp` is W of the levels above it.
+struct Walking040 {
+    over: bool,
+    end: End040,
+    level: Level,
+    wp: bool,
+    at: u32,
+    asked: u32,
+}
+
+// Root SRP (supervisor) or CRP & FFFFFE00, index bits 31:25.
+fn root_at(g: Registers, supervisor: bool, address: u32) -> u32
+    ensures { λ r. ⌜ r ≡ rootAt g supervisor address ⌝ }
+{
+    let mut root = g.crp.address;
+    if supervisor {
+        root = g.srp.address;
+    }
+    entry(root - root % 512, (address >> 25) % 128, false)
+}
+
+// Table & FFFFFE00, index 24:18.
+fn pointer_at(root: u32, address: u32) -> u32
+    ensures { λ r. ⌜ r ≡ pointerAt root address ⌝ }
+{
+    entry(root - root % 512, (address >> 18) % 128, false)
+}
+
+// Page table & FFFFFF00 with 17:12, or with TC bit 14 & FFFFFF80 with 17:13.
+fn page_at(tc: u32, pointer: u32, address: u32) -> u32
+    ensures { λ r. ⌜ r ≡ pageAt tc pointer address ⌝ }
+{
+    if bit(tc, 14) {
+        return entry(pointer - pointer % 128, (address >> 13) % 32, false);
+    }
+    entry(pointer - pointer % 256, (address >> 12) % 64, false)
+}
+
+// A long of this level is asked for next.
+fn onward_040(level: Level, wp: bool, at: u32, asked: u32) -> Walking040
+    ensures { λ r. ⌜ r ≡ onward040 level wp at asked ⌝ }
+{
+    Walking040 {
+        over: false,
+        end: End040::Lost { at },
+        level,
+        wp,
+        at,
+        asked,
+    }
+}
+
+// The walk ends here.
+fn over_040(end: End040, asked: u32) -> Walking040
+    ensures { λ r. ⌜ r ≡ over040 end asked ⌝ }
+{
+    Walking040 {
+        over: true,
+        end,
+        level: Level::Root,
+        wp: false,
+        at: 0,
+        asked,
+    }
+}
+
+fn begin_040(g: Registers, supervisor: bool, address: u32) -> Walking040
+    ensures { λ r. ⌜ r ≡ begin040 g supervisor address ⌝ }
+{
+    let at = root_at(g, supervisor, address);
+    onward_040(Level::Root, false, at, 0)
+}
+
+// Only type 0 is invalid. `wp` is W of all three levels; S is bit 7 of the page.
+fn page_end(missing: FaultCause, wp: bool, page: u32) -> End040
+    ensures { λ r. ⌜ r ≡ pageEnd missing wp page ⌝ }
+{
+    if page % 4 == 0 {
+        return End040::Absent(missing);
+    }
+    let sup = bit(page, 7);
+    End040::Resident {
+        field: page,
+        wp,
+        sup,
+    }
+}
+
+// What a long decides, with W of the levels above it: type below 2 PointerA, or PointerB. Type 2 of a page table is indirect at
+// & FFFFFFFC, fetched once. W is bit 2 of any of the three, the target in place of the indirect one.
+fn decided(tc: u32, address: u32, level: Level, wp: bool, x: u32, asked: u32) -> Walking040
+    ensures { λ r. ⌜ r ≡ decidedOf tc address level wp x asked ⌝ }
+{
+    let w = bit(x, 2);
+    match level {
+        Level::Root => match x % 4 {
+            0..=1 => over_040(End040::Absent(FaultCause::PointerA), asked),
+            _ => onward_040(Level::Pointer, wp | w, pointer_at(x, address), asked),
+        },
+        Level::Pointer => match x % 4 {
+            0..=1 => over_040(End040::Absent(FaultCause::PointerB), asked),
+            _ => onward_040(Level::Page, wp | w, page_at(tc, x, address), asked),
+        },
+        Level::Page => match x % 4 {
+            2 => onward_040(Level::Target, wp, target_of(x), asked),
+            _ => over_040(page_end(FaultCause::PageFault, wp | w, x), asked),
+        },
+        Level::Target => over_040(page_end(FaultCause::Indirect, wp | w, x), asked),
+    }
+}
+
+// The long at `at` was asked for: it decides, or it failed.
+fn took_040(s: Walking040, g: Registers, address: u32, x: Fetched) -> Walking040
+    requires { ⌜ s .asked < 1000 ⌝ }
+    ensures { λ r. ⌜ r ≡ took040 (g .tc) address s x ⌝ }
+{
+    let asked = s.asked + 1;
+    match x {
+        Fetched::Failed => over_040(End040::Lost { at: s.at }, asked),
+        Fetched::Long(long) => {
+            let level = s.level;
+            decided(g.tc, address, level, s.wp, long, asked)
+        }
+    }
+}
+
+fn is_over_040(s: Walking040) -> bool
+    ensures { λ r. ⌜ r ≡ s .over ⌝ }
+{
+    s.over
+}
+
+fn end_of_040(s: Walking040) -> End040
+    ensures { λ r. ⌜ r ≡ s .end ⌝ }
+{
+    let end = s.end;
+    end
+}
+
+// Where the next long stands.
+fn wanted_040(s: Walking040) -> u32
+    ensures { λ r. ⌜ r ≡ s .at ⌝ }
+{
+    s.at
+}
+
+fn answer_040(s: Walking040, end: End040) -> Walked040
+    ensures { λ r. ⌜ r ≡ answered040 s end ⌝ }
+{
+    Walked040 {
+        end,
+        asked: s.asked,
+    }
+}
+
+// The 68040 walk, also for family 60.
+pub fn walk_040(
+    longs: &[u32],
+    base: u32,
+    ranges: &[Range],
+    g: Registers,
+    address: u32,
+    supervisor: bool,
+) -> Walked040
+    ensures { λ r. ⌜ r ≡ shown040 (walk040 (memory (now (longs .entry)) base (now (ranges .entry))) g address supervisor) ⌝ }
+{
+    let mut s = begin_040(g, supervisor, address);
+    let end = loop {
+        if is_over_040(s) {
+            break end_of_040(s);
+        }
+        let at = wanted_040(s);
+        let x = fetch(longs, base, ranges, at);
+        s = took_040(s, g, address, x);
+    };
+    answer_040(s, end)
 }
 
 // ---- What a page gives.

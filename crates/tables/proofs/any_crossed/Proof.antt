@@ -51,7 +51,7 @@ use Rattle.definition.specs.Refusal.{crossed}
 use Rattle.definition.specs.Registers.{rootOf}
 use Rattle.definition.specs.Walk030.{entryOf, shortOf, readOf, widthsOf, used, walk030}
 use Rattle.tables.specs.Walked.{shown}
-use Rattle.tables.specs.Machine.{noRange, alone, ofTwo, beginOf, aimOf, tookOf, askedOf, answered}
+use Rattle.tables.specs.Machine030.{alone, ofTwo, beginOf, aimOf, tookOf, askedOf, answered}
 use Rattle.definition.specs.declared.Range.{Range}
 use Rattle.definition.proofs.Range as row-Range
 use Rattle.definition.proofs.Range.Laws as law-Range
@@ -141,15 +141,15 @@ module _ {M : Type 1} (𝓤 : URA M) (H : Heap 𝓤) (A : Atoms 𝓤) (W : Given
           rewrite ! 6 (λ (p : ℕ). ‵ (fat fullShare tyPtr l6 0 (vptr (x1 .ptr .0) p))) (sym (place-is 8 (x1 .ptr .1) (t .0 .i))) refl $ move ! (17 ∷ []) $
           use1 W (‵ ((ShrSlice (named 0) κ0 row-Range.the-row) .own x1 (sliceVal (x1 .ptr) (length (x1 .now)) ∷ [])) ⊛ ‵ ((ShrSlice (named 0) κ0 row-Range.the-row) .own x1 (sliceVal (x1 .ptr) (length (x1 .now)) ∷ []))) (shr-slice-copy 𝓤 H A W (named 0) κ0 row-Range.the-row .twice x1 _) $
           split ! $ fsplit ! $ drop ! $ fsplit ! $ drop ! $ move ! (0 ∷ 18 ∷ []) $
-          looks-slice ! tt row-Range.the-row (Is row-Range.the-row) (shows 𝓤 H A row-Range.the-row) (LL.vals row-Range.the-type law-Range.the-laws) (LL.tells row-Range.the-type law-Range.the-laws) (LL.copy row-Range.the-type law-Range.the-copy 𝓤 H A W) (x1 .now) (x1 .ptr .0) (x1 .ptr .1) (λ s2. elem-out ! row-Range.the-row (Is row-Range.the-row) (shows 𝓤 H A row-Range.the-row) (LL.vals row-Range.the-type law-Range.the-laws) (LL.tells row-Range.the-type law-Range.the-laws) s2 (x1 .now) (t .0 .i) noRange (x1 .ptr .0) (x1 .ptr .1) (law.inside (t .0) h1) (λ g3.
-          use1 W (‵ (fat s2 law-Range.mir (x1 .ptr .0) (place 8 (x1 .ptr .1) (t .0 .i)) (LL.val row-Range.the-type law-Range.the-laws (getD (x1 .now) (t .0 .i) noRange)))) (W .laws .raw-at s2 law-Range.mir (x1 .ptr .0) (place 8 (x1 .ptr .1) (t .0 .i)) (LL.val row-Range.the-type law-Range.the-laws (getD (x1 .now) (t .0 .i) noRange))) $
-          assigns ! (of-opd ! (load ! (from ! (hop ! (look ! 12 refl) (stop !))) (look ! 0 refl))) (from ! (stop !)) (init ! 13 refl (LL.lawful row-Range.the-type law-Range.the-laws 𝓤 H A W .typed (getD (x1 .now) (t .0 .i) noRange) _ g3 .0)) $
-          use1 W (‵ (cellAt s2 (row-Range.the-row .mir) (LL.val row-Range.the-type law-Range.the-laws (getD (x1 .now) (t .0 .i) noRange) ∷ []) (x1 .ptr .0) (place 8 (x1 .ptr .1) (t .0 .i)))) (W .laws .at-raw s2 law-Range.mir (x1 .ptr .0) (place 8 (x1 .ptr .1) (t .0 .i)) (LL.val row-Range.the-type law-Range.the-laws (getD (x1 .now) (t .0 .i) noRange))) $
-          elem-back ! row-Range.the-row s2 (x1 .now) (t .0 .i) noRange (LL.val row-Range.the-type law-Range.the-laws (getD (x1 .now) (t .0 .i) noRange) ∷ []) (x1 .ptr .0) (x1 .ptr .1) (law.inside (t .0) h1) $
+          looks-slice ! tt row-Range.the-row (Is row-Range.the-row) (shows 𝓤 H A row-Range.the-row) (LL.vals row-Range.the-type law-Range.the-laws) (LL.tells row-Range.the-type law-Range.the-laws) (LL.copy row-Range.the-type law-Range.the-copy 𝓤 H A W) (x1 .now) (x1 .ptr .0) (x1 .ptr .1) (λ s2. elem-out ! row-Range.the-row (Is row-Range.the-row) (shows 𝓤 H A row-Range.the-row) (LL.vals row-Range.the-type law-Range.the-laws) (LL.tells row-Range.the-type law-Range.the-laws) s2 (x1 .now) (t .0 .i) law.none (x1 .ptr .0) (x1 .ptr .1) (law.inside (t .0) h1) (λ g3.
+          use1 W (‵ (fat s2 law-Range.mir (x1 .ptr .0) (place 8 (x1 .ptr .1) (t .0 .i)) (LL.val row-Range.the-type law-Range.the-laws (getD (x1 .now) (t .0 .i) law.none)))) (W .laws .raw-at s2 law-Range.mir (x1 .ptr .0) (place 8 (x1 .ptr .1) (t .0 .i)) (LL.val row-Range.the-type law-Range.the-laws (getD (x1 .now) (t .0 .i) law.none))) $
+          assigns ! (of-opd ! (load ! (from ! (hop ! (look ! 12 refl) (stop !))) (look ! 0 refl))) (from ! (stop !)) (init ! 13 refl (LL.lawful row-Range.the-type law-Range.the-laws 𝓤 H A W .typed (getD (x1 .now) (t .0 .i) law.none) _ g3 .0)) $
+          use1 W (‵ (cellAt s2 (row-Range.the-row .mir) (LL.val row-Range.the-type law-Range.the-laws (getD (x1 .now) (t .0 .i) law.none) ∷ []) (x1 .ptr .0) (place 8 (x1 .ptr .1) (t .0 .i)))) (W .laws .at-raw s2 law-Range.mir (x1 .ptr .0) (place 8 (x1 .ptr .1) (t .0 .i)) (LL.val row-Range.the-type law-Range.the-laws (getD (x1 .now) (t .0 .i) law.none))) $
+          elem-back ! row-Range.the-row s2 (x1 .now) (t .0 .i) law.none (LL.val row-Range.the-type law-Range.the-laws (getD (x1 .now) (t .0 .i) law.none) ∷ []) (x1 .ptr .0) (x1 .ptr .1) (law.inside (t .0) h1) $
           shuts-slice ! tt row-Range.the-row s2 (x1 .now) (x1 .ptr .0) (x1 .ptr .1) $ move ! (1 ∷ []) $ drop ! $
-          use0 W (raw (C0 𝓤 H A mem run .pre (to-0 (t .0 .hit) (vbool (t .0 .hit)) (getD (x1 .now) (t .0 .i) noRange) (LL.val row-Range.the-type law-Range.the-laws (getD (x1 .now) (t .0 .i) noRange))))) (goes-0 (t .0 .hit) (vbool (t .0 .hit)) (getD (x1 .now) (t .0 .i) noRange) (LL.val row-Range.the-type law-Range.the-laws (getD (x1 .now) (t .0 .i) noRange)) (t .1 .1 .0) g3) $
-          calls-at ! fm (C0 𝓤 H A mem run) known-0 (to-0 (t .0 .hit) (vbool (t .0 .hit)) (getD (x1 .now) (t .0 .i) noRange) (LL.val row-Range.the-type law-Range.the-laws (getD (x1 .now) (t .0 .i) noRange))) (and-then ! (load ! (from ! (stop !)) (look ! 5 refl)) (and-then ! (load ! (from ! (stop !)) (look ! 10 refl)) (no-more !))) (λ u4.
-          use1 W (later (some (λ (r : Bool). (‵ ftrue ⊛ ‵ (Boolean .own r (u4 ∷ []))) ⊛ raw (ensured 𝓤 H A c0.ended (c0.clauses 𝓤 H A mem run) tt (t .0 .hit, (getD (x1 .now) (t .0 .i) noRange, tt)) tt r)))) (id⊢ 𝓤 _) $ await ! tt $ choose ! (λ r5. split ! $ move ! (1 ∷ []) $ use1 W (raw (fact 𝓤 (r5 ≡ ((t .0 .hit) || crossed (getD (x1 .now) (t .0 .i) noRange))))) (said-0 (t .0 .hit) (getD (x1 .now) (t .0 .i) noRange) r5) $ heard ! (r5 ≡ ((t .0 .hit) || crossed (getD (x1 .now) (t .0 .i) noRange))) (λ e6. split ! $
+          use0 W (raw (C0 𝓤 H A mem run .pre (to-0 (t .0 .hit) (vbool (t .0 .hit)) (getD (x1 .now) (t .0 .i) law.none) (LL.val row-Range.the-type law-Range.the-laws (getD (x1 .now) (t .0 .i) law.none))))) (goes-0 (t .0 .hit) (vbool (t .0 .hit)) (getD (x1 .now) (t .0 .i) law.none) (LL.val row-Range.the-type law-Range.the-laws (getD (x1 .now) (t .0 .i) law.none)) (t .1 .1 .0) g3) $
+          calls-at ! fm (C0 𝓤 H A mem run) known-0 (to-0 (t .0 .hit) (vbool (t .0 .hit)) (getD (x1 .now) (t .0 .i) law.none) (LL.val row-Range.the-type law-Range.the-laws (getD (x1 .now) (t .0 .i) law.none))) (and-then ! (load ! (from ! (stop !)) (look ! 5 refl)) (and-then ! (load ! (from ! (stop !)) (look ! 10 refl)) (no-more !))) (λ u4.
+          use1 W (later (some (λ (r : Bool). (‵ ftrue ⊛ ‵ (Boolean .own r (u4 ∷ []))) ⊛ raw (ensured 𝓤 H A c0.ended (c0.clauses 𝓤 H A mem run) tt (t .0 .hit, (getD (x1 .now) (t .0 .i) law.none, tt)) tt r)))) (id⊢ 𝓤 _) $ await ! tt $ choose ! (λ r5. split ! $ move ! (1 ∷ []) $ use1 W (raw (fact 𝓤 (r5 ≡ ((t .0 .hit) || crossed (getD (x1 .now) (t .0 .i) law.none))))) (said-0 (t .0 .hit) (getD (x1 .now) (t .0 .i) law.none) r5) $ heard ! (r5 ≡ ((t .0 .hit) || crossed (getD (x1 .now) (t .0 .i) law.none))) (λ e6. split ! $
           drop ! $ facts ! Boolean (Is Boolean) (shows 𝓤 H A Boolean) r5 (u4 ∷ []) (λ is7. land ! (from ! (stop !)) (store ! 4 refl (bool-lawful 𝓤 H A W .typed r5 _ is7 .0)) $
           rewrite ! 4 (λ (u : Val). ‵ (fat fullShare tyBool l2 0 u)) (ap only (bool-tells r5 _ is7)) refl $
           assigns-last ! (bin ! (load ! (from ! (stop !)) (look ! 5 refl)) (lit ! tt) (record { fits = law.add-fits (t .0) h1 (i1 .0 .1 .0) })) (from ! (stop !)) (store ! 5 refl (uint-lawful 𝓤 H A W w64 .typed ((t .0 .i) + 1) _ (refl, law.add-fits (t .0) h1 (i1 .0 .1 .0)) .0)) $

@@ -51,7 +51,7 @@ use Rattle.definition.specs.Refusal.{crossed}
 use Rattle.definition.specs.Registers.{rootOf}
 use Rattle.definition.specs.Walk030.{entryOf, shortOf, readOf, widthsOf, used, walk030}
 use Rattle.tables.specs.Walked.{shown}
-use Rattle.tables.specs.Machine.{noRange, alone, ofTwo, beginOf, aimOf, tookOf, askedOf, answered}
+use Rattle.tables.specs.Machine030.{alone, ofTwo, beginOf, aimOf, tookOf, askedOf, answered}
 use Rattle.definition.specs.declared.Descriptor.{Descriptor}
 use Rattle.definition.proofs.Descriptor as row-Descriptor
 use Rattle.definition.proofs.Descriptor.Laws as law-Descriptor

@@ -1,4 +1,5 @@
--- The walks as machines: what is known between two descriptors, and what one descriptor changes. This serves the code alone; the meaning is `definition`'s.
+-- The 68030 walk as a machine: what is known between two descriptors, and what one descriptor changes.
+-- This serves the code alone; the meaning is `Walk030` of `definition`.
 use Prim.Native.Nat.{ℕ, _+_, _*_, _/_, _%_, _^_}
 use mathlib.Core.List.{List}
 use mathlib.Core.Bool.{Bool, true, false, not, _&&_, _||_}
@@ -12,14 +13,9 @@ use Rattle.definition.specs.declared.Descriptor.{Descriptor}
 use Rattle.definition.specs.declared.Descriptor.the-variants.{Whole, Lost}
 use Rattle.definition.specs.declared.End.{End}
 use Rattle.definition.specs.declared.End.the-variants.{Page, Invalid, LevelStop, BusError, Config}
-use Rattle.definition.specs.declared.Range.{Range}
 use Rattle.definition.specs.declared.Root.{Root}
 use Rattle.tables.specs.declared.Walked.{Walked}
 use Rattle.tables.specs.declared.Walking030.{Walking030}
-
--- what stands past the end of a list of ranges
-abbrev pub noRange : Range
-noRange = record { first = 0; last = 0 }
 
 -- ---- one 68030 descriptor
 -- the first long settles it: it failed, or the descriptor is short
