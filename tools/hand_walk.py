@@ -312,7 +312,8 @@ class Gen:
         w.say('done !')
         askb = f'(pre : {asks(*a)}) ' if asks else ''
         src = f'⋆ 𝓤 H A ({lst(its)})' if its else 'emp 𝓤'
-        L.append(f'''  goes-{k} : {bind} {isb} {askb}→ ent 𝓤 ({src}) (C{k} 𝓤 H A mem run .pre (to-{k} {av}))
+        given = f'{bind} {isb} {askb}→ ' if n else ''
+        L.append(f'''  goes-{k} : {given}ent 𝓤 ({src}) (C{k} 𝓤 H A mem run .pre (to-{k} {av}))
   goes-{k} {av} {' '.join(f'i{j}' for j, p in enumerate(ps) if p.kind != 'slice')} {'pre ' if asks else ''}=
       qed W ({lst(its)}) ∵ {' $ '.join(w.out)}''')
         L.append(f'''  said-{k} : {abind} (r : {T(R).denot()}) → ent 𝓤 (ensured 𝓤 H A c{k}.ended (c{k}.clauses 𝓤 H A mem run) {kk} {nest(a)} tt r) (fact 𝓤 ({says}))
@@ -397,7 +398,7 @@ class Gen:
         j = self.f.lifetimes; b = f'l{arr}'; n = par(c['x']); xs = par(av['x'])
         fst = f'(take {n} {xs})'; rest = f'(drop-of {n} {xs})'
         w.say(f'assigns ! (agg ! (and-then ! ({e1}) (and-then ! ({e2}) (no-more !)))) (from ! (stop !)) (init ! {w.at("L%d" % d)} refl (tt, (tt, (record {{ fits = {c["i"]} .1 }}, tt))))')
-        w.say(f'rewrite ! {w.at("L%d" % d)} (λ (m : ℕ). ‵ (fat fullShare {T(self.f.locals[d]).mir()} l{d} 0 (sliceVal ({b}, 0) m))) {par(self.c["count"])} refl')
+        w.say(f'rewrite ! {w.at("L%d" % d)} (λ (m : ℕ). ‵ (fat fullShare {T(self.f.locals[d]).mir()} l{d} 0 (sliceVal ({b}, 0) m))) {par(self.c["count"](self.facts))} refl')
         w.move(f'L{arr}')
         w.say(f'use1 W (‵ (row {R} fullShare {xs} {b} 0)) (lending.out 𝓤 H A W {R} tt {E.makes()} {N} {xs} _ {b} 0 {av["i"]})')
         size = self.c['size']
@@ -410,7 +411,7 @@ class Gen:
         g = self.fresh('γ')
         sl = f'(record {{ ptr = ({b}, 0); name = {g}; now = {fst} }})'
         own = f'ShrSlice (named {j}) (α{j} ∷ []) {R} .own {sl} (sliceVal ({b}, 0) (length {fst}) ∷ [])'
-        w.say(f'use1 W (later (some (λ ({g} : GName). ‵ ({own}) ⊛ ‵ (flent (α{j} ∷ []) {held})))) (lends-shr-slice 𝓤 H A W {R} (named {j}) (α{j} ∷ []) fullShare {fst} {b} 0 {par(self.c["room"])}) $ await ! tt $ choose ! (λ {g}. split !'); w.close += 1
+        w.say(f'use1 W (later (some (λ ({g} : GName). ‵ ({own}) ⊛ ‵ (flent (α{j} ∷ []) {held})))) (lends-shr-slice 𝓤 H A W {R} (named {j}) (α{j} ∷ []) fullShare {fst} {b} 0 {par(self.c["room"](self.facts))}) $ await ! tt $ choose ! (λ {g}. split !'); w.close += 1
         w.pop(); w.push(f'S{d}', 'lent')
         t = Ty('slice', lft=j, elem=av['t'].elem)
         w.vals[d] = dict(t=t, x=sl, v=f'sliceVal ({b}, 0) (length {fst})', i=None, fresh=d)
@@ -732,7 +733,7 @@ use denote.Triple.Call.{calls-at, calls-at-last}
 use denote.Triple.Entry.{Vals, onEntry}
 use denote.Triple.Spec.{Meets, tripleOf}
 use denote.Triple.Table.{entered, cited}
-use denote.Triple.Walked.{says, needs, Stays, stay-none, stay-none-slice, walkOf as walk-of, AllGo, goes-none, goes-none-slice, Walks, ends-at, walked, walk-meets}
+use denote.Triple.Walked.{says, needs, Stays, stay-none, stay-none-slice, walkOf as walk-of, AllGo, goes-none, goes-none-slice, Walks as AllWalks, ends-at, walked, walk-meets}
 use denote.Triple.Clauses.{ensured, lasts}
 use denote.Exit.{yes}''')
         if self.muts():
@@ -894,7 +895,7 @@ use lib.ListN.{take, drop as drop-of}''')
         if asks: body = f'needs 𝓤 _ _ (λ pre. {inner} pre 𝓣 {kns})'
         else: body = f'via 𝓤 _ (fst∗ 𝓤 _ (emp 𝓤)) ({inner} 𝓣 {kns})'
         o.append(f'''module _ {HD} (W : Given 𝓤 H A) (mem : Memory → SProp 𝓤) (run : Routine → Fun 𝓤) (𝓣 : Tables 𝓤 H) where
-  self-walks : {kty[3:] + ' → ' if kty else ''}Walks 𝓤 H A self.ended stayed (WpFn 𝓤 H (𝓣 .C) (𝓣 .Λ) code.function) (self.clauses 𝓤 H A mem run)
+  self-walks : {kty[3:] + ' → ' if kty else ''}AllWalks 𝓤 H A self.ended stayed (WpFn 𝓤 H (𝓣 .C) (𝓣 .Λ) code.function) (self.clauses 𝓤 H A mem run)
   self-walks {kns} = walked 𝓤 H A self.ended stayed (self.clauses 𝓤 H A mem run) (WpFn 𝓤 H (𝓣 .C) (𝓣 .Λ) code.function) (λ κs. {sp}) (λ κs. {tl})
       (λ κs qs bounds a g are. {body})
 

@@ -1,5 +1,5 @@
 # What hand_walk.py is told of the crate `tables`: its enums, what its functions ensure, and the proof at each return.
-ENUMS = {'Fetched', 'Descriptor', 'End', 'End040'}
+ENUMS = {'Fetched', 'Descriptor', 'End', 'End040', 'Way', 'Walks'}
 
 USES = [
     'use Rattle.definition.specs.Words.{anyOf}',
@@ -8,7 +8,8 @@ USES = [
     'use Rattle.definition.specs.Registers.{rootOf}',
     'use Rattle.definition.specs.Walk030.{entryOf, shortOf, readOf, widthsOf, used, walk030}',
     'use Rattle.definition.specs.Walk040.{walk040}',
-    'use Rattle.tables.specs.Walked.{shown, shown040}',
+    'use Rattle.tables.specs.Walked.{shown, shown040, walksOf}',
+    'use Rattle.tables.specs.Choice.{idle, by030, codeBy, limitBy, supervisorBy, ofSixteen}',
     'use Rattle.tables.specs.Machine030.{alone, ofTwo, beginOf, aimOf, tookOf, askedOf, answered}',
     'use Rattle.tables.specs.Machine040.{begin040, took040, answered040}',
 ]
@@ -57,6 +58,16 @@ CALLEES = {
         says=lambda s, g, address, x, r: f'{r} ≡ took040 ({g} .tc) {address} {s} {x}'),
     'answer_040': dict(says=lambda s, end, r: f'{r} ≡ answered040 {s} {end}'),
     'walk_040': dict(says=lambda longs, base, ranges, g, address, supervisor, r: f'{r} ≡ shown040 (walk040 {memory(longs, base, ranges)} {g} {address} {supervisor})'),
+    'is_idle': dict(says=lambda way, r: f'{r} ≡ idle {way}'),
+    'is_by_030': dict(says=lambda way, r: f'{r} ≡ by030 {way}'),
+    'code_of': dict(says=lambda way, r: f'{r} ≡ codeBy {way}'),
+    'limit_of': dict(says=lambda way, r: f'{r} ≡ limitBy {way}'),
+    'supervisor_of': dict(says=lambda way, r: f'{r} ≡ supervisorBy {way}'),
+    'no_walk_done': dict(says=lambda r: f'{r} ≡ Walks.Idle'),
+    'done_030': dict(says=lambda w, r: f'{r} ≡ Walks.By030 {w}'),
+    'done_040': dict(says=lambda w, r: f'{r} ≡ Walks.By040 {w}'),
+    'walk_for': dict(says=lambda longs, base, ranges, g, address, way, r: f'{r} ≡ walksOf {memory(longs, base, ranges)} {g} {address} {way}'),
+    'of_sixteen': dict(says=lambda n, r: f'{r} ≡ ofSixteen {n}'),
 }
 
 
@@ -113,6 +124,22 @@ def asked040(facts):
     return all_facts(facts, 'is_over_040', 'else', 'wanted_040', 'fetch', 'took_040')
 
 
+# walk_for: x4 are the registers, x5 the address, x6 the way
+def chosen(facts):
+    way = f'{MEMORY} x4 x5 x6'
+    names = [s for s, r, e in facts]
+    if 'no_walk_done' in names:
+        return f'law.none {way} {all_facts(facts, "is_idle", "if", "no_walk_done")}'
+    if 'done_030' in names:
+        return f'law.done-030 {way} {all_facts(facts, "is_idle", "else", "is_by_030", "if", "code_of", "limit_of", "walk_030", "done_030")}'
+    return f'law.done-040 {way} {all_facts(facts, "is_idle", "else", "is_by_030")} {fact(facts, "else", 1)} {all_facts(facts, "supervisor_of", "walk_040", "done_040")}'
+
+
+# walk_kept: x3 is the array, x4 how many of it count; i3 .1 .0 .1 says that the array has its length
+def kept(law, facts):
+    return f'law.{law} x4 x3 (i3 .1 .0 .1) {fact(facts, "of_sixteen")}'
+
+
 FUNCTIONS = {
     'hits': search('hits', 'λ (r : Range). touchesOf (r .first) (r .last) x2', {4: 'i', 3: 'hit'}),
     'any_crossed': search('any_crossed', 'crossed', {3: 'i', 2: 'hit'}),
@@ -157,5 +184,19 @@ FUNCTIONS = {
             less=lambda t, h, fs: f'law.less {WALK040} ({t}) {asked040(fs)}',
             ends=lambda t, h, fs: f'law.ends {WALK040} ({t}) {fact(fs, "is_over_040")} {h} {all_facts(fs, "end_of_040", "answer_040")}',
         ),
+    ),
+    'walk_for': dict(
+        says=CALLEES['walk_for']['says'],
+        uses=['use Rattle.tables.proofs.Choosing as law'],
+        ends=chosen,
+    ),
+    'walk_kept': dict(
+        says=lambda longs, base, list, n, g, address, way, r: f'{r} ≡ walksOf (memory (now {longs}) {base} (take {n} {list})) {g} {address} {way}',
+        uses=['use Rattle.tables.proofs.Choosing as law'],
+        size=8,
+        count=lambda fs: kept('count', fs),
+        room=lambda fs: kept('room', fs),
+        length='i3 .1 .0 .1',
+        ends=lambda fs: f'{fact(fs, "walk_for")} ∙ ap (λ (l : List Range). walksOf (memory (now x1) x2 l) x5 x6 x7) ({kept("firsts", fs)})',
     ),
 }

@@ -1,9 +1,16 @@
 -- What a caller of the walks reads: the definition's outcomes as the code gives them. The count is the number of the longs asked for.
+use Prim.Native.Nat.{ℕ}
 use lib.ListN.{length}
-use Rattle.definition.specs.Walk030.{Outcome}
-use Rattle.definition.specs.Walk040.{Outcome040}
+use Rattle.definition.specs.Memory.{Memory}
+use Rattle.definition.specs.Walk030.{Outcome, walk030}
+use Rattle.definition.specs.Walk040.{Outcome040, walk040}
+use Rattle.definition.specs.declared.Registers.{Registers}
 use Rattle.tables.specs.declared.Walked.{Walked}
 use Rattle.tables.specs.declared.Walked040.{Walked040}
+use Rattle.tables.specs.declared.Way.{Way}
+use Rattle.tables.specs.declared.Way.the-variants as way
+use Rattle.tables.specs.declared.Walks.{Walks}
+use Rattle.tables.specs.declared.Walks.the-variants as walks
 
 -- a 68030 walk
 abbrev pub shown : Outcome → Walked
@@ -20,3 +27,9 @@ shown o =
 -- a 68040 walk
 abbrev pub shown040 : Outcome040 → Walked040
 shown040 o = record { end = o .end; asked = length (o .asked) }
+
+-- the walk that a call wants, if it wants one
+abbrev pub walksOf : Memory → Registers → ℕ → Way → Walks
+walksOf m g address way.Idle = walks.Idle
+walksOf m g address (way.By030 code limit) = walks.By030 (shown (walk030 m g address code limit))
+walksOf m g address (way.By040 supervisor) = walks.By040 (shown040 (walk040 m g address supervisor))

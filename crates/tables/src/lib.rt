@@ -3,7 +3,7 @@
 ghost use mathlib.Core.Path.{_≡_};
 ghost use mathlib.Core.Bool.{false, not, _||_, _&&_};
 ghost use Prim.Native.Nat.{ℕ, _+_, _*_, _/_, _%_, _^_, _<_};
-ghost use lib.ListN.{length, getD};
+ghost use lib.ListN.{length, getD, take};
 ghost use lib.Dec.{eqb, leb};
 ghost use Rattle.definition.specs.Words.{bitOf, anyOf};
 ghost use Rattle.definition.specs.Memory.{memory, touchesOf, inRanges, fetchWith, fetchOf};
@@ -12,7 +12,8 @@ ghost use Rattle.definition.specs.Registers.{rootOf};
 ghost use Rattle.definition.specs.Walk030.{entryOf, shortOf, readOf, widthsOf, used, topIndex, walk030, lowOf, physicalOf, shiftOf};
 ghost use Rattle.definition.specs.Walk040.{rootAt, pointerAt, pageAt, walk040, pageBits, frameOf, physical040};
 ghost use Rattle.definition.specs.Translate.{baseOf, hitAddress, joined};
-ghost use Rattle.tables.specs.Walked.{shown, shown040};
+ghost use Rattle.tables.specs.Walked.{shown, shown040, walksOf};
+ghost use Rattle.tables.specs.Choice.{idle, by030, codeBy, limitBy, supervisorBy, ofSixteen};
 ghost use Rattle.tables.specs.Machine030.{alone, describedOf, ofTwo, noWalk, beginOf, endedOf, onwardOf, nextK, aimOf, targetEnd, atTarget, atLevel, askedOf, tookOf, answered};
 ghost use Rattle.tables.specs.Machine040.{onward040, over040, begin040, pageEnd, decidedOf, took040, answered040};
 use definition::Descriptor;
@@ -807,6 +808,147 @@ pub fn walk_040(
         s = took_040(s, g, address, x);
     };
     answer_040(s, end)
+}
+
+// ---- The walk that a call wants.
+
+// None, or a 68030 walk in a code's space of at most `limit` levels, or a 68040 walk.
+pub enum Way {
+    Idle,
+    By030 { code: u32, limit: u32 },
+    By040 { supervisor: bool },
+}
+
+// How it ended.
+pub enum Walks {
+    Idle,
+    By030(Walked),
+    By040(Walked040),
+}
+
+// Whether none is wanted.
+fn is_idle(way: Way) -> bool
+    ensures { λ r. ⌜ r ≡ idle way ⌝ }
+{
+    match way {
+        Way::Idle => true,
+        Way::By030 { code: _, limit: _ } => false,
+        Way::By040 { supervisor: _ } => false,
+    }
+}
+
+// Whether it is a 68030 walk.
+fn is_by_030(way: Way) -> bool
+    ensures { λ r. ⌜ r ≡ by030 way ⌝ }
+{
+    match way {
+        Way::Idle => false,
+        Way::By030 { code: _, limit: _ } => true,
+        Way::By040 { supervisor: _ } => false,
+    }
+}
+
+// The code of a 68030 walk.
+fn code_of(way: Way) -> u32
+    ensures { λ r. ⌜ r ≡ codeBy way ⌝ }
+{
+    match way {
+        Way::Idle => 0,
+        Way::By030 { code, limit: _ } => code,
+        Way::By040 { supervisor: _ } => 0,
+    }
+}
+
+// The level limit of a 68030 walk.
+fn limit_of(way: Way) -> u32
+    ensures { λ r. ⌜ r ≡ limitBy way ⌝ }
+{
+    match way {
+        Way::Idle => 0,
+        Way::By030 { code: _, limit } => limit,
+        Way::By040 { supervisor: _ } => 0,
+    }
+}
+
+// Whether a 68040 walk is a supervisor's.
+fn supervisor_of(way: Way) -> bool
+    ensures { λ r. ⌜ r ≡ supervisorBy way ⌝ }
+{
+    match way {
+        Way::Idle => false,
+        Way::By030 { code: _, limit: _ } => false,
+        Way::By040 { supervisor } => supervisor,
+    }
+}
+
+// The three results.
+fn no_walk_done() -> Walks
+    ensures { λ r. ⌜ r ≡ Walks.Idle ⌝ }
+{
+    Walks::Idle
+}
+
+fn done_030(w: Walked) -> Walks
+    ensures { λ r. ⌜ r ≡ Walks.By030 w ⌝ }
+{
+    Walks::By030(w)
+}
+
+fn done_040(w: Walked040) -> Walks
+    ensures { λ r. ⌜ r ≡ Walks.By040 w ⌝ }
+{
+    Walks::By040(w)
+}
+
+// The walk that a call wants, if it wants one.
+pub fn walk_for(
+    longs: &[u32],
+    base: u32,
+    ranges: &[Range],
+    g: Registers,
+    address: u32,
+    way: Way,
+) -> Walks
+    ensures { λ r. ⌜ r ≡ walksOf (memory (now (longs .entry)) base (now (ranges .entry))) g address way ⌝ }
+{
+    if is_idle(way) {
+        return no_walk_done();
+    }
+    if is_by_030(way) {
+        let code = code_of(way);
+        let limit = limit_of(way);
+        let w = walk_030(longs, base, ranges, g, address, code, limit);
+        return done_030(w);
+    }
+    let supervisor = supervisor_of(way);
+    let w = walk_040(longs, base, ranges, g, address, supervisor);
+    done_040(w)
+}
+
+// All sixteen where `n` is above 16.
+fn of_sixteen(n: usize) -> usize
+    ensures { λ r. ⌜ r ≡ ofSixteen n ⌝ }
+{
+    if n <= 16 {
+        return n;
+    }
+    16
+}
+
+// The same over the first `n` of the ranges that a caller keeps in an array: they are lent as a slice.
+pub fn walk_kept(
+    longs: &[u32],
+    base: u32,
+    list: [Range; 16],
+    n: usize,
+    g: Registers,
+    address: u32,
+    way: Way,
+) -> Walks
+    ensures { λ r. ⌜ r ≡ walksOf (memory (now (longs .entry)) base (take n list)) g address way ⌝ }
+{
+    let m = of_sixteen(n);
+    walk_for(longs, base, &list[..m], g, address, way)
 }
 
 // ---- What a page gives.

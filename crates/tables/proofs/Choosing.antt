@@ -1,0 +1,76 @@
+-- Laws of `walk_for` and `walk_kept`: what each way gives, and the first n of sixteen ranges. Assumes nothing.
+use Prim.Native.Nat.{ℕ, _+_, _*_, _^_, _≤_, _<_}
+use mathlib.Core.Path.{_≡_, refl, ap, sym, _∙_}
+use mathlib.Core.List.{List}
+use mathlib.Core.Bool.{Bool, true, false, not}
+use native.Mathlib.Omega.{arith}
+use native.Mathlib.Decide.{decLe}
+use borrow.Author.Tests.{le-leb, lt-leb}
+use lib.Dec.{T, leb}
+use lib.ListN.{length, take}
+use lib.Seq.{length-take-le, take-all}
+use Rattle.definition.specs.Words.{if_then_else_}
+use Rattle.definition.specs.Memory.{Memory}
+use Rattle.definition.specs.Walk030.{walk030}
+use Rattle.definition.specs.Walk040.{walk040}
+use Rattle.definition.specs.declared.Registers.{Registers}
+use Rattle.tables.specs.Walked.{shown, shown040, walksOf}
+use Rattle.tables.specs.Choice.{idle, by030, codeBy, limitBy, supervisorBy, ofSixteen}
+use Rattle.tables.specs.declared.Walked.{Walked}
+use Rattle.tables.specs.declared.Walked040.{Walked040}
+use Rattle.tables.specs.declared.Way.{Way}
+use Rattle.tables.specs.declared.Way.the-variants as way
+use Rattle.tables.specs.declared.Walks.{Walks}
+use Rattle.tables.specs.declared.Walks.the-variants as walks
+use Rattle.tables.proofs.Lemmas.{T-true, T-false, clash}
+
+module _ (m : Memory) (g : Registers) (address : ℕ) (w : Way) where
+  none-is : (w : Way) → idle w ≡ true → walks.Idle ≡ walksOf m g address w
+  none-is way.Idle h = refl
+  none-is (way.By030 code limit) h = absurd (clash (sym h))
+  none-is (way.By040 supervisor) h = absurd (clash (sym h))
+
+  is-030 : (w : Way) → by030 w ≡ true → walks.By030 (shown (walk030 m g address (codeBy w) (limitBy w))) ≡ walksOf m g address w
+  is-030 way.Idle h = absurd (clash (sym h))
+  is-030 (way.By030 code limit) h = refl
+  is-030 (way.By040 supervisor) h = absurd (clash (sym h))
+
+  is-040 : (w : Way) → idle w ≡ false → by030 w ≡ false → walks.By040 (shown040 (walk040 m g address (supervisorBy w))) ≡ walksOf m g address w
+  is-040 way.Idle h k = absurd (clash h)
+  is-040 (way.By030 code limit) h k = absurd (clash k)
+  is-040 (way.By040 supervisor) h k = refl
+
+  module _ {i : Bool} (ei : i ≡ idle w) where
+    pub none : T i → {r : Walks} → r ≡ walks.Idle → r ≡ walksOf m g address w
+    none h er = er ∙ none-is w (sym ei ∙ T-true i h)
+
+    module _ (hi : T (not i)) {b : Bool} (eb : b ≡ by030 w) where
+      pub done-030 : T b → {code : ℕ} → code ≡ codeBy w → {limit : ℕ} → limit ≡ limitBy w → {x : Walked} → x ≡ shown (walk030 m g address code limit)
+          → {r : Walks} → r ≡ walks.By030 x → r ≡ walksOf m g address w
+      done-030 h ec el ex er = er ∙ ap walks.By030 (ex ∙ rw (ec, el)) ∙ is-030 w (sym eb ∙ T-true b h)
+
+      pub done-040 : T (not b) → {supervisor : Bool} → supervisor ≡ supervisorBy w → {x : Walked040} → x ≡ shown040 (walk040 m g address supervisor)
+          → {r : Walks} → r ≡ walks.By040 x → r ≡ walksOf m g address w
+      done-040 h es ex er = er ∙ ap walks.By040 (ex ∙ rw es) ∙ is-040 w (sym ei ∙ T-false i hi) (sym eb ∙ T-false b h)
+
+-- the first n of sixteen
+module _ {X : Type 0} (n : ℕ) (xs : List X) (l : length xs ≡ 16) {k : ℕ} (e : k ≡ ofSixteen n) where
+  few : k ≤ 16
+  few = rw e (go (decLe n 16))
+    where
+      go : Dec (n ≤ 16) → ofSixteen n ≤ 16
+      go (yes h) = rw (le-leb n 16 h) h
+      go (no h) = rw (lt-leb n 16 (omega arith)) (omega arith)
+
+  pub count : k ≡ length (take k xs)
+  count = sym (length-take-le k xs (rw l few))
+
+  pub room : (length (take k xs) < 2 ^ 64) × (length (take k xs) * 8 < 2 ^ 63)
+  room = let c = count in let f = few in (omega arith, omega arith)
+
+  pub firsts : take k xs ≡ take n xs
+  firsts = rw e (go (decLe n 16))
+    where
+      go : Dec (n ≤ 16) → take (ofSixteen n) xs ≡ take n xs
+      go (yes h) = rw (le-leb n 16 h)
+      go (no h) = rw (lt-leb n 16 (omega arith)) (take-all 16 xs (omega arith) ∙ sym (take-all n xs (omega arith)))
