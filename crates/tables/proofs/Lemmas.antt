@@ -15,7 +15,7 @@ use lib.Pow.{field, shl-shr, split, pow-mono}
 use Rattle.definition.specs.Words.{if_then_else_, bitOf}
 use Rattle.definition.specs.Memory.{Memory, within, touchesOf, fetchOf}
 use Rattle.definition.specs.Walk030.{entryOf, shortOf, longOf, readOf, used, sumOf}
-use Rattle.definition.specs.Walk040.{physical040}
+use Rattle.definition.specs.Walk040.{frameOf, pageBits}
 use Rattle.definition.specs.declared.Fetched.{Fetched}
 use Rattle.definition.specs.declared.Fetched.the-variants.{Long, Failed}
 use Rattle.definition.specs.declared.Descriptor.{Descriptor}
@@ -80,7 +80,7 @@ whole-address a s h l = sym (mod-eq-of-lt (lt-of-lt-of-le h (pow-mono {i = 32} {
 pub frame-is : (page s : ℕ) → page - page % 2 ^ s ≡ page / 2 ^ s * 2 ^ s
 frame-is page s = omega (arith, split page s)
 
-pub frame-room : (tc page address : ℕ) → page < 2 ^ 32 → physical040 tc page address < 2 ^ 32
+pub frame-room : (tc page address : ℕ) → page < 2 ^ 32 → frameOf tc page + address % 2 ^ pageBits tc < 2 ^ 32
 frame-room tc page address h = go (bitOf tc 14)
   where
     go : (b : Bool) → page / 2 ^ (if b then 13 else 12) * 2 ^ (if b then 13 else 12) + address % 2 ^ (if b then 13 else 12) < 2 ^ 32

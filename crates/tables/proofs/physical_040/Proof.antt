@@ -1,6 +1,8 @@
 -- `tables::physical_040` meets its contract. Assumes nothing.
 use borrow.Author.Needs.{needs}
 use native.Mathlib.Omega.{arith}
+use native.Mathlib.Nat.{mod-eq-of-lt}
+use mathlib.Core.Path.{sym}
 use Rattle.tables.proofs.Lemmas.{frame-room}
 use Rattle.tables.proofs.physical_040.Statement.{statement}
 use Rattle.tables.proofs.physical_040.Tie as tie
@@ -18,7 +20,7 @@ add-result : tie.Need-add-result
 add-result c = rw (c .before .before .frame-base .ensures, c .in-page .ensures, c .before .page-bits .ensures) (record { fits = frame-room (c .before .before .before .args .tc) (c .before .before .before .args .page) (c .before .before .before .args .address) (omega arith) })
 
 returns : tie.Need-returns
-returns c = rw (c .before .before .frame-base .ensures, c .in-page .ensures, c .before .page-bits .ensures)
+returns c = rw (c .before .before .frame-base .ensures, c .in-page .ensures, c .before .page-bits .ensures) (sym (mod-eq-of-lt (frame-room (c .before .before .before .args .tc) (c .before .before .before .args .page) (c .before .before .before .args .address) (omega arith))))
 
 pub physical-040-spec : {M : Type 1} → statement M
 physical-040-spec =
