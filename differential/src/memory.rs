@@ -1,0 +1,85 @@
+//! Table memory: lent longs from a base address, and bus-error ranges.
+
+use crate::core::memory::{AddressBus, BusFault, BusFaultKind};
+
+/// The program's memory: 8,192 longs at 0.
+pub const LONGS: usize = 8192;
+
+pub struct TableMemory {
+    pub base: u32,
+    pub longs: Vec<u32>,
+    /// First and last address of each range, both inside.
+    pub ranges: Vec<(u32, u32)>,
+    /// Longs asked for, failing ones included.
+    pub count: u32,
+}
+
+impl TableMemory {
+    pub fn new(base: u32, longs: Vec<u32>, ranges: Vec<(u32, u32)>) -> Self {
+        TableMemory { base, longs, ranges, count: 0 }
+    }
+
+    pub fn of_program() -> Self {
+        Self::new(0, vec![0; LONGS], Vec::new())
+    }
+
+    /// The place of the long at this address, if it lies in the longs.
+    fn place(&self, address: u32) -> Option<usize> {
+        let offset = address.checked_sub(self.base)?;
+        let place = (offset / 4) as usize;
+        (offset % 4 == 0 && place < self.longs.len()).then_some(place)
+    }
+
+    /// Whether any of the long's four bytes lies in a range.
+    fn in_range(&self, address: u32) -> bool {
+        let (first_byte, last_byte) = (u64::from(address), u64::from(address) + 3);
+        self.ranges.iter().any(|&(first, last)| u64::from(first) <= last_byte && first_byte <= u64::from(last))
+    }
+
+    /// Asks for one long.
+    pub fn fetch(&mut self, address: u32) -> Option<u32> {
+        self.count += 1;
+        let place = self.place(address)?;
+        (!self.in_range(address)).then(|| self.longs[place])
+    }
+
+    /// Stores one long, or refuses with 2.
+    pub fn store(&mut self, address: u32, value: u32) -> Result<(), u8> {
+        let place = self.place(address).ok_or(2)?;
+        self.longs[place] = value;
+        Ok(())
+    }
+
+    /// What `call` gives, with the number of longs that it asked for.
+    pub fn counted<T>(&mut self, call: impl FnOnce(&mut Self) -> T) -> (T, u32) {
+        self.count = 0;
+        let answer = call(self);
+        (answer, self.count)
+    }
+}
+
+/// `src/mmu` reads descriptors by `try_read_long` and uses nothing else of a bus.
+impl AddressBus for TableMemory {
+    fn try_read_long(&mut self, address: u32) -> Result<u32, BusFault> {
+        self.fetch(address).ok_or(BusFault { kind: BusFaultKind::BusError, address })
+    }
+
+    fn read_byte(&mut self, _: u32) -> u8 {
+        unreachable!("tables are read in longs that may fail")
+    }
+    fn read_word(&mut self, _: u32) -> u16 {
+        unreachable!("tables are read in longs that may fail")
+    }
+    fn read_long(&mut self, _: u32) -> u32 {
+        unreachable!("tables are read in longs that may fail")
+    }
+    fn write_byte(&mut self, _: u32, _: u8) {
+        unreachable!("tables are never written")
+    }
+    fn write_word(&mut self, _: u32, _: u16) {
+        unreachable!("tables are never written")
+    }
+    fn write_long(&mut self, _: u32, _: u32) {
+        unreachable!("tables are never written")
+    }
+}

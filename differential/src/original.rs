@@ -1,0 +1,134 @@
+//! The original's functions behind [`Machine`].
+
+use crate::core::cpu::CpuCore;
+use crate::core::types::CpuType;
+use crate::memory::TableMemory;
+use crate::mmu::{self, MmuFault, MmuFaultCause, MmuFaultKind, ResidentMmu};
+use crate::replay::{Access, Answer, Machine};
+use crate::state::State;
+use crate::trace::Registers;
+
+#[derive(Default)]
+pub struct Original {
+    cpu: CpuCore,
+}
+
+impl Original {
+    /// The CPU with these registers, in this state, without an override.
+    fn with(&mut self, registers: &Registers, cpu_supervisor: bool) -> &mut CpuCore {
+        let cpu = &mut self.cpu;
+        cpu.cpu_type = match registers.family {
+            30 => CpuType::M68030,
+            40 => CpuType::M68040,
+            60 => CpuType::M68060,
+            family => panic!("family {family} is refused before"),
+        };
+        cpu.has_pmmu = registers.has_pmmu;
+        cpu.pmmu_enabled = registers.enabled;
+        cpu.mmu_tc = registers.tc;
+        cpu.mmu_crp_limit = registers.crp_limit;
+        cpu.mmu_crp_aptr = registers.crp_address;
+        cpu.mmu_srp_limit = registers.srp_limit;
+        cpu.mmu_srp_aptr = registers.srp_address;
+        cpu.mmu_tt0 = registers.tt0;
+        cpu.mmu_tt1 = registers.tt1;
+        cpu.itt0 = registers.itt0;
+        cpu.itt1 = registers.itt1;
+        cpu.dtt0 = registers.dtt0;
+        cpu.dtt1 = registers.dtt1;
+        cpu.supervisor = cpu_supervisor;
+        cpu.mmu_fc_override = None;
+        cpu.fm_mmu = ResidentMmu::default();
+        cpu
+    }
+}
+
+impl Machine for Original {
+    fn translate(&mut self, registers: &Registers, access: &Access, memory: &mut TableMemory) -> Answer {
+        let cpu = self.with(registers, access.cpu_supervisor);
+        cpu.mmu_fc_override = access.override_code;
+        if !access.record {
+            // The fast-memory window's state: while it is enabled, no hit records a use.
+            cpu.fm_mmu = ResidentMmu::of(cpu);
+        }
+        match mmu::translate(cpu, memory, access.address, access.write, access.supervisor, access.instruction) {
+            Ok(physical) => Answer::Address(physical),
+            Err(MmuFault { kind, address, cause }) => {
+                Answer::Fault { kind: kind_number(kind), cause: cause_number(cause), address }
+            }
+        }
+    }
+
+    fn load(&mut self, registers: &Registers, code: u8, write: bool, address: u32, memory: &mut TableMemory) {
+        mmu::pload_030(self.with(registers, false), memory, address, code, write);
+    }
+
+    fn test(
+        &mut self,
+        registers: &Registers,
+        code: u8,
+        write: bool,
+        level: u8,
+        address: u32,
+        memory: &mut TableMemory,
+    ) -> (u16, u32) {
+        mmu::ptest_030(self.with(registers, false), memory, address, code.into(), write, level.into())
+    }
+
+    fn probe(
+        &mut self,
+        registers: &Registers,
+        cpu_supervisor: bool,
+        instruction: bool,
+        write: bool,
+        address: u32,
+    ) -> Option<u32> {
+        let cpu = self.with(registers, cpu_supervisor);
+        mmu::probe_resident(cpu, ResidentMmu::of(cpu), address, write, instruction)
+    }
+
+    fn flush_all(&mut self) {
+        self.cpu.atc.flush_all();
+        self.cpu.atc_030.flush_all();
+    }
+
+    fn flush_code(&mut self, code: u8, mask: u8) {
+        self.cpu.atc_030.flush_fc(code, mask);
+    }
+
+    fn flush_page(&mut self, code: u8, mask: u8, address: u32) {
+        self.cpu.atc_030.flush_fc_page(code, mask, address);
+    }
+
+    fn flush_frame(&mut self, frame: u32) {
+        self.cpu.atc.flush_page(frame);
+    }
+
+    fn state(&self) -> State {
+        State::of_original(&self.cpu.atc, &self.cpu.atc_030)
+    }
+}
+
+/// The place of the kind in `mod.rs`, from 0.
+fn kind_number(kind: MmuFaultKind) -> u8 {
+    match kind {
+        MmuFaultKind::ConfigurationError => 0,
+        MmuFaultKind::IllegalOperation => 1,
+        MmuFaultKind::AccessLevelViolation => 2,
+        MmuFaultKind::BusError => 3,
+    }
+}
+
+/// The place of the cause in `mod.rs`, from 0.
+fn cause_number(cause: MmuFaultCause) -> u8 {
+    match cause {
+        MmuFaultCause::PointerA => 0,
+        MmuFaultCause::PointerB => 1,
+        MmuFaultCause::Indirect => 2,
+        MmuFaultCause::PageFault => 3,
+        MmuFaultCause::WriteProtect => 4,
+        MmuFaultCause::SupervisorProtect => 5,
+        MmuFaultCause::TableWalkBusError => 6,
+        MmuFaultCause::AccessBusError => 7,
+    }
+}

@@ -1,0 +1,160 @@
+//! Both caches as plain numbers, and the state line.
+
+use crate::mmu::{Atc, Atc030};
+use std::fmt::Write;
+
+pub const ENTRIES: usize = 22;
+pub const SLOTS: usize = 64;
+
+/// An entry of the 68030 cache.
+#[derive(Clone, Copy, Debug, Default, PartialEq, Eq)]
+pub struct Entry {
+    pub valid: bool,
+    pub code: u8,
+    pub page: u32,
+    pub base: u32,
+    pub wp: bool,
+    pub stamp: u64,
+}
+
+/// A slot of the 68040 cache; the tag is frame x 2 + supervisor.
+#[derive(Clone, Copy, Debug, Default, PartialEq, Eq)]
+pub struct Slot {
+    pub valid: bool,
+    pub tag: u32,
+    pub base: u32,
+    pub wp: bool,
+    pub sup: bool,
+}
+
+#[derive(Clone, Debug, PartialEq, Eq)]
+pub struct State {
+    pub most_recent: u64,
+    pub clock: u64,
+    pub shift: u64,
+    pub entries: [Entry; ENTRIES],
+    pub slots: [Slot; SLOTS],
+}
+
+impl State {
+    pub fn empty() -> Self {
+        State {
+            most_recent: 0,
+            clock: 0,
+            shift: 0,
+            entries: [Entry::default(); ENTRIES],
+            slots: [Slot::default(); SLOTS],
+        }
+    }
+
+    /// The original's caches. Their fields are private, so they are read from
+    /// their `Debug` text.
+    pub fn of_original(atc: &Atc, atc_030: &Atc030) -> Self {
+        let mut state = State::empty();
+        state.read_030(&format!("{atc_030:?}"));
+        state.read_040(&format!("{atc:?}"));
+        state
+    }
+
+    fn read_030(&mut self, text: &str) {
+        let mut next = 0;
+        for (name, value) in fields(text) {
+            let entry = &mut self.entries[next.min(ENTRIES - 1)];
+            match name {
+                "valid" => entry.valid = value != 0,
+                "fc" => entry.code = value as u8,
+                "page" => entry.page = value as u32,
+                "phys_page" => entry.base = value as u32,
+                "write_protected" => entry.wp = value != 0,
+                "stamp" => {
+                    entry.stamp = value;
+                    next += 1;
+                }
+                "mru" => self.most_recent = value,
+                "clock" => self.clock = value,
+                "shift" => self.shift = value,
+                _ => panic!("an unknown field of the 68030 cache: {name}"),
+            }
+        }
+        assert_eq!(next, ENTRIES, "entries of the 68030 cache");
+    }
+
+    fn read_040(&mut self, text: &str) {
+        let mut next = 0;
+        for (name, value) in fields(text) {
+            let slot = &mut self.slots[next.min(SLOTS - 1)];
+            match name {
+                "valid" => slot.valid = value != 0,
+                "tag" => slot.tag = value as u32,
+                "phys_page" => slot.base = value as u32,
+                "write_protected" => slot.wp = value != 0,
+                "supervisor_only" => {
+                    slot.sup = value != 0;
+                    next += 1;
+                }
+                _ => panic!("an unknown field of the 68040 cache: {name}"),
+            }
+        }
+        assert_eq!(next, SLOTS, "slots of the 68040 cache");
+    }
+
+    /// `S m=MRU c=CLOCK s=SHIFT eI=V,FC,PAGE,PHYS,WP,STAMP ... dI=V,TAG,PHYS,WP,SUP ...`,
+    /// without the entries and slots whose numbers are all 0.
+    pub fn line(&self) -> String {
+        let mut line = format!("S m={} c={} s={}", self.most_recent, self.clock, self.shift);
+        for (index, e) in self.entries.iter().enumerate().filter(|(_, e)| **e != Entry::default()) {
+            let (valid, wp) = (u8::from(e.valid), u8::from(e.wp));
+            write!(line, " e{index}={valid},{},{:08X},{:08X},{wp},{}", e.code, e.page, e.base, e.stamp).unwrap();
+        }
+        for (index, d) in self.slots.iter().enumerate().filter(|(_, d)| **d != Slot::default()) {
+            let (valid, wp, sup) = (u8::from(d.valid), u8::from(d.wp), u8::from(d.sup));
+            write!(line, " d{index}={valid},{:08X},{:08X},{wp},{sup}", d.tag, d.base).unwrap();
+        }
+        line
+    }
+
+    /// A number for the 68030 cache: see `folded`.
+    pub fn sum_030(&self) -> u64 {
+        let marks = [self.most_recent, self.clock, self.shift];
+        let entries = self
+            .entries
+            .iter()
+            .flat_map(|e| [u64::from(e.valid), e.code.into(), e.page.into(), e.base.into(), e.wp.into(), e.stamp]);
+        folded(marks.into_iter().chain(entries))
+    }
+
+    /// A number for the 68040 cache: see `folded`.
+    pub fn sum_040(&self) -> u64 {
+        folded(
+            self.slots
+                .iter()
+                .flat_map(|d| [u64::from(d.valid), d.tag.into(), d.base.into(), d.wp.into(), d.sup.into()]),
+        )
+    }
+}
+
+/// The numbers folded into one below 2^32, in order, from 2166136261:
+/// sum = (sum + number mod 2^32) * 16777619 mod 2^32. No step passes 2^58.
+fn folded(numbers: impl Iterator<Item = u64>) -> u64 {
+    const LIMIT: u64 = 1 << 32;
+    numbers.fold(2_166_136_261, |sum, number| (sum + number % LIMIT) * 16_777_619 % LIMIT)
+}
+
+/// The fields `name: value` of a `Debug` text whose values are numbers or flags.
+/// (A field that holds a list gives nothing: so the hints are left out.)
+fn fields(text: &str) -> impl Iterator<Item = (&str, u64)> {
+    let mut name = "";
+    text.split(' ').filter_map(move |word| {
+        if let Some(new_name) = word.strip_suffix(':') {
+            name = new_name;
+            return None;
+        }
+        let named = std::mem::take(&mut name);
+        let value = match word.trim_end_matches([',', '}', ']']) {
+            "true" => 1,
+            "false" => 0,
+            number => number.parse().ok()?,
+        };
+        (!named.is_empty()).then_some((named, value))
+    })
+}
