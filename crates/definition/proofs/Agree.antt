@@ -16,9 +16,12 @@ Agree m m′ l = (a : ℕ) → In a l → fetchOf m a ≡ fetchOf m′ a
 abbrev pub Throughout : (Memory → Type 0) → Memory → List ℕ → Type 0
 Throughout P m l = (m′ : Memory) → P m′ → Agree m m′ l
 
--- no memory
+-- no memory, and any
 abbrev pub None : Memory → Type 0
 None m = ⊥
+
+abbrev pub Any : Memory → Type 0
+Any m = Unit {0}
 
 -- a choice ends alike where the side that is taken does
 pub if-same : {O : Type 0} (asked : O → List ℕ) (m m′ : Memory) (b : Bool) (x y x′ y′ : O) → (Agree m m′ (asked x) → x ≡ x′)

@@ -35,12 +35,11 @@ pub record Sound (g : Registers) (P : Memory → Type 0) (c : Caches) : Type 0 w
   pub in040 : Sound040 g P (c .c040)
 
 -- after a flush of all the caches are as they can be under any registers and memories: it isn't refused, and leaves no valid entry
-pub flush-all-sound : (g : Registers) (P : Memory → Type 0) (g′ : Registers) (P′ : Memory → Type 0) (c : Caches) → Sound g P c
-    → Sound g′ P′ (flushAll c .caches)
+pub flush-all-sound : (g g′ : Registers) (P P′ : Memory → Type 0) (c : Caches) → Sound g P c → Sound g′ P′ (flushAll c .caches)
 unfolding flushAll refusalOf
-flush-all-sound g P g′ P′ c h =
+flush-all-sound g g′ P P′ c h =
     rw (passes-four g P (c .c030) (h .in030))
-    (record { in030 = of030.flushed-all-sound g P g′ P′ (c .c030) (h .in030); in040 = of040.flushed-all-sound g P g′ P′ (c .c040) (h .in040) })
+    (record { in030 = of030.flushed-all-sound g g′ P P′ (c .c030) (h .in030); in040 = of040.flushed-all-sound g g′ P P′ (c .c040) (h .in040) })
 
 module _ (g : Registers) (P : Memory → Type 0) where
   pub empty-sound : Sound g P emptyCaches
@@ -134,7 +133,7 @@ module _ (g : Registers) (P : Memory → Type 0) where
   calling-sound m seen c h (loading code write address) = load-sound m seen code write address c h
   calling-sound m seen c h (testing code write level address) = h
   calling-sound m seen c h (probing own instruction write address) = h
-  calling-sound m seen c h flushingAll = flush-all-sound g P g P c h
+  calling-sound m seen c h flushingAll = flush-all-sound g g P P c h
   calling-sound m seen c h (flushingCode code mask) = flush-code-sound code mask c h
   calling-sound m seen c h (flushingPage code mask address) = flush-page-sound code mask address c h
   calling-sound m seen c h (flushingFrame frame) = flush-frame-sound frame c h

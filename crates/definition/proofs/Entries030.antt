@@ -1,7 +1,7 @@
 -- The 68030 cache's valid entries: nothing adds one but a walk of its key; and the cache keeps its 22 places and passes check 4. Assumes nothing.
 use Prim.Native.Nat.{ℕ, _+_, _-_, _/_, _^_, _≤_, _<_}
 use mathlib.Core.Path.{_≡_, refl, _∙_}
-use mathlib.Core.List.{List, [], _∷_}
+use mathlib.Core.List.{List, [], _∷_, map}
 use mathlib.Core.Bool.{Bool, true, false, not, _&&_, false≢true}
 use native.Mathlib.Omega.{arith}
 use native.Mathlib.Nat.{not-suc-le-zero}
@@ -81,21 +81,26 @@ shifted-shift : (c : Cache030) (s : ℕ) → shifted c s .shift ≡ s
 unfolding shifted
 shifted-shift c s = if-by (λ (d : Cache030). d .shift ≡ s) (eqb (c .shift) s) _ _ (λ t. eqb-true (c .shift) s t) (λ f. refl)
 
--- ---- a flush of all
+-- ---- each entry changed in its place
+-- no valid entry is added where each valid one had its walk before; also between registers and memories
+mapped-sound : (g g′ : Registers) (P P′ : Memory → Type 0) (c : Cache030) (f : Entry → Entry) (clock s : ℕ) → s ≤ 31
+    → ((e : Entry) → Backed030 g P (c .shift) e → Backed030 g′ P′ s (f e)) → Sound030 g P c
+    → Sound030 g′ P′ (record { entries = map f (c .entries); recent = c .recent; clock = clock; shift = s })
+mapped-sound g g′ P P′ c f clock s l k h =
+    record {
+      size = length-map (c .entries) f ∙ h .size;
+      recent = h .recent;
+      shift = l;
+      backed = all-map (Backed030 g P (c .shift)) (Backed030 g′ P′ s) f k (c .entries) (h .backed);
+    }
+
 dropped-backed : (g : Registers) (P : Memory → Type 0) (s : ℕ) (e : Entry) → Backed030 g P s (dropped e)
 dropped-backed g P s e v = absurd (false≢true v)
 
 -- no valid entry is left, so the cache is as it can be under any registers and memories
-pub flushed-all-sound : (g : Registers) (P : Memory → Type 0) (g′ : Registers) (P′ : Memory → Type 0) (c : Cache030) → Sound030 g P c
-    → Sound030 g′ P′ (flushedAll c)
+pub flushed-all-sound : (g g′ : Registers) (P P′ : Memory → Type 0) (c : Cache030) → Sound030 g P c → Sound030 g′ P′ (flushedAll c)
 unfolding flushedAll
-flushed-all-sound g P g′ P′ c h =
-    record {
-      size = length-map (c .entries) _ ∙ h .size;
-      recent = h .recent;
-      shift = h .shift;
-      backed = all-map (Backed030 g P (c .shift)) (Backed030 g′ P′ (c .shift)) _ (λ e k. dropped-backed g′ P′ (c .shift) e) (c .entries) (h .backed);
-    }
+flushed-all-sound g g′ P P′ c h = mapped-sound g g′ P P′ c dropped (c .clock) (c .shift) (h .shift) (λ e k. dropped-backed g′ P′ (c .shift) e) h
 
 -- ---- each change of the cache
 module _ (g : Registers) (P : Memory → Type 0) where
@@ -113,12 +118,7 @@ module _ (g : Registers) (P : Memory → Type 0) where
   unfolding rested
   rested-sound c h =
       if-both (Sound030 g P) (eqb (c .clock) (2 ^ 64 - 1)) _ _
-      (record {
-        size = length-map (c .entries) _ ∙ h .size;
-        recent = h .recent;
-        shift = h .shift;
-        backed = all-map (Backed030 g P (c .shift)) (Backed030 g P (c .shift)) _ (λ e k. k) (c .entries) (h .backed);
-      }) h
+      (mapped-sound g g P P c _ 22 (c .shift) (h .shift) (λ e k. k) h) h
 
   put-sound : (c : Cache030) (i : ℕ) (f : ℕ → Entry) → Sound030 g P c → i < 22 → Backed030 g P (c .shift) (f (c .clock + 1)) → Sound030 g P (putAt c i f)
   put-sound c i f h l k =
@@ -152,12 +152,7 @@ module _ (g : Registers) (P : Memory → Type 0) where
   unfolding shifted
   shifted-sound c s l h =
       if-both (Sound030 g P) (eqb (c .shift) s) _ _ h
-      (record {
-        size = length-map (c .entries) dropped ∙ h .size;
-        recent = h .recent;
-        shift = l;
-        backed = all-map (Backed030 g P (c .shift)) (Backed030 g P s) dropped (λ e k. dropped-backed g P s e) (c .entries) (h .backed);
-      })
+      (mapped-sound g g P P c dropped (c .clock) s l (λ e k. dropped-backed g P s e) h)
 
   -- an insert adds the one entry that its walk found
   pub inserted-sound : (c : Cache030) (code page s base : ℕ) (wp : Bool) → s ≤ 31 → Walked030 g P s code page base wp → Sound030 g P c
@@ -174,13 +169,8 @@ module _ (g : Registers) (P : Memory → Type 0) where
   -- a flush adds nothing
   drop-sound : (p : Entry → Bool) (c : Cache030) → Sound030 g P c → Sound030 g P (dropIf p c)
   drop-sound p c h =
-      record {
-        size = length-map (c .entries) _ ∙ h .size;
-        recent = h .recent;
-        shift = h .shift;
-        backed = all-map (Backed030 g P (c .shift)) (Backed030 g P (c .shift)) _
-            (λ e k. if-both (Backed030 g P (c .shift)) (p e) (dropped e) e (dropped-backed g P (c .shift) e) k) (c .entries) (h .backed);
-      }
+      mapped-sound g g P P c _ (c .clock) (c .shift) (h .shift)
+      (λ e k. if-both (Backed030 g P (c .shift)) (p e) (dropped e) e (dropped-backed g P (c .shift) e) k) h
 
   pub flushed-code-sound : (c : Cache030) (code mask : ℕ) → Sound030 g P c → Sound030 g P (flushedCode c code mask)
   unfolding flushedCode

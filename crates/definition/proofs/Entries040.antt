@@ -32,10 +32,9 @@ emptied-backed : (g : Registers) (P : Memory → Type 0) (s : Slot) → Backed04
 emptied-backed g P s v = absurd (false≢true v)
 
 -- no valid slot is left, so the cache is as it can be under any registers and memories
-pub flushed-all-sound : (g : Registers) (P : Memory → Type 0) (g′ : Registers) (P′ : Memory → Type 0) (c : Cache040) → Sound040 g P c
-    → Sound040 g′ P′ (flushedAll040 c)
+pub flushed-all-sound : (g g′ : Registers) (P P′ : Memory → Type 0) (c : Cache040) → Sound040 g P c → Sound040 g′ P′ (flushedAll040 c)
 unfolding flushedAll040
-flushed-all-sound g P g′ P′ c h = all-map (Backed040 g P) (Backed040 g′ P′) emptied (λ s k. emptied-backed g′ P′ s) (c .slots) h
+flushed-all-sound g g′ P P′ c h = all-map (Backed040 g P) (Backed040 g′ P′) emptied (λ s k. emptied-backed g′ P′ s) (c .slots) h
 
 module _ (g : Registers) (P : Memory → Type 0) where
   pub no-slot : Backed040 g P noSlot

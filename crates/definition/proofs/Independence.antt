@@ -3,7 +3,7 @@
 use Prim.Native.Nat.{ℕ}
 use mathlib.Core.Path.{_≡_, refl, ap, sym, subst, _∙_}
 use mathlib.Core.List.{List, [], _∷_, _++_, map}
-use mathlib.Core.Bool.{not}
+use mathlib.Core.Bool.{false, not}
 use mathlib.Core.Logic.{inl, inr}
 use native.Mathlib.Omega.{arith}
 use borrow.Author.Tests.{eq-eqb}
@@ -14,7 +14,7 @@ use Rattle.definition.specs.Transparent.{transparent}
 use Rattle.definition.specs.Walk030.{Outcome, everyLevel, shiftOf}
 use Rattle.definition.specs.Walk040.{Outcome040}
 use Rattle.definition.specs.Cache030.{empty030}
-use Rattle.definition.specs.Refusal.{refusalOf}
+use Rattle.definition.specs.Refusal.{refusalOf, badCache}
 use Rattle.definition.specs.Translate.{Caches, emptyCaches, Translated, concluded030, search030, translate030, concluded040, translate040, inOrder, translateChecks, translate, cacheless}
 use Rattle.definition.specs.Replay.{Moment, watched, other, memoryAt, after, afterAll, answersFrom, answers, watchedOf, walksOf, In, Steady, Accepted}
 use Rattle.definition.specs.declared.Registers.{Registers}
@@ -22,7 +22,7 @@ use Rattle.definition.specs.declared.Access.{Access}
 use Rattle.definition.specs.declared.Translation.{Translation}
 use Rattle.definition.proofs.Choice.{if-given}
 use Rattle.definition.proofs.Lists.{in-left, in-right, map-alike}
-use Rattle.definition.proofs.Agree.{Agree, Throughout}
+use Rattle.definition.proofs.Agree.{Agree, Throughout, Any}
 use Rattle.definition.proofs.Asked030.{asked-030}
 use Rattle.definition.proofs.Asked040.{asked-040}
 use Rattle.definition.proofs.Entries030.{passes-four}
@@ -33,6 +33,17 @@ use Rattle.definition.proofs.Hits040 as hits040
 -- ---- one access
 abbrev answerOf : Translated → Translation
 answerOf t = t .answer
+
+-- two translations that differ only past the tests for an enabled PMMU, a transparent match and the family, given what holds of the first
+order-alike : (g : Registers) (a : Access) (m m′ : Memory) (c c′ : Caches) (Q : Translated → Type 0)
+    → (Q (translate030 g a m c) → translate030 g a m c .answer ≡ translate030 g a m′ c′ .answer)
+    → (Q (translate040 g a m c) → translate040 g a m c .answer ≡ translate040 g a m′ c′ .answer)
+    → Q (inOrder g a m c) → inOrder g a m c .answer ≡ inOrder g a m′ c′ .answer
+unfolding inOrder
+order-alike g a m m′ c c′ Q h k =
+    if-given Q answerOf (not (on g)) _ _ _ _ (λ _. refl)
+    (if-given Q answerOf (transparent g (a .address) (comparedCode a) (asInstruction a)) _ _ _ _ (λ _. refl)
+    (if-given Q answerOf (eqb (g .family) 30) _ _ _ _ h k))
 
 module _ (g : Registers) (P : Memory → Type 0) (a : Access) (m : Memory) (c : Caches) (h : Sound g P c) where
   same-030 : Throughout P m (translate030 g a m emptyCaches .asked) → translate030 g a m c .answer ≡ translate030 g a m emptyCaches .answer
@@ -52,11 +63,7 @@ module _ (g : Registers) (P : Memory → Type 0) (a : Access) (m : Memory) (c : 
   Still t = Throughout P m (t .asked)
 
   same-order : Still (inOrder g a m emptyCaches) → inOrder g a m emptyCaches .answer ≡ inOrder g a m c .answer
-  unfolding inOrder
-  same-order =
-      if-given Still answerOf (not (on g)) _ _ _ _ (λ _. refl)
-      (if-given Still answerOf (transparent g (a .address) (comparedCode a) (asInstruction a)) _ _ _ _ (λ _. refl)
-      (if-given Still answerOf (eqb (g .family) 30) _ _ _ _ (λ t. sym (same-030 t)) (λ t. sym (same-040 t))))
+  same-order = order-alike g a m m emptyCaches c Still (λ t. sym (same-030 t)) (λ t. sym (same-040 t))
 
   -- check 4 passes, so the refusal is the cacheless walk's
   same-checks : translateChecks g a m c ≡ translateChecks g a m emptyCaches
@@ -95,19 +102,12 @@ module _ (g : Registers) (a : Access) (m m′ : Memory) where
   abbrev Kept : Translated → Type 0
   Kept t = Agree m m′ (t .asked)
 
-  two-order : Kept (inOrder g a m emptyCaches) → inOrder g a m emptyCaches .answer ≡ inOrder g a m′ emptyCaches .answer
-  unfolding inOrder
-  two-order =
-      if-given Kept answerOf (not (on g)) _ _ _ _ (λ _. refl)
-      (if-given Kept answerOf (transparent g (a .address) (comparedCode a) (asInstruction a)) _ _ _ _ (λ _. refl)
-      (if-given Kept answerOf (eqb (g .family) 30) _ _ _ _ two-030 two-040))
-
   -- the law of one cacheless walk: over two memories that give the same at its longs it answers alike
   pub cacheless-answer : refusalOf (translateChecks g a m emptyCaches) ≡ 0 → refusalOf (translateChecks g a m′ emptyCaches) ≡ 0
       → Agree m m′ (cacheless g a m .asked) → cacheless g a m .answer ≡ cacheless g a m′ .answer
   cacheless-answer e e′ t =
       ap answerOf (accepted g a m e)
-      ∙ two-order (subst Kept (accepted g a m e) t)
+      ∙ order-alike g a m m′ emptyCaches emptyCaches Kept two-030 two-040 (subst Kept (accepted g a m e) t)
       ∙ ap answerOf (sym (accepted g a m′ e′))
 
 -- ---- a replay
@@ -137,6 +137,12 @@ module _ (g : Registers) (P : Memory → Type 0) where
   run-answers (other call m ∷ rest) p s c h =
       run-answers rest (λ n i. p n (inr i)) (λ b n i. s b n (inr i)) (after g c (other call m))
       (after-sound g P (other call m) (p (other call m) (inl refl)) c h)
+
+-- check 4 passes after any moments whatever: no call of a replay is refused by it
+pub passes-four-after : (g : Registers) (before : List Moment) → badCache (afterAll g emptyCaches before .c030) ≡ false
+passes-four-after g before =
+    passes-four g Any (afterAll g emptyCaches before .c030)
+    (run-sound g Any before (λ now i. tt) emptyCaches (empty-sound g Any) .in030)
 
 -- after any moments whatever a watched access gets the cacheless walk's answer, if at each of them its longs read as they do now
 pub after-anything : (g : Registers) (before : List Moment) (a : Access) (m : Memory)
