@@ -1,0 +1,476 @@
+// The trace: one record's body as the definition's record, and one line as its bytes.
+use definition::Access;
+use definition::Override;
+use definition::Range;
+use definition::Registers;
+use definition::Root;
+ghost use mathlib.Core.Path.{_≡_};
+ghost use Prim.Native.Nat.{_+_, _%_, _≤_, _<_};
+ghost use mathlib.Core.List.{[], _∷_, _++_};
+ghost use lib.ListN.{length, getD};
+ghost use Rattle.definition.specs.Words.{bitOf};
+ghost use Rattle.definition.specs.Trace.{be, overrideOf, kind01, kind02, kind03, kind04, kind05, kind06, kind07, kind08, kind09, kind0A, kind0B, byTraceKind, recordOf, hexDigit, hex, decimal, spaced, newline, text};
+ghost use Rattle.trace.specs.Records.{recordIn};
+ghost use Rattle.trace.specs.Lines.{lineIn, Wrote};
+
+// What a record's body says.
+pub enum Record {
+    Registers(Registers),
+    Access(Access),
+    Load {
+        code: u32,
+        write: bool,
+        address: u32,
+    },
+    Test {
+        code: u32,
+        write: bool,
+        level: u32,
+        address: u32,
+    },
+    FlushAll,
+    FlushCode {
+        code: u32,
+        mask: u32,
+    },
+    FlushPage {
+        code: u32,
+        mask: u32,
+        address: u32,
+    },
+    FlushFrame {
+        frame: u32,
+    },
+    Store {
+        address: u32,
+        value: u32,
+    },
+    Range(Range),
+    Probe {
+        own: bool,
+        instruction: bool,
+        write: bool,
+        address: u32,
+    },
+    Malformed,
+}
+
+// A line of the output.
+pub enum Line {
+    A {
+        address: u32,
+        count: u32,
+    },
+    F {
+        kind: u32,
+        cause: u32,
+        address: u32,
+        count: u32,
+    },
+    L {
+        count: u32,
+    },
+    T {
+        mmusr: u32,
+        address: u32,
+        count: u32,
+    },
+    K,
+    N,
+    R {
+        number: u32,
+    },
+}
+
+// The byte at i.
+fn byte_at(b: &[u8], i: usize) -> u32
+    requires { ⌜ i < length (now b) ⌝ }
+    ensures { λ r. ⌜ (r ≡ getD (now (b .entry)) i 0) × (r < 256) ⌝ }
+{
+    b[i] as u32
+}
+
+// Numbers are big-endian: the long at byte i.
+fn long_at(b: &[u8], i: usize) -> u32
+    requires { ⌜ i + 4 ≤ length (now b) ⌝ }
+    ensures { λ r. ⌜ r ≡ be (now (b .entry)) i ⌝ }
+{
+    ((byte_at(b, i) * 256 + byte_at(b, i + 1)) * 256 + byte_at(b, i + 2)) * 256 + byte_at(b, i + 3)
+}
+
+// Bit k of the flags.
+fn flag(flags: u32, k: u32) -> bool
+    requires { ⌜ k < 32 ⌝ }
+    ensures { λ r. ⌜ r ≡ bitOf flags k ⌝ }
+{
+    (flags >> k) % 2 == 1
+}
+
+// 01: family, flags (bit 0 PMMU, 1 enabled), the 11 longs in order.
+fn registers_of(b: &[u8]) -> Record
+    ensures { λ r. ⌜ recordIn r ≡ kind01 (now (b .entry)) ⌝ }
+{
+    if b.len() != 46 {
+        return Record::Malformed;
+    }
+    let flags = byte_at(b, 1);
+    if flags >= 4 {
+        return Record::Malformed;
+    }
+    Record::Registers(Registers {
+        family: byte_at(b, 0),
+        present: flag(flags, 0),
+        enabled: flag(flags, 1),
+        tc: long_at(b, 2),
+        crp: Root {
+            limit: long_at(b, 6),
+            address: long_at(b, 10),
+        },
+        srp: Root {
+            limit: long_at(b, 14),
+            address: long_at(b, 18),
+        },
+        tt0: long_at(b, 22),
+        tt1: long_at(b, 26),
+        itt0: long_at(b, 30),
+        itt1: long_at(b, 34),
+        dtt0: long_at(b, 38),
+        dtt1: long_at(b, 42),
+    })
+}
+
+// An override or FF.
+fn override_of(n: u32) -> Override
+    ensures { λ r. ⌜ r ≡ overrideOf n ⌝ }
+{
+    if n == 255 {
+        return Override::Plain;
+    }
+    Override::Code(n)
+}
+
+// 02: flags (0 write, 1 supervisor, 2 instruction, 3 CPU state, 4 record), override or FF, address.
+fn access_of(b: &[u8]) -> Record
+    ensures { λ r. ⌜ recordIn r ≡ kind02 (now (b .entry)) ⌝ }
+{
+    if b.len() != 6 {
+        return Record::Malformed;
+    }
+    let flags = byte_at(b, 0);
+    if flags >= 32 {
+        return Record::Malformed;
+    }
+    Record::Access(Access {
+        address: long_at(b, 2),
+        write: flag(flags, 0),
+        supervisor: flag(flags, 1),
+        instruction: flag(flags, 2),
+        own: flag(flags, 3),
+        code: override_of(byte_at(b, 1)),
+        recorded: flag(flags, 4),
+    })
+}
+
+// 03: code, write 0/1, address.
+fn load_of(b: &[u8]) -> Record
+    ensures { λ r. ⌜ recordIn r ≡ kind03 (now (b .entry)) ⌝ }
+{
+    if b.len() != 6 {
+        return Record::Malformed;
+    }
+    let write = byte_at(b, 1);
+    if write >= 2 {
+        return Record::Malformed;
+    }
+    Record::Load {
+        code: byte_at(b, 0),
+        write: flag(write, 0),
+        address: long_at(b, 2),
+    }
+}
+
+// 04: code, write, level, address.
+fn test_of(b: &[u8]) -> Record
+    ensures { λ r. ⌜ recordIn r ≡ kind04 (now (b .entry)) ⌝ }
+{
+    if b.len() != 7 {
+        return Record::Malformed;
+    }
+    let write = byte_at(b, 1);
+    if write >= 2 {
+        return Record::Malformed;
+    }
+    Record::Test {
+        code: byte_at(b, 0),
+        write: flag(write, 0),
+        level: byte_at(b, 2),
+        address: long_at(b, 3),
+    }
+}
+
+// 03 and 04: PLOAD and PTEST.
+fn search_of(kind: u32, b: &[u8]) -> Record
+    requires { ⌜ (3 ≤ kind) × (kind ≤ 4) ⌝ }
+    ensures { λ r. ⌜ recordIn r ≡ byTraceKind kind (now (b .entry)) ⌝ }
+{
+    if kind == 3 {
+        return load_of(b);
+    }
+    test_of(b)
+}
+
+// 05: nothing.
+fn flush_all_of(b: &[u8]) -> Record
+    ensures { λ r. ⌜ recordIn r ≡ kind05 (now (b .entry)) ⌝ }
+{
+    if b.len() != 0 {
+        return Record::Malformed;
+    }
+    Record::FlushAll
+}
+
+// 06: code, mask.
+fn flush_code_of(b: &[u8]) -> Record
+    ensures { λ r. ⌜ recordIn r ≡ kind06 (now (b .entry)) ⌝ }
+{
+    if b.len() != 2 {
+        return Record::Malformed;
+    }
+    Record::FlushCode {
+        code: byte_at(b, 0),
+        mask: byte_at(b, 1),
+    }
+}
+
+// 07: code, mask, address.
+fn flush_page_of(b: &[u8]) -> Record
+    ensures { λ r. ⌜ recordIn r ≡ kind07 (now (b .entry)) ⌝ }
+{
+    if b.len() != 6 {
+        return Record::Malformed;
+    }
+    Record::FlushPage {
+        code: byte_at(b, 0),
+        mask: byte_at(b, 1),
+        address: long_at(b, 2),
+    }
+}
+
+// 08: 040 frame, a long.
+fn flush_frame_of(b: &[u8]) -> Record
+    ensures { λ r. ⌜ recordIn r ≡ kind08 (now (b .entry)) ⌝ }
+{
+    if b.len() != 4 {
+        return Record::Malformed;
+    }
+    Record::FlushFrame {
+        frame: long_at(b, 0),
+    }
+}
+
+// 05 to 08: the flushes.
+fn flush_of(kind: u32, b: &[u8]) -> Record
+    requires { ⌜ (5 ≤ kind) × (kind ≤ 8) ⌝ }
+    ensures { λ r. ⌜ recordIn r ≡ byTraceKind kind (now (b .entry)) ⌝ }
+{
+    match kind {
+        5 => flush_all_of(b),
+        6 => flush_code_of(b),
+        7 => flush_page_of(b),
+        _ => flush_frame_of(b),
+    }
+}
+
+// 09 and 0A, two longs: address, value; range first, last.
+fn longs_of(kind: u32, b: &[u8]) -> Record
+    requires { ⌜ (9 ≤ kind) × (kind ≤ 10) ⌝ }
+    ensures { λ r. ⌜ recordIn r ≡ byTraceKind kind (now (b .entry)) ⌝ }
+{
+    if b.len() != 8 {
+        return Record::Malformed;
+    }
+    let first = long_at(b, 0);
+    let last = long_at(b, 4);
+    if kind == 9 {
+        return Record::Store {
+            address: first,
+            value: last,
+        };
+    }
+    Record::Range(Range { first, last })
+}
+
+// 0B: flags (3 CPU state, 2 instruction, 0 write), address.
+fn probe_of(b: &[u8]) -> Record
+    ensures { λ r. ⌜ recordIn r ≡ kind0B (now (b .entry)) ⌝ }
+{
+    if b.len() != 5 {
+        return Record::Malformed;
+    }
+    let flags = byte_at(b, 0);
+    if flags >= 16 {
+        return Record::Malformed;
+    }
+    if flag(flags, 1) {
+        return Record::Malformed;
+    }
+    Record::Probe {
+        own: flag(flags, 3),
+        instruction: flag(flags, 2),
+        write: flag(flags, 0),
+        address: long_at(b, 1),
+    }
+}
+
+// One record's body, kind first.
+pub fn decode(body: &[u8]) -> Record
+    ensures { λ r. ⌜ recordIn r ≡ recordOf (now (body .entry)) ⌝ }
+{
+    if body.len() == 0 {
+        return Record::Malformed;
+    }
+    let kind = byte_at(body, 0);
+    let b = &body[1..];
+    match kind {
+        1 => registers_of(b),
+        2 => access_of(b),
+        3..=4 => search_of(kind, b),
+        5..=8 => flush_of(kind, b),
+        9..=10 => longs_of(kind, b),
+        11 => probe_of(b),
+        _ => Record::Malformed,
+    }
+}
+
+// Hex is upper case: the low digit of n.
+fn hex_digit(n: u32) -> u8
+    ensures { λ r. ⌜ r ≡ hexDigit (n % 16) ⌝ }
+{
+    let digit = n % 16;
+    if digit < 10 {
+        return (digit + 48) as u8;
+    }
+    (digit + 55) as u8
+}
+
+// The low four digits of n.
+fn put_hex(out: &mut [u8], at: usize, n: u32) -> usize
+    requires { ⌜ at + 4 ≤ length (now out) ⌝ }
+    ensures { λ r. ⌜ Wrote 4 (now (out .entry)) at (hex 4 n) (now (out .exit)) r ⌝ }
+{
+    out[at] = hex_digit(n >> 12);
+    out[at + 1] = hex_digit(n >> 8);
+    out[at + 2] = hex_digit(n >> 4);
+    out[at + 3] = hex_digit(n);
+    at + 4
+}
+
+// Counts are decimal.
+fn put_decimal(out: &mut [u8], at: usize, n: u32) -> usize
+    requires { ⌜ at + length (decimal n) ≤ length (now out) ⌝ }
+    ensures { λ r. ⌜ Wrote 10 (now (out .entry)) at (decimal n) (now (out .exit)) r ⌝ }
+{
+    if n < 10 {
+        out[at] = (n % 10 + 48) as u8;
+        return at + 1;
+    }
+    let last = put_decimal(out, at, n / 10);
+    out[last] = (n % 10 + 48) as u8;
+    last + 1
+}
+
+// One byte.
+fn put_byte(out: &mut [u8], at: usize, byte: u8) -> usize
+    requires { ⌜ at < length (now out) ⌝ }
+    ensures { λ r. ⌜ Wrote 1 (now (out .entry)) at (byte ∷ []) (now (out .exit)) r ⌝ }
+{
+    out[at] = byte;
+    at + 1
+}
+
+// A number after a space.
+fn put_number(out: &mut [u8], at: usize, n: u32) -> usize
+    requires { ⌜ at + 11 ≤ length (now out) ⌝ }
+    ensures { λ r. ⌜ Wrote 11 (now (out .entry)) at (spaced (decimal n)) (now (out .exit)) r ⌝ }
+{
+    let from = put_byte(out, at, b' ');
+    put_decimal(out, from, n)
+}
+
+// MMUSR after a space: four digits.
+fn put_status(out: &mut [u8], at: usize, mmusr: u32) -> usize
+    requires { ⌜ at + 5 ≤ length (now out) ⌝ }
+    ensures { λ r. ⌜ Wrote 5 (now (out .entry)) at (spaced (hex 4 mmusr)) (now (out .exit)) r ⌝ }
+{
+    let from = put_byte(out, at, b' ');
+    put_hex(out, from, mmusr)
+}
+
+// A count at the end of a line.
+fn put_count(out: &mut [u8], at: usize, count: u32) -> usize
+    requires { ⌜ at + 12 ≤ length (now out) ⌝ }
+    ensures { λ r. ⌜ Wrote 12 (now (out .entry)) at (spaced (decimal count) ++ newline) (now (out .exit)) r ⌝ }
+{
+    let end = put_number(out, at, count);
+    put_byte(out, end, b'\n')
+}
+
+// An address, eight digits, and a count at the end of a line.
+fn put_address(out: &mut [u8], at: usize, address: u32, count: u32) -> usize
+    requires { ⌜ at + 21 ≤ length (now out) ⌝ }
+    ensures { λ r. ⌜ Wrote 21 (now (out .entry)) at (spaced (hex 8 address) ++ spaced (decimal count) ++ newline) (now (out .exit)) r ⌝ }
+{
+    let high = put_byte(out, at, b' ');
+    let low = put_hex(out, high, address >> 16);
+    let end = put_hex(out, low, address);
+    put_count(out, end, count)
+}
+
+// A line from the place `at` on; the result is the place after it.
+pub fn put_line(out: &mut [u8], at: usize, line: Line) -> usize
+    requires { ⌜ at + 44 ≤ length (now out) ⌝ }
+    ensures { λ r. ⌜ Wrote 44 (now (out .entry)) at (text (lineIn line)) (now (out .exit)) r ⌝ }
+{
+    match line {
+        Line::A { address, count } => {
+            let next = put_byte(out, at, b'A');
+            put_address(out, next, address, count)
+        }
+        Line::F {
+            kind,
+            cause,
+            address,
+            count,
+        } => {
+            let next = put_byte(out, at, b'F');
+            let after = put_number(out, next, kind);
+            let last = put_number(out, after, cause);
+            put_address(out, last, address, count)
+        }
+        Line::L { count } => {
+            let next = put_byte(out, at, b'L');
+            put_count(out, next, count)
+        }
+        Line::T {
+            mmusr,
+            address,
+            count,
+        } => {
+            let next = put_byte(out, at, b'T');
+            let last = put_status(out, next, mmusr);
+            put_address(out, last, address, count)
+        }
+        Line::K => {
+            let next = put_byte(out, at, b'K');
+            put_byte(out, next, b'\n')
+        }
+        Line::N => {
+            let next = put_byte(out, at, b'N');
+            put_byte(out, next, b'\n')
+        }
+        Line::R { number } => {
+            let next = put_byte(out, at, b'R');
+            put_count(out, next, number)
+        }
+    }
+}
