@@ -1,1 +1,4 @@
 pub mod Shapes
+pub mod Writes
+pub mod Digits
+pub mod Texts

@@ -9,7 +9,7 @@ ghost use Prim.Native.Nat.{_+_, _%_, _≤_, _<_};
 ghost use mathlib.Core.List.{[], _∷_, _++_};
 ghost use lib.ListN.{length, getD};
 ghost use Rattle.definition.specs.Words.{bitOf};
-ghost use Rattle.definition.specs.Trace.{be, overrideOf, kind01, kind02, kind03, kind04, kind05, kind06, kind07, kind08, kind09, kind0A, kind0B, byTraceKind, recordOf, hexDigit, hex, decimal, spaced, newline, text};
+ghost use Rattle.definition.specs.Trace.{be, overrideOf, kind01, kind02, kind03, kind04, kind05, kind06, kind07, kind08, kind09, kind0A, kind0B, byTraceKind, recordOf, hexDigit, hex, digit, decimal, spaced, newline, text};
 ghost use Rattle.trace.specs.Records.{recordIn};
 ghost use Rattle.trace.specs.Lines.{lineIn, Wrote};
 
@@ -342,15 +342,24 @@ pub fn decode(body: &[u8]) -> Record
     }
 }
 
+// One byte.
+fn put_byte(out: &mut [u8], at: usize, byte: u8) -> usize
+    requires { ⌜ at < length (now out) ⌝ }
+    ensures { λ r. ⌜ Wrote 1 (now (out .entry)) at (byte ∷ []) (now (out .exit)) r ⌝ }
+{
+    out[at] = byte;
+    at + 1
+}
+
 // Hex is upper case: the low digit of n.
 fn hex_digit(n: u32) -> u8
     ensures { λ r. ⌜ r ≡ hexDigit (n % 16) ⌝ }
 {
-    let digit = n % 16;
-    if digit < 10 {
-        return (digit + 48) as u8;
+    let low = n % 16;
+    if low < 10 {
+        return (low + 48) as u8;
     }
-    (digit + 55) as u8
+    (low + 55) as u8
 }
 
 // The low four digits of n.
@@ -358,11 +367,17 @@ fn put_hex(out: &mut [u8], at: usize, n: u32) -> usize
     requires { ⌜ at + 4 ≤ length (now out) ⌝ }
     ensures { λ r. ⌜ Wrote 4 (now (out .entry)) at (hex 4 n) (now (out .exit)) r ⌝ }
 {
-    out[at] = hex_digit(n >> 12);
-    out[at + 1] = hex_digit(n >> 8);
-    out[at + 2] = hex_digit(n >> 4);
-    out[at + 3] = hex_digit(n);
-    at + 4
+    let second = put_byte(out, at, hex_digit(n >> 12));
+    let third = put_byte(out, second, hex_digit(n >> 8));
+    let fourth = put_byte(out, third, hex_digit(n >> 4));
+    put_byte(out, fourth, hex_digit(n))
+}
+
+// The low decimal digit of n.
+fn decimal_digit(n: u32) -> u8
+    ensures { λ r. ⌜ r ≡ digit n ⌝ }
+{
+    (n % 10 + 48) as u8
 }
 
 // Counts are decimal.
@@ -371,21 +386,10 @@ fn put_decimal(out: &mut [u8], at: usize, n: u32) -> usize
     ensures { λ r. ⌜ Wrote 10 (now (out .entry)) at (decimal n) (now (out .exit)) r ⌝ }
 {
     if n < 10 {
-        out[at] = (n % 10 + 48) as u8;
-        return at + 1;
+        return put_byte(out, at, decimal_digit(n));
     }
     let last = put_decimal(out, at, n / 10);
-    out[last] = (n % 10 + 48) as u8;
-    last + 1
-}
-
-// One byte.
-fn put_byte(out: &mut [u8], at: usize, byte: u8) -> usize
-    requires { ⌜ at < length (now out) ⌝ }
-    ensures { λ r. ⌜ Wrote 1 (now (out .entry)) at (byte ∷ []) (now (out .exit)) r ⌝ }
-{
-    out[at] = byte;
-    at + 1
+    put_byte(out, last, decimal_digit(n))
 }
 
 // A number after a space.
@@ -473,4 +477,25 @@ pub fn put_line(out: &mut [u8], at: usize, line: Line) -> usize
             put_count(out, next, number)
         }
     }
+}
+
+// The line that follows a good version byte.
+pub fn put_version(out: &mut [u8], at: usize) -> usize
+    requires { ⌜ at + 3 ≤ length (now out) ⌝ }
+    ensures { λ r. ⌜ Wrote 3 (now (out .entry)) at (118 ∷ 49 ∷ newline) (now (out .exit)) r ⌝ }
+{
+    let second = put_byte(out, at, b'v');
+    let third = put_byte(out, second, b'1');
+    put_byte(out, third, b'\n')
+}
+
+// The last line of a run that was not stopped.
+pub fn put_end(out: &mut [u8], at: usize) -> usize
+    requires { ⌜ at + 4 ≤ length (now out) ⌝ }
+    ensures { λ r. ⌜ Wrote 4 (now (out .entry)) at (101 ∷ 110 ∷ 100 ∷ newline) (now (out .exit)) r ⌝ }
+{
+    let second = put_byte(out, at, b'e');
+    let third = put_byte(out, second, b'n');
+    let fourth = put_byte(out, third, b'd');
+    put_byte(out, fourth, b'\n')
 }
