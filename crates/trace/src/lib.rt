@@ -7,6 +7,7 @@ use definition::Root;
 ghost use mathlib.Core.Path.{_≡_};
 ghost use Prim.Native.Nat.{_+_, _%_, _≤_, _<_};
 ghost use mathlib.Core.List.{[], _∷_, _++_};
+ghost use lib.Dec.{ltb};
 ghost use lib.ListN.{length, getD};
 ghost use Rattle.definition.specs.Words.{bitOf};
 ghost use Rattle.definition.specs.Trace.{be, overrideOf, kind01, kind02, kind03, kind04, kind05, kind06, kind07, kind08, kind09, kind0A, kind0B, byTraceKind, recordOf, hexDigit, hex, digit, decimal, spaced, newline, text};
@@ -171,6 +172,13 @@ fn access_of(b: &[u8]) -> Record
     })
 }
 
+// Whether a write byte is 0 or 1.
+fn is_write(byte: u32) -> bool
+    ensures { λ r. ⌜ r ≡ ltb byte 2 ⌝ }
+{
+    byte < 2
+}
+
 // 03: code, write 0/1, address.
 fn load_of(b: &[u8]) -> Record
     ensures { λ r. ⌜ recordIn r ≡ kind03 (now (b .entry)) ⌝ }
@@ -179,7 +187,7 @@ fn load_of(b: &[u8]) -> Record
         return Record::Malformed;
     }
     let write = byte_at(b, 1);
-    if write >= 2 {
+    if !is_write(write) {
         return Record::Malformed;
     }
     Record::Load {
@@ -197,7 +205,7 @@ fn test_of(b: &[u8]) -> Record
         return Record::Malformed;
     }
     let write = byte_at(b, 1);
-    if write >= 2 {
+    if !is_write(write) {
         return Record::Malformed;
     }
     Record::Test {

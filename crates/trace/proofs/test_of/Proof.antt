@@ -1,4 +1,4 @@
-use borrow.Author.Tests.{eq-eqb, ne-eqb, lt-ltb, le-ltb}
+use borrow.Author.Tests.{eq-eqb, ne-eqb, not-true, not-false}
 use borrow.Author.Needs.{needs}
 use Rattle.trace.proofs.test_of.Statement.{statement}
 use Rattle.trace.proofs.test_of.Tie as tie
@@ -9,8 +9,11 @@ returns c = rw (ne-eqb _ _ (c .if1 .taken))
 byte-at-requires : tie.Need-byte-at-requires
 byte-at-requires c κs = search needs
 
+is-write-requires : tie.Need-is-write-requires
+is-write-requires c κs = search needs
+
 returns-2 : tie.Need-returns-2
-returns-2 c = rw (eq-eqb _ _ (c .before .before .if1 .left), ← c .before .byte-at .ensures .0, le-ltb _ _ (c .if2 .taken))
+returns-2 c = rw (eq-eqb _ _ (c .before .before .before .if1 .left), ← c .before .before .byte-at .ensures .0, ← c .before .is-write .ensures, not-true (c .before .is-write .result) (c .if2 .taken))
 
 byte-at-requires-2 : tie.Need-byte-at-requires-2
 byte-at-requires-2 c κs = search needs
@@ -27,9 +30,10 @@ long-at-requires c κs = search needs
 returns-3 : tie.Need-returns-3
 returns-3 c =
     rw (
-      eq-eqb _ _ (c .before .before .before .before .before .before .if1 .left),
-      ← c .before .before .before .before .before .byte-at .ensures .0,
-      lt-ltb _ _ (c .before .before .before .before .if2 .left),
+      eq-eqb _ _ (c .before .before .before .before .before .before .before .if1 .left),
+      ← c .before .before .before .before .before .before .byte-at .ensures .0,
+      ← c .before .before .before .before .before .is-write .ensures,
+      not-false (c .before .before .before .before .before .is-write .result) (c .before .before .before .before .if2 .left),
       c .before .before .before .byte-at2 .ensures .0,
       c .before .before .flag .ensures,
       c .before .byte-at3 .ensures .0,
@@ -42,6 +46,7 @@ test-of-spec =
     (tie.spec
     returns
     byte-at-requires
+    is-write-requires
     returns-2
     byte-at-requires-2
     flag-requires
