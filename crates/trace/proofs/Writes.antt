@@ -1,6 +1,6 @@
 -- Writing: two writes in a row are one write of the joined bytes, and what a write leaves in front of its end. Assumes nothing.
 use Prim.Native.Nat.{ℕ, suc, _+_, _≤_}
-use mathlib.Core.Path.{_≡_, refl, sym, ap, _∙_}
+use mathlib.Core.Path.{_≡_, refl, ap, _∙_}
 use mathlib.Core.List.{List, [], _∷_, _++_}
 use native.Mathlib.Nat.{add-zero, add-suc, suc-add}
 use native.Mathlib.Omega.{arith}
@@ -11,6 +11,10 @@ use Rattle.trace.specs.Lines.{Wrote}
 sets-append : (a b l : List ℕ) (at : ℕ) → sets (sets l at a) (at + length a) b ≡ sets l at (a ++ b)
 sets-append [] b l at = rw add-zero
 sets-append (x ∷ a) b l at = rw (add-suc, ← suc-add at (length a)) (sets-append a b _ (suc at))
+
+-- before the first write
+pub nothing : (old : List ℕ) (at : ℕ) → Wrote 0 old at [] old at
+nothing old at = record { stores = refl; ends = omega arith; short = omega arith }
 
 -- one write after the other
 pub then : {m n at middle next : ℕ} {old half new a b : List ℕ} → Wrote m old at a half middle → Wrote n half middle b new next

@@ -10,7 +10,7 @@ ghost use mathlib.Core.List.{[], _∷_, _++_};
 ghost use lib.Dec.{ltb};
 ghost use lib.ListN.{length, getD};
 ghost use Rattle.definition.specs.Words.{bitOf};
-ghost use Rattle.definition.specs.Trace.{be, overrideOf, kind01, kind02, kind03, kind04, kind05, kind06, kind07, kind08, kind09, kind0A, kind0B, byTraceKind, recordOf, hexDigit, hex, digit, decimal, spaced, newline, text};
+ghost use Rattle.definition.specs.Trace.{be, overrideOf, kind01, kind02, kind03, kind04, kind05, kind06, kind07, kind08, kind0B, byTraceKind, recordOf, hexDigit, hex, digit, decimal, spaced, newline, text};
 ghost use Rattle.trace.specs.Records.{recordIn};
 ghost use Rattle.trace.specs.Lines.{lineIn, Wrote};
 
