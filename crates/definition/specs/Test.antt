@@ -1,5 +1,5 @@
 -- Document 01, 'The 68030 walk': PTEST.
-use Prim.Native.Nat.{ℕ, _+_}
+use Prim.Native.Nat.{ℕ, _+_, _%_}
 use mathlib.Core.List.{List, []}
 use mathlib.Core.Bool.{Bool, true, false, not, _&&_, _||_}
 use lib.Dec.{eqb}
@@ -32,9 +32,9 @@ endFlags end.LevelStop = 0
 endFlags (end.BusError at) = 0x8000
 endFlags end.Config = 0x8000
 
--- 'S 2000 (user code), W 0800, .. N levels'
+-- 'S 2000 (user code), W 0800, .. N levels', which the manual has in bits 2:0
 abbrev pub mmusrOf : ℕ → Bool → Bool → ℕ → End → ℕ
-mmusrOf code wp sup levels e = endFlags e + flag (sup && not (bitOf code 2)) 0x2000 + flag wp 0x0800 + levels
+mmusrOf code wp sup levels e = endFlags e + flag (sup && not (bitOf code 2)) 0x2000 + flag wp 0x0800 + levels % 8
 
 -- 'and the address of the last descriptor asked for, the unmasked root address for configuration'
 abbrev pub statusOf : ℕ → Outcome → Tested
