@@ -10,6 +10,7 @@ ghost use Prim.Native.Nat.{ℕ, _+_, _/_, _%_, _^_, _<_};
 ghost use lib.Dec.{eqb, ltb};
 ghost use lib.ListN.{getD, length, set};
 ghost use Rattle.definition.specs.Words.{if_then_else_, agrees, firstOf, countOf};
+ghost use Rattle.definition.specs.Refusal.{badCache};
 ghost use Rattle.definition.specs.Cache030.{Cache030, touched, hitOf, shifted, inserted, flushedAll, flushedCode, flushedPage};
 ghost use Rattle.cache.specs.Packed.{odd, dropTag};
 ghost use Rattle.cache.specs.Atc030.{cacheOf, Sized, Stepped, Looked, keyOf, heldIn, leastOf, placeOf, ranked, restStamps, restClock, usedStamps, usedMarks};
@@ -92,8 +93,7 @@ fn rank(stamps: &mut [u64; 22])
     let mut i: usize = 0;
     while i < 22 {
         let x = old[i];
-        let n = smaller(&old, x);
-        stamps[i] = n;
+        stamps[i] = smaller(&old, x);
         i += 1;
     }
 }
@@ -145,6 +145,14 @@ fn touch(
 }
 
 // ---- look up
+
+// Refusal 4: a most recent index above 21 or a shift above 31.
+pub fn bad_cache(tags: &[u64; 22], pages: &[u64; 22], stamps: &[u64; 22], marks: &[u64; 3]) -> bool
+    ensures { λ r. ⌜ r ≡ badCache (cacheOf (now (tags .entry)) (now (pages .entry)) (now (stamps .entry)) (now (marks .entry))) ⌝ }
+{
+    lengths(stamps, marks);
+    marks[0] > 21 || marks[2] > 31
+}
 
 // The tag of a valid entry with this key.
 fn key_of(code: u32, page: u32) -> u64
@@ -255,11 +263,11 @@ fn drop_tags(tags: &mut [u64; 22], code: u32, mask: u32, every: bool, page: u64)
     requires { ⌜ length (now tags) ≡ 22 ⌝ }
     ensures { λ _. ⌜ now (tags .exit) ≡ map (λ (t : ℕ). dropTag (agrees (t / 2 % 8) code mask && (every || eqb (t / 16) page)) t) (now (tags .entry)) ⌝ }
 {
-    let mut i: usize = 0;
-    while i < 22 {
-        let t = tags[i];
-        tags[i] = without(t, code, mask, every, page);
-        i += 1;
+    let mut at: usize = 0;
+    while at < 22 {
+        let t = tags[at];
+        tags[at] = without(t, code, mask, every, page);
+        at += 1;
     }
 }
 

@@ -11,10 +11,10 @@ use Rattle.cache.proofs.atc030.drop_tags.Statement.{statement}
 use Rattle.cache.proofs.atc030.drop_tags.Tie as tie
 
 abbrev Inv-loop : tie.InvT-loop
-Inv-loop tags₀ code mask every page i₀ tags i = (i ≤ 22) × (tags ≡ mapTo (λ (t : ℕ). dropTag (agrees (t / 2 % 8) code mask && (every || eqb (t / 16) page)) t) i tags₀)
+Inv-loop tags₀ code mask every page at₀ tags at = (at ≤ 22) × (tags ≡ mapTo (λ (t : ℕ). dropTag (agrees (t / 2 % 8) code mask && (every || eqb (t / 16) page)) t) at tags₀)
 
 abbrev μ-loop : tie.MeasureT-loop
-μ-loop tags₀ code mask every page i₀ tags i = 22 - i
+μ-loop tags₀ code mask every page at₀ tags at = 22 - at
 
 loop-holds : tie.Need-loop-holds Inv-loop μ-loop
 loop-holds c = (omega arith, sym (mapTo-none _ _))
@@ -34,8 +34,8 @@ mul-tags c = search needs
 element-write-tags : tie.Need-element-write-tags Inv-loop μ-loop
 element-write-tags c = search needs
 
-add-i : tie.Need-add-i Inv-loop μ-loop
-add-i c = search needs
+add-at : tie.Need-add-at Inv-loop μ-loop
+add-at c = search needs
 
 loop-less : tie.Need-loop-less Inv-loop μ-loop
 loop-less c = search needs
@@ -58,7 +58,7 @@ drop-tags-spec =
     without-requires
     mul-tags
     element-write-tags
-    add-i
+    add-at
     loop-less
     loop-again
     returns)
