@@ -14,7 +14,7 @@ use Rattle.definition.specs.Cache030.{Entry, Cache030, matches, matching, stamp
 use Rattle.definition.specs.declared.Hit.{Hit}
 use Rattle.definition.specs.declared.Hit.the-variants.{At, Miss}
 use Rattle.cache.specs.Packed.{bit, odd, dropTag}
-use Rattle.cache.specs.Atc030.{entryOf, entriesOf, cacheOf, Sized, Stepped, Looked, keyOf, heldIn, placeOf, ranked, restStamps, restClock, usedStamps, usedMarks}
+use Rattle.cache.specs.Atc030.{entryOf, entriesOf, cacheOf, Sized, Stepped, Looked, keyOf, matchIn, heldIn, placeOf, ranked, restStamps, restClock, usedStamps, usedMarks}
 use Rattle.cache.proofs.Entries.{Level, key-matches, key-entry, drop-tag, entries-length, entries-get, entries-set, entries-first, entries-stamps, entries-tags, smaller-is, oldest-is}
 
 -- ---- what a caller reads of the marks
@@ -115,8 +115,8 @@ module _ (ts ps ss ms : List ℕ) (w : Sized ts ps ss ms) where
 
   -- ---- look up
   module _ (code page shift k i : ℕ) (h : code < 8) (ek : k ≡ keyOf code page) (ei : i ≡ heldIn ts ms k shift) where
-    matching-is : matching (cacheOf ts ps ss ms) code page ≡ (if eqb k (getD ts (getD ms 0 0) 0) then getD ms 0 0 else firstOf (eqb k) ts)
-    unfolding matching cacheOf
+    matching-is : matching (cacheOf ts ps ss ms) code page ≡ matchIn ts (getD ms 0 0) k
+    unfolding matching cacheOf matchIn
     matching-is =
         rw (ek, entries-get ts ps ss (getD ms 0 0) level, key-matches code page h, entries-first (matches code page) (eqb (keyOf code page)) (key-matches code page h) ts ps ss level)
 
@@ -124,8 +124,7 @@ module _ (ts ps ss ms : List ℕ) (w : Sized ts ps ss ms) where
     unfolding heldIn cacheOf
     found-is = go (eqb (getD ms 2 0) shift) ei
       where
-        go : (b : Bool) → i ≡ (if b then if eqb k (getD ts (getD ms 0 0) 0) then getD ms 0 0 else firstOf (eqb k) ts else 22)
-            → b && ltb (matching (cacheOf ts ps ss ms) code page) (length (entriesOf ts ps ss)) ≡ ltb i 22
+        go : (b : Bool) → i ≡ (if b then matchIn ts (getD ms 0 0) k else 22) → b && ltb (matching (cacheOf ts ps ss ms) code page) (length (entriesOf ts ps ss)) ≡ ltb i 22
         go true e = rw (entries-22, matching-is, ← e)
         go false e = rw e
 
@@ -133,8 +132,7 @@ module _ (ts ps ss ms : List ℕ) (w : Sized ts ps ss ms) where
     unfolding heldIn
     matching-at l = go (eqb (getD ms 2 0) shift) ei
       where
-        go : (b : Bool) → i ≡ (if b then if eqb k (getD ts (getD ms 0 0) 0) then getD ms 0 0 else firstOf (eqb k) ts else 22)
-            → matching (cacheOf ts ps ss ms) code page ≡ i
+        go : (b : Bool) → i ≡ (if b then matchIn ts (getD ms 0 0) k else 22) → matching (cacheOf ts ps ss ms) code page ≡ i
         go true e = matching-is ∙ sym e
         go false e = absurd (omega arith)
 

@@ -47,14 +47,13 @@ pub record Looked (ts ps ss ms : List ℕ) (code page shift : ℕ) (write record
 abbrev pub keyOf : ℕ → ℕ → ℕ
 keyOf code page = page * 16 + code * 2 + 1
 
--- the place of a key's entry that a look at a shift uses, and 22 where there is none
+-- the place of a key's entry, and 22 where there is none
+unfoldable pub matchIn : List ℕ → ℕ → ℕ → ℕ
+matchIn ts recent key = if eqb key (getD ts recent 0) then recent else firstOf (eqb key) ts
+
+-- the same for a look at a shift
 unfoldable pub heldIn : List ℕ → List ℕ → ℕ → ℕ → ℕ
-heldIn ts ms key shift =
-    if eqb (getD ms 2 0) shift
-    then if eqb key (getD ts (getD ms 0 0) 0)
-    then getD ms 0 0
-    else firstOf (eqb key) ts
-    else 22
+heldIn ts ms key shift = if eqb (getD ms 2 0) shift then matchIn ts (getD ms 0 0) key else 22
 
 -- the place of the smallest number, the lowest among equals
 unfoldable pub leastOf : List ℕ → ℕ

@@ -144,7 +144,7 @@ fn touch(
     }
 }
 
-// ---- look up
+// ---- refusal
 
 // Refusal 4: a most recent index above 21 or a shift above 31.
 pub fn bad_cache(tags: &[u64; 22], pages: &[u64; 22], stamps: &[u64; 22], marks: &[u64; 3]) -> bool
@@ -153,6 +153,8 @@ pub fn bad_cache(tags: &[u64; 22], pages: &[u64; 22], stamps: &[u64; 22], marks:
     lengths(stamps, marks);
     marks[0] > 21 || marks[2] > 31
 }
+
+// ---- look up
 
 // The tag of a valid entry with this key.
 fn key_of(code: u32, page: u32) -> u64
@@ -258,7 +260,7 @@ fn without(t: u64, code: u32, mask: u32, every: bool, page: u64) -> u64
     t
 }
 
-// Every tag so.
+// The same of every tag, in place.
 fn drop_tags(tags: &mut [u64; 22], code: u32, mask: u32, every: bool, page: u64)
     requires { ⌜ length (now tags) ≡ 22 ⌝ }
     ensures { λ _. ⌜ now (tags .exit) ≡ map (λ (t : ℕ). dropTag (agrees (t / 2 % 8) code mask && (every || eqb (t / 16) page)) t) (now (tags .entry)) ⌝ }
@@ -296,7 +298,7 @@ pub fn flush_code(
     drop_tags(tags, code, mask, true, 0);
 }
 
-// The page of an address at any shift.
+// The page of an address, also at a shift of 32 or more.
 fn page_at(address: u32, shift: u64) -> u64
     ensures { λ r. ⌜ r ≡ address / 2 ^ shift ⌝ }
 {
@@ -306,7 +308,7 @@ fn page_at(address: u32, shift: u64) -> u64
     0
 }
 
-// For a page: whose page is the address's at the stored shift (shift 0: none).
+// A flush for a page drops, of these, the entries whose page is the address's at the stored shift (shift 0: none).
 pub fn flush_page(
     tags: &mut [u64; 22],
     pages: &[u64; 22],
