@@ -9,7 +9,7 @@ use lib.Dec.{eqb, ltb}
 use lib.Bits.{bitXor, and-zero-r}
 use lib.ListN.{length, getD, set, length-set, length-map}
 use lib.Seq.{set-getD}
-use Rattle.definition.specs.Words.{if_then_else_, agrees, firstOf, countOf}
+use Rattle.definition.specs.Words.{if_then_else_, agrees, countOf}
 use Rattle.definition.specs.Cache030.{Entry, Cache030, matches, matching, stamped, rested, putAt, touched, found, hitOf, afterHit, dropped, shifted, victim, inserted, dropIf, flushedAll, flushedCode, flushedPage}
 use Rattle.definition.specs.declared.Hit.{Hit}
 use Rattle.definition.specs.declared.Hit.the-variants.{At, Miss}
