@@ -1,0 +1,18 @@
+// The public calls of document 01: translate, load, test, probe and the four flushes, by value and in place.
+// A call that walks has three stages: it plans (refusals, transparent registers, cache), walks, and concludes (fault or address, insert).
+mod checks;
+pub mod flush;
+pub mod load;
+pub mod probe;
+mod search;
+pub mod test;
+pub mod translate;
+
+use tables::Way;
+
+// What is settled before the tables are asked: a refusal, a number (an address or a status), or the walk to make.
+pub enum Plan {
+    Refused(u32),
+    Settled(u32),
+    Walk(Way),
+}
