@@ -1,15 +1,14 @@
 -- Laws of `walk_for` and `walk_kept`: what each way gives, and the first n of sixteen ranges. Assumes nothing.
-use Prim.Native.Nat.{ℕ, _+_, _*_, _^_, _≤_, _<_}
+use Prim.Native.Nat.{ℕ, _*_, _^_, _≤_, _<_}
 use mathlib.Core.Path.{_≡_, refl, ap, sym, _∙_}
 use mathlib.Core.List.{List}
 use mathlib.Core.Bool.{Bool, true, false, not}
 use native.Mathlib.Omega.{arith}
 use native.Mathlib.Decide.{decLe}
 use borrow.Author.Tests.{le-leb, lt-leb}
-use lib.Dec.{T, leb}
+use lib.Dec.{T}
 use lib.ListN.{length, take}
 use lib.Seq.{length-take-le, take-all}
-use Rattle.definition.specs.Words.{if_then_else_}
 use Rattle.definition.specs.Memory.{Memory}
 use Rattle.definition.specs.Walk030.{walk030}
 use Rattle.definition.specs.Walk040.{walk040}

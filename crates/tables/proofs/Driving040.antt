@@ -1,6 +1,6 @@
 -- The loop of `walk_040`: what is known where a walk stands between two longs, and that a turn keeps it. Assumes nothing.
-use Prim.Native.Nat.{ℕ, suc, _+_, _*_, _/_, _%_, _≤_, _<_}
-use mathlib.Core.Path.{_≡_, refl, ap, sym, subst, _∙_}
+use Prim.Native.Nat.{ℕ, _+_, _*_, _/_, _%_, _≤_, _<_}
+use mathlib.Core.Path.{_≡_, refl, ap, sym, _∙_}
 use mathlib.Core.List.{List, [], _∷_, _++_}
 use mathlib.Core.Bool.{Bool, true, false, not, _||_}
 use native.Mathlib.Omega.{arith}
@@ -16,7 +16,7 @@ use Rattle.definition.specs.declared.End040.the-variants.{Absent, Lost}
 use Rattle.definition.specs.declared.FaultCause.the-variants as cause
 use Rattle.definition.specs.declared.Registers.{Registers}
 use Rattle.tables.specs.Walked.{shown040}
-use Rattle.tables.specs.Machine040.{onward040, over040, begin040, pageEnd, decidedOf, took040, answered040}
+use Rattle.tables.specs.Machine040.{onward040, over040, begin040, decidedOf, took040, answered040}
 use Rattle.tables.specs.declared.Level.{Level}
 use Rattle.tables.specs.declared.Level.the-variants as level
 use Rattle.tables.specs.declared.Walked040.{Walked040}

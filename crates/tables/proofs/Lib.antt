@@ -2,8 +2,7 @@ pub mod Lemmas
 pub mod Searching
 pub mod Branching
 pub mod Lending
-pub mod Ways030
-pub mod Steps030
+pub mod Aiming
 pub mod Driving030
 pub mod Driving040
 pub mod Choosing

@@ -1,12 +1,12 @@
 -- The 68030 walk as a machine: what is known between two descriptors, and what one descriptor changes.
 -- This serves the code alone; the meaning is `Walk030` of `definition`.
-use Prim.Native.Nat.{ℕ, _+_, _*_, _/_, _%_, _^_}
+use Prim.Native.Nat.{ℕ, _+_, _*_, _/_, _%_}
 use mathlib.Core.List.{List}
 use mathlib.Core.Bool.{Bool, true, false, not, _&&_, _||_}
-use lib.ListN.{length, getD}
+use lib.ListN.{getD}
 use lib.Dec.{ltb, leb, eqb}
 use Rattle.definition.specs.Words.{if_then_else_, bitOf}
-use Rattle.definition.specs.Walk030.{entryOf, onSecond, isOf, topIndex}
+use Rattle.definition.specs.Walk030.{entryOf, onSecond, isOf, topIndex, byKind}
 use Rattle.definition.specs.declared.Fetched.{Fetched}
 use Rattle.definition.specs.declared.Fetched.the-variants.{Long, Failed}
 use Rattle.definition.specs.declared.Descriptor.{Descriptor}
@@ -142,13 +142,11 @@ atTarget s kind field wp sup asked =
 -- at a level's descriptor; n is the number of the widths that are used
 unfoldable pub atLevel : ℕ → Walking030 → ℕ → ℕ → Bool → Bool → ℕ → Walking030
 atLevel n s kind field wp sup asked =
-    if eqb kind 1
-    then endedOf s (Page field (s .consumed)) (s .wp || wp) (s .sup || sup) (s .levels + 1) asked
-    else if leb 2 kind && leb kind 3
-    then if eqb (s .k) n
+    byKind kind (endedOf s (Invalid false) (s .wp) (s .sup) (s .levels + 1) asked)
+    (endedOf s (Page field (s .consumed)) (s .wp || wp) (s .sup || sup) (s .levels + 1) asked)
+    (if eqb (s .k) n
     then onwardOf s true (s .table) (eqb kind 3) (s .wp) (s .sup) (s .levels + 1) asked (field / 4 * 4)
-    else onwardOf s false (field / 16 * 16) (eqb kind 3) (s .wp || wp) (s .sup || sup) (s .levels + 1) asked (s .last)
-    else endedOf s (Invalid false) (s .wp) (s .sup) (s .levels + 1) asked
+    else onwardOf s false (field / 16 * 16) (eqb kind 3) (s .wp || wp) (s .sup || sup) (s .levels + 1) asked (s .last))
 
 unfoldable pub tookOf : ℕ → Walking030 → Descriptor → Walking030
 tookOf n s (Lost at m) = endedOf s (BusError at) (s .wp) (s .sup) (s .levels) (s .asked + m)

@@ -467,7 +467,9 @@ fn at_target(s: Walking030, kind: u32, field: u32, wp: bool, sup: bool, asked: u
     ensures { λ r. ⌜ r ≡ atTarget s kind field wp sup asked ⌝ }
 {
     let end = target_end(kind, field, s.consumed);
-    ended(s, end, s.wp | wp, s.sup | sup, s.levels, asked)
+    let all_wp = s.wp | wp;
+    let all_sup = s.sup | sup;
+    ended(s, end, all_wp, all_sup, s.levels, asked)
 }
 
 // At a level's descriptor, where `n` widths are used: type 0 invalid, type 1 page. Types 2 and 3 name the next table; on the last
@@ -485,15 +487,21 @@ fn at_level(
     ensures { λ r. ⌜ r ≡ atLevel n s kind field wp sup asked ⌝ }
 {
     let levels = s.levels + 1;
+    let all_wp = s.wp | wp;
+    let all_sup = s.sup | sup;
     match kind {
+        0 => {
+            let end = End::Invalid { indirect: false };
+            ended(s, end, s.wp, s.sup, levels, asked)
+        }
         1 => {
             let end = End::Page {
                 field,
                 consumed: s.consumed,
             };
-            ended(s, end, s.wp | wp, s.sup | sup, levels, asked)
+            ended(s, end, all_wp, all_sup, levels, asked)
         }
-        2..=3 => {
+        2.. => {
             let long = kind == 3;
             if s.k == n {
                 let to = target_of(field);
@@ -505,17 +513,13 @@ fn at_level(
                     false,
                     table,
                     long,
-                    s.wp | wp,
-                    s.sup | sup,
+                    all_wp,
+                    all_sup,
                     levels,
                     asked,
                     s.last,
                 )
             }
-        }
-        _ => {
-            let end = End::Invalid { indirect: false };
-            ended(s, end, s.wp, s.sup, levels, asked)
         }
     }
 }

@@ -1,27 +1,27 @@
 -- `tables::aim` meets its contract. Assumes nothing.
 use borrow.Author.Needs.{needs}
 use native.Mathlib.Omega.{arith}
-use Rattle.tables.proofs.Steps030 as law
+use Rattle.tables.proofs.Aiming as law
 use Rattle.tables.proofs.aim.Statement.{statement}
 use Rattle.tables.proofs.aim.Tie as tie
 
 returns : tie.Need-returns
-returns c = law.aim-over _ _ _ _ _ (c .if1 .taken)
+returns c = law.over _ _ _ _ _ (c .if1 .taken)
 
 returns-2 : tie.Need-returns-2
-returns-2 c = law.aim-target _ _ _ _ _ (c .before .if1 .left) (c .if2 .taken)
+returns-2 c = law.target _ _ _ _ _ (c .before .if1 .left) (c .if2 .taken)
 
 ended-requires : tie.Need-ended-requires
 ended-requires c κs = search needs
 
 returns-3 : tie.Need-returns-3
-returns-3 c = law.aim-stop _ _ _ _ _ (c .before .before .before .before .if1 .left) (c .before .before .before .if2 .left) (c .before .if3 .taken) (c .ended .ensures)
+returns-3 c = law.stop _ _ _ _ _ (c .before .before .before .before .if1 .left) (c .before .before .before .if2 .left) (omega (arith, c .before .if3 .taken)) (c .ended .ensures)
 
 entry-requires : tie.Need-entry-requires
 entry-requires c κs = search needs
 
 returns-4 : tie.Need-returns-4
-returns-4 c = law.aim-code _ _ _ _ _ (c .before .before .before .before .before .if1 .left) (c .before .before .before .before .if2 .left) (c .before .before .if3 .left) (c .before .if4 .taken) (c .entry .ensures)
+returns-4 c = law.by-code _ _ _ _ _ (c .before .before .before .before .before .if1 .left) (c .before .before .before .before .if2 .left) (omega (arith, c .before .before .if3 .left)) (c .before .if4 .taken) (c .entry .ensures)
 
 width-at-requires : tie.Need-width-at-requires
 width-at-requires c κs = search needs
@@ -39,7 +39,7 @@ next-k-requires : tie.Need-next-k-requires
 next-k-requires c κs = search needs
 
 returns-5 : tie.Need-returns-5
-returns-5 c = law.aim-width _ _ _ _ _ (c .before .before .before .before .before .before .before .before .before .if1 .left) (c .before .before .before .before .before .before .before .before .if2 .left) (c .before .before .before .before .before .before .if3 .left) (c .before .before .before .before .before .if4 .left) (c .before .before .before .before .width-at .ensures) (c .before .before .before .top-index .ensures) (c .before .before .entry2 .ensures) (c .next-k .ensures)
+returns-5 c = law.by-width _ _ _ _ _ (c .before .before .before .before .before .before .before .before .before .if1 .left) (c .before .before .before .before .before .before .before .before .if2 .left) (omega (arith, c .before .before .before .before .before .before .if3 .left)) (c .before .before .before .before .before .if4 .left) (c .before .before .before .before .width-at .ensures) (c .before .before .before .top-index .ensures) (c .before .before .entry2 .ensures) (c .next-k .ensures)
 
 pub aim-spec : {M : Type 1} → statement M
 aim-spec =

@@ -1,8 +1,9 @@
 -- `tables::at_level` meets its contract. Assumes nothing.
 use borrow.Author.Needs.{needs}
+use mathlib.Core.Path.{_∙_}
 use native.Mathlib.Omega.{arith}
-use mathlib.Core.Logic.{⊎-elim}
-use Rattle.tables.proofs.Steps030 as law
+use borrow.Author.Tests.{eq-eqb, ne-eqb, le-ltb}
+use Rattle.tables.specs.Machine030.{atLevel}
 use Rattle.tables.proofs.at_level.Statement.{statement}
 use Rattle.tables.proofs.at_level.Tie as tie
 
@@ -11,6 +12,9 @@ add-levels c = search needs
 
 ended-requires : tie.Need-ended-requires
 ended-requires c κs = search needs
+
+ended-requires-2 : tie.Need-ended-requires-2
+ended-requires-2 c κs = search needs
 
 target-of-requires : tie.Need-target-of-requires
 target-of-requires c κs = search needs
@@ -24,20 +28,21 @@ table-of-requires c κs = search needs
 onward-requires-2 : tie.Need-onward-requires-2
 onward-requires-2 c κs = search needs
 
-ended-requires-2 : tie.Need-ended-requires-2
-ended-requires-2 c κs = search needs
-
 returns : tie.Need-returns
-returns c = law.page _ _ _ _ _ _ _ (c .before .before .before .match .keys1) (c .ended .ensures)
+unfolding atLevel
+returns c = c .ended .ensures ∙ rw (c .before .match .keys1)
 
 returns-2 : tie.Need-returns-2
-returns-2 c = law.indirect _ _ _ _ _ _ _ (c .before .before .before .before .before .before .match .rest .1) (omega (arith, c .before .before .before .before .before .if1 .left, c .before .before .before .before .before .before .match .rest .1)) (omega (arith, c .before .before .before .before .if2 .taken)) (c .before .before .if3 .taken) (c .before .target-of .ensures) (c .onward .ensures)
+unfolding atLevel
+returns-2 c = c .ended2 .ensures ∙ rw (c .before .match .keys2)
 
 returns-3 : tie.Need-returns-3
-returns-3 c = law.table _ _ _ _ _ _ _ (c .before .before .before .before .before .before .before .before .match .rest .1) (omega (arith, c .before .before .before .before .before .before .before .if1 .left, c .before .before .before .before .before .before .before .before .match .rest .1)) (omega (arith, c .before .before .before .before .before .before .if2 .taken)) (c .before .before .before .before .if3 .left) (c .before .before .before .table-of .ensures) (c .onward2 .ensures)
+unfolding atLevel
+returns-3 c = c .onward .ensures ∙ rw (ne-eqb (c .before .before .before .before .before .before .before .before .args .kind) 1 (c .before .before .before .before .match .rest .1), le-ltb (c .before .before .before .before .before .before .before .before .args .kind) 2 (omega (arith, c .before .before .before .before .match .rest .0 .1, c .before .before .before .before .match .rest .1)), eq-eqb _ _ (c .before .before .if1 .taken), c .before .target-of .ensures)
 
 returns-4 : tie.Need-returns-4
-returns-4 c = law.invalid _ _ _ _ _ _ _ (c .before .before .match .rest .1) (⊎-elim (λ w. law.below (c .before .before .before .before .args .kind) (omega (arith, w .taken))) (λ w. law.above (c .before .before .before .before .args .kind) (omega (arith, w .1 .left))) (c .before .if1 .came)) (c .ended2 .ensures)
+unfolding atLevel
+returns-4 c = c .onward2 .ensures ∙ rw (ne-eqb (c .before .before .before .before .before .before .before .before .args .kind) 1 (c .before .before .before .before .match .rest .1), le-ltb (c .before .before .before .before .before .before .before .before .args .kind) 2 (omega (arith, c .before .before .before .before .match .rest .0 .1, c .before .before .before .before .match .rest .1)), ne-eqb _ _ (c .before .before .if1 .left), c .before .table-of .ensures)
 
 pub at-level-spec : {M : Type 1} → statement M
 at-level-spec =
@@ -45,11 +50,11 @@ at-level-spec =
     (tie.spec
     add-levels
     ended-requires
+    ended-requires-2
     target-of-requires
     onward-requires
     table-of-requires
     onward-requires-2
-    ended-requires-2
     returns
     returns-2
     returns-3

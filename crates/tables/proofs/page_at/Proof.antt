@@ -1,6 +1,10 @@
 -- `tables::page_at` meets its contract. Assumes nothing.
 use borrow.Author.Needs.{needs}
+use Prim.Native.Nat.{ℕ, _/_, _%_, _^_}
+use mathlib.Core.Bool.{false}
+use mathlib.Core.Path.{ap, _∙_}
 use native.Mathlib.Omega.{arith}
+use Rattle.definition.specs.Walk030.{entryOf}
 use Rattle.tables.proofs.page_at.Statement.{statement}
 use Rattle.tables.proofs.page_at.Tie as tie
 
@@ -14,7 +18,7 @@ entry-requires : tie.Need-entry-requires
 entry-requires c κs = search needs
 
 returns : tie.Need-returns
-returns c = rw (← c .before .before .bit .ensures, c .before .if1 .taken) (omega (arith, c .entry .ensures))
+returns c = rw (← c .before .before .bit .ensures, c .before .if1 .taken) (c .entry .ensures ∙ ap (λ (t : ℕ). entryOf t (c .before .before .before .args .address / 2 ^ 13 % 32) false) (omega arith))
 
 sub-entry-2 : tie.Need-sub-entry-2
 sub-entry-2 c = search needs
@@ -23,7 +27,7 @@ entry-requires-2 : tie.Need-entry-requires-2
 entry-requires-2 c κs = search needs
 
 returns-2 : tie.Need-returns-2
-returns-2 c = rw (← c .before .before .bit .ensures, c .before .if1 .left) (omega (arith, c .entry2 .ensures))
+returns-2 c = rw (← c .before .before .bit .ensures, c .before .if1 .left) (c .entry2 .ensures ∙ ap (λ (t : ℕ). entryOf t (c .before .before .before .args .address / 2 ^ 12 % 64) false) (omega arith))
 
 pub page-at-spec : {M : Type 1} → statement M
 page-at-spec =

@@ -1,6 +1,6 @@
 -- `tables::page_shift` meets its contract: the loop's invariant: the sum so far and the widths from `k` on make the whole.
 -- Assumes nothing.
-use Prim.Native.Nat.{ℕ, _+_, _-_, _*_, _/_, _%_, _^_, _≤_, _<_}
+use Prim.Native.Nat.{ℕ, _+_, _-_, _*_, _≤_, _<_}
 use mathlib.Core.Path.{_≡_, ap, sym, _∙_}
 use mathlib.Core.List.{List}
 use borrow.Author.Needs.{needs}
@@ -8,8 +8,7 @@ use borrow.Author.Tests.{le-leb, lt-leb}
 use native.Mathlib.Omega.{arith}
 use lib.ListN.{length, getD, drop, drop-of-length-le}
 use Rattle.definition.specs.Walk030.{isOf, used, widthsOf, sumOf}
-use Rattle.tables.proofs.Lemmas.{sum-more}
-use Rattle.tables.proofs.Ways030 as law
+use Rattle.tables.proofs.Lemmas as law
 use Rattle.tables.proofs.page_shift.Statement.{statement}
 use Rattle.tables.proofs.page_shift.Tie as tie
 
@@ -74,7 +73,7 @@ loop-less c =
 loop-again : tie.Need-loop-again Inv-loop μ-loop
 loop-again c =
     let w = width c in
-    let more = sum-more (used (widthsOf (c .before .before .before .before .args .tc))) (c .before .loop .k) (omega (arith, c .loop-test .taken, n-is (c .before))) in
+    let more = law.sum-more (used (widthsOf (c .before .before .before .before .args .tc))) (c .before .loop .k) (omega (arith, c .loop-test .taken, n-is (c .before))) in
     (omega arith, omega arith, omega (arith, w .1, more, c .before .loop .inv .2))
 
 sub-t15 : tie.Need-sub-t15 Inv-loop μ-loop

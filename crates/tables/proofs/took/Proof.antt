@@ -1,7 +1,8 @@
 -- `tables::took` meets its contract. Assumes nothing.
 use borrow.Author.Needs.{needs}
+use mathlib.Core.Path.{_∙_}
 use native.Mathlib.Omega.{arith}
-use Rattle.tables.proofs.Steps030 as law
+use Rattle.tables.specs.Machine030.{tookOf}
 use Rattle.tables.proofs.took.Statement.{statement}
 use Rattle.tables.proofs.took.Tie as tie
 
@@ -27,13 +28,16 @@ at-level-requires : tie.Need-at-level-requires
 at-level-requires c κs = c .before .before .before .before .before .pre .0 (c .if1 .left)
 
 returns : tie.Need-returns
-returns c = law.took-lost _ _ (c .before .before .before .d .given .1) (c .ended .ensures)
+unfolding tookOf
+returns c = c .ended .ensures ∙ rw (c .before .before .before .d .given .1)
 
 returns-2 : tie.Need-returns-2
-returns-2 c = law.took-target _ _ (c .before .before .before .before .d2 .given .1) (c .before .if1 .taken) (c .at-target .ensures)
+unfolding tookOf
+returns-2 c = c .at-target .ensures ∙ rw (c .before .before .before .before .d2 .given .1, c .before .if1 .taken)
 
 returns-3 : tie.Need-returns-3
-returns-3 c = law.took-level _ _ (c .before .before .before .before .d2 .given .1) (c .before .if1 .left) (c .at-level .ensures)
+unfolding tookOf
+returns-3 c = c .at-level .ensures ∙ rw (c .before .before .before .before .d2 .given .1, c .before .if1 .left)
 
 pub took-spec : {M : Type 1} → statement M
 took-spec =

@@ -1,6 +1,6 @@
 -- `tables::touches` meets its contract: each `return` is a fact on the four bytes (`Lemmas`). Assumes nothing.
 use borrow.Author.Needs.{needs}
-use mathlib.Core.Path.{_≡_, sym}
+use mathlib.Core.Path.{sym}
 use native.Mathlib.Omega.{arith}
 use Rattle.tables.proofs.Lemmas.{untouched, touched-by}
 use Rattle.tables.proofs.touches.Statement.{statement}

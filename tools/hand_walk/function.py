@@ -1,0 +1,750 @@
+"""One function: its walk, statement by statement, and the file around it."""
+from logic import KIT, KIT_ARRAY, KIT_LEND, KIT_MUT, needed
+from sexp import items, place, statements
+from text import list_of, nth, numbered, par, product_of, text_of, tuple_of
+from values import Facts, Type, Value
+from walk import Walk
+
+HOME = 'tables'      # the crate that has the laws of walks, Branching and Lending
+
+
+class Printer:
+    def __init__(self, configuration, crate, functions, sources, name):
+        self.crate = crate
+        self.functions = functions
+        self.name = name
+        self.f = functions[f'{crate}::{name}']
+        self.own = configuration.FUNCTIONS[name]
+        self.sources = sources       # crate -> its contracts, and the `use` lines that they want
+        self.contract = sources[crate][0][name]
+        self.calls = []              # (callee, its contract, its lifetimes -> the caller's)
+        self.facts = Facts()
+        self.lent = None             # the array that is lent until the next call has returned
+        self.lends = False
+        self.names = 0
+        numbers = range(1, self.f.nparams + 1)
+        self.locals = range(len(self.f.locals))
+        self.lifetimes = range(self.f.lifetimes)
+        self.slices = [i for i in numbers if self.param(i).kind == 'slice']
+        self.muts = [i for i in numbers if self.param(i).kind == 'mutref']
+        self.xs = numbered('x', numbers)
+
+    def param(self, i):
+        return self.f.params[i - 1]
+
+    def fresh(self, prefix):
+        self.names += 1
+        return f'{prefix}{self.names}'
+
+    def owned(self, i):
+        """what parameter i owns"""
+        return f'{self.param(i).row()} .own x{i} ({self.param(i).value(f"x{i}")} ∷ [])'
+
+    def kappa(self, j):
+        return f'κ{j}' if j in self.lifetimes else f'(α{j} ∷ [])'
+
+    def alive(self, lifetimes):
+        """the tokens of these lifetimes"""
+        if not lifetimes:
+            return '‵ ftrue'
+        tokens = [f'‵ (flft {self.kappa(j)} {f"q{j}" if j in self.lifetimes else "fullShare"})' for j in lifetimes]
+        return '(' + ' ⊛ '.join([*tokens, '‵ ftrue']) + ')'
+
+    def kept_names(self):
+        """what stands at the exit: tokens, slices, and the two parts of each `&mut`"""
+        return numbered('T', self.lifetimes) + numbered('S', self.slices) + [x for i in self.muts for x in (f'obs{i}', f'bor{i}')]
+
+    # ---------- a statement
+    def statement(self, w, s, last=False):
+        """emits s; last: nothing follows it in its part"""
+        if s[0] == 'call':
+            return self.call(w, s, last)
+        if s[0] != 'assign':
+            raise SystemExit(f'not covered: {s}')
+        (local, projections), rvalue = place(s[1]), s[2]
+        if projections:
+            if projections[0][0] != 'deref' or rvalue[0] != 'rvOpd' or rvalue[1][0] != 'copy':
+                raise SystemExit(f'not covered: {s}')
+            return self.behind(w, local, stored=place(rvalue[1][1])[0])
+        if rvalue[0] == 'rvOpd':
+            operand = rvalue[1]
+            if operand[0] == 'copy' and any(p[0] == 'deref' for p in place(operand[1])[1]):
+                source = place(operand[1])[0]
+                if w.values[source].type.kind == 'mutref':
+                    return self.behind(w, source, into=local)
+                return self.element(w, local, source)
+            step, value = w.operand(operand)
+            return w.assign(local, f'of-opd ! ({step})', value, last)
+        if rvalue[0] == 'addrOf':
+            source = place(rvalue[1])[0]
+            return w.assign(local, 'addr ! (from ! (stop !))', Value(Type('ptr'), None, None, None, array=source), last)
+        if rvalue[0] == 'aggregate':
+            return self.lend(w, local, items(rvalue[1]))
+        if rvalue[0] == 'op2':
+            return self.binary(w, local, rvalue, last)
+        raise SystemExit(f'not covered: {s}')
+
+    def binary(self, w, local, rvalue, last):
+        op = rvalue[1][0] if isinstance(rvalue[1], list) else rvalue[1]
+        (step1, a), (step2, b) = w.operand(rvalue[2]), w.operand(rvalue[3])
+        if op == 'offset':
+            value = Value(Type('ptr'), None, None, None, slice=a.of, index=b.scaled, size=b.by)
+            side = 'tt'
+        elif op in ('mul', 'add'):
+            fits = self.own['fits'](op, a.x, b.x)
+            x = f'{par(a.x)} {"*" if op == "mul" else "+"} {b.x}'
+            value = Value(a.type, x, f'vint {a.type.width} ({x})', f'(refl, {fits})', scaled=a.x, by=b.x)
+            side = f'(record {{ fits = {fits} }})'
+        elif op in ('lt', 'le', 'eq'):
+            x = f'{op}b {par(a.x)} {par(b.x)}'
+            value = Value(Type('bool'), x, f'vbool ({x})', 'refl')
+            side = 'tt'
+        else:
+            raise SystemExit(f'not covered: {rvalue}')
+        w.assign(local, f'bin ! ({step1}) ({step2}) {side}', value, last)
+
+    def behind(self, w, local, into=None, stored=None):
+        """`into` takes what lies behind the `&mut` in `local`, or `stored` is put there: the borrow is opened and closed"""
+        ref = w.values[local]
+        i, k, elem, now = ref.param, ref.type.lifetime, ref.type.elem, ref.now
+        row, mir = elem.row(), elem.mir()
+        where = f'({ref.x} .ptr .0) ({ref.x} .ptr .1)'
+        common = f'{row} (Is {row}) (shows 𝓤 H A {row})'
+        machine = elem.value(now)
+        w.move(f'obs{i}', f'bor{i}', f'T{k}')
+        vs, g = self.fresh('vs'), self.fresh('g')
+        w.say(f'opens ! tt {row} {{h = {now}}} {where} (λ {vs}. spelt ! {common} ({elem.values()}) ({elem.tells()}) fullShare {now} {vs} {where} $ '
+              f'use1 W (‵ (fat fullShare {mir} {where} ({machine}))) (W .laws .raw-at fullShare {mir} {where} ({machine})) $ move ! (1 ∷ []) $ '
+              f'peeks ! {common} {now} ({machine} ∷ []) (λ {g}. move ! (1 ∷ 0 ∷ [])', opens=2)
+        w.replace(3, 'cell', 'own', 'obor', f'obs{i}', 'auth')
+        through = f'(from ! (hop ! (look ! {w.cell(local)} refl) (stop !)))'
+        if into is not None:
+            w.assign(into, f'of-opd ! (load ! {through} (look ! 0 refl))', Value(elem, now, machine, g))
+        else:
+            new = w.values[stored]
+            w.say(f'assigns ! (of-opd ! ({w.look(stored)})) {through} (store ! 0 refl {elem.typed(new.x, new.i)})')
+            now, machine = par(new.x), new.v
+            w.say(f'move ! (1 ∷ []) $ drop ! $ owned ! {row} (Is {row}) {elem.makes()} {now} _ {par(new.i)} $ move ! (1 ∷ 0 ∷ [])')
+        w.say(f'use1 W (‵ (cellAt fullShare ({row} .mir) ({machine} ∷ []) {where})) (W .laws .at-raw fullShare {mir} {where} ({machine})) $ '
+              f'closes ! tt {row} {now} ({machine} ∷ []) {where}')
+        w.replace(5, f'obs{i}', f'bor{i}', f'T{k}')
+        w.values[local] = ref.but(now=now)
+
+    def lend(self, w, local, parts):
+        """`local` takes the slice of a local array's first elements, lent for a lifetime that is made here, until the next call has returned"""
+        self.lends = True
+        (step1, pointer), (step2, count) = w.operand(parts[0]), w.operand(parts[1])
+        source = pointer.array
+        array = w.values[source]
+        elem, j, b = array.type.elem, self.f.lifetimes, f'l{source}'
+        row, n, xs = elem.row(), par(count.x), par(array.x)
+        firsts, others = f'(take {n} {xs})', f'(drop-of {n} {xs})'
+        w.say(f'assigns ! (agg ! (and-then ! ({step1}) (and-then ! ({step2}) (no-more !)))) (from ! (stop !)) '
+              f'(init ! {w.cell(local)} refl (tt, (tt, (record {{ fits = {count.i} .1 }}, tt))))')
+        w.say(f'rewrite ! {w.cell(local)} (λ (m : ℕ). ‵ (fat fullShare {self.f.locals[local].mir()} l{local} 0 (sliceVal ({b}, 0) m))) '
+              f'{par(text_of(self.own["count"], self.facts))} refl')
+        w.move(f'L{source}')
+        w.say(f'use1 W (‵ (row {row} fullShare {xs} {b} 0)) (lending.out 𝓤 H A W {row} tt {elem.makes()} {array.type.n} {xs} _ {b} 0 {array.i})')
+        w.say(f'use1 W (‵ (row {row} fullShare {firsts} {b} 0) ⊛ ‵ (row {row} fullShare {others} {b} (place {elem.size()} 0 {n}))) '
+              f'(lending.cut 𝓤 H A W {row} {n} {xs} {b} 0) $ split !')
+        w.replace(1, 'firsts', 'others')
+        w.say(f'feqI ! ℕ (length {firsts}) (length {firsts}) refl $ fjoin !')
+        w.say(f'lft-new ! tt (λ α{j}.', opens=1)
+        w.push(f'T{j}')
+        w.move('firsts')
+        name = self.fresh('γ')
+        slice_ = f'(record {{ ptr = ({b}, 0); name = {name}; now = {firsts} }})'
+        value = f'sliceVal ({b}, 0) (length {firsts})'
+        own = f'ShrSlice (named {j}) (α{j} ∷ []) {row} .own {slice_} ({value} ∷ [])'
+        held = f'(arr-parts (shares {row}) (length {firsts}) .part fullShare {firsts} {b} 0)'
+        w.say(f'use1 W (later (some (λ ({name} : GName). ‵ ({own}) ⊛ ‵ (flent (α{j} ∷ []) {held})))) '
+              f'(lends-shr-slice 𝓤 H A W {row} (named {j}) (α{j} ∷ []) fullShare {firsts} {b} 0 {par(text_of(self.own["room"], self.facts))}) $ '
+              f'await ! tt $ choose ! (λ {name}. split !', opens=1)
+        w.replace(1, f'S{local}', 'lent')
+        w.values[local] = Value(Type('slice', lifetime=j, elem=elem), slice_, value, None, fresh=True)
+        del w.values[source]
+        self.lent = dict(lifetime=j, source=source, row=row, xs=xs, n=n, b=b, size=array.type.n)
+
+    def unlend(self, w):
+        """the call has returned: the array has its room again"""
+        lent, self.lent = self.lent, None
+        row, xs, b = lent['row'], lent['xs'], lent['b']
+        w.move(f'T{lent["lifetime"]}')
+        w.say('lft-end ! tt')
+        w.replace(1, 'dead')
+        w.move('dead', 'lent')
+        w.say('lent-back ! tt $ fsplit ! $ drop !')
+        w.replace(2, 'firsts')
+        w.move('firsts', 'others')
+        w.say(f'use2 W (‵ (row {row} fullShare {xs} {b} 0)) (lending.paste 𝓤 H A W {row} {lent["n"]} {xs} {b} 0) $ '
+              f'use1 W (‵ (froom {self.f.locals[lent["source"]].mir()} {b} 0)) '
+              f'(lending.back 𝓤 H A W {row} {lent["size"]} {xs} {b} 0 {par(text_of(self.own["length"], self.facts))})')
+        w.replace(2, f'L{lent["source"]}')
+
+    def copy_slice(self, w, i, slice_, name):
+        """what parameter i owns, once more under another name"""
+        w.move(f'S{i}')
+        own = self.owned(i)
+        w.say(f'use1 W (‵ ({own}) ⊛ ‵ ({own})) (shr-slice-copy 𝓤 H A W (named {slice_.type.lifetime}) κ{slice_.type.lifetime} '
+              f'{slice_.type.elem.row()} .twice {slice_.x} _)')
+        w.say('split !')
+        w.push(name)
+
+    def element(self, w, local, pointer):
+        """`local` takes the element that `pointer` points to"""
+        to = w.values[pointer]
+        slice_ = w.values[to.slice]
+        xs, i, elem, k = slice_.x, par(to.index), slice_.type.elem, slice_.type.lifetime
+        row, mir, default, inside = elem.row(), elem.mir(), self.own['default'], self.own['inside'](to.index)
+        b, o = f'({xs} .ptr .0)', f'({xs} .ptr .1)'
+        at = f'{b} (place {to.size} {o} {i})'
+        w.say(f'rewrite ! {w.cell(pointer)} (λ (p : ℕ). ‵ (fat fullShare tyPtr l{pointer} 0 (vptr {b} p))) (sym (place-is {to.size} {o} {i})) refl')
+        self.copy_slice(w, to.slice, slice_, 'copy')
+        w.say('fsplit !')
+        w.replace(1, 'fact', 'more')
+        w.drop()
+        w.say('fsplit !')
+        w.replace(1, 'rest', 'shared')
+        w.drop()
+        w.move('shared', f'T{k}')
+        copies = f'(LL.copy row-{elem.name}.the-type law-{elem.name}.the-copy 𝓤 H A W)' if elem.kind == 'struct' else f'(uint-copy 𝓤 H A W {elem.width})'
+        common = f'{row} (Is {row}) (shows 𝓤 H A {row}) ({elem.values()}) ({elem.tells()})'
+        share, g = self.fresh('s'), self.fresh('g')
+        w.say(f'looks-slice ! tt {common} {copies} ({xs} .now) {b} {o} (λ {share}. '
+              f'elem-out ! {common} {share} ({xs} .now) {i} {default} {b} {o} {inside} (λ {g}.', opens=2)
+        w.replace(2, 'cell', 'own', 'others', 'obor', 'shared')
+        x = f'getD ({xs} .now) {i} {default}'
+        machine = elem.value(x)
+        if elem.declared:
+            w.say(f'use1 W (‵ (fat {share} {mir} {at} ({machine}))) (W .laws .raw-at {share} {mir} {at} ({machine}))')
+        through = f'(from ! (hop ! (look ! {w.cell(pointer)} refl) (stop !)))'
+        w.assign(local, f'of-opd ! (load ! {through} (look ! 0 refl))', Value(elem, x, machine, g))
+        if elem.declared:
+            w.say(f'use1 W (‵ (cellAt {share} ({row} .mir) ({machine} ∷ []) {at})) (W .laws .at-raw {share} {mir} {at} ({machine}))')
+        w.say(f'elem-back ! {row} {share} ({xs} .now) {i} {default} ({machine} ∷ []) {b} {o} {inside}')
+        w.replace(3, 'row')
+        w.say(f'shuts-slice ! tt {row} {share} ({xs} .now) {b} {o}')
+        w.replace(2, f'T{k}')
+        w.move('shared')
+        w.drop()
+
+    # ---------- a call
+    def callee(self, name, lifetimes):
+        """the callee's number; its lifetimes are the caller's of the slices that it is passed"""
+        for k, (f, _, known) in enumerate(self.calls):
+            if f.name == name:
+                if known != lifetimes:
+                    raise SystemExit(f'{f.short} is called with other lifetimes')
+                return k
+        f = self.functions[name]
+        self.calls.append((f, self.sources[f.crate][0][f.short], lifetimes))
+        return len(self.calls) - 1
+
+    def arguments(self, s):
+        """the locals that a call is passed"""
+        out = []
+        for operand in items(s[2]):
+            if operand in ('true', 'false') or operand[0] == 'int':
+                raise SystemExit(f'{s[1]}: a literal argument: a covered function gives it')
+            local, projections = place(operand[1])
+            if projections:
+                raise SystemExit(f'{s[1]}: an argument that is a field: hand the struct to a covered function')
+            out.append(local)
+        return out
+
+    def call(self, w, s, last):
+        name, into = s[1][1][1].strip('"'), place(s[3])[0]
+        params, passed = self.functions[name].params, self.arguments(s)
+        slices = [(j, local) for j, (p, local) in enumerate(zip(params, passed)) if p.kind == 'slice']
+        k = self.callee(name, {params[j].lifetime: w.values[local].type.lifetime for j, local in slices})
+        f, contract, lifetimes = self.calls[k]
+        lifetimes = [lifetimes[j] for j in range(f.lifetimes)]
+        made = [j for j in lifetimes if j not in self.lifetimes]
+        # what the slices own goes along, a copy where it is a parameter's
+        for j, local in slices:
+            if hasattr(w.values[local], 'fresh'):
+                w.context[w.at(f'S{local}')] = f'c{j}'
+            else:
+                self.copy_slice(w, w.values[local].param, w.values[local], f'c{j}')
+        names = numbered('T', lifetimes) + [f'c{j}' for j, _ in slices]
+        w.move(*names)
+        values = [w.values[local] for local in passed]
+        with_made = ''.join(f'(α{j} ∷ []) fullShare ' for j in made)
+        arguments = with_made + ' '.join(value.args for value in values)
+        are = ' '.join(par(value.i) for value, p in zip(values, params) if p.kind != 'slice')
+        asked = ' ' + par(self.own['pre'][f.short](self.facts)) if contract.requires else ''
+        to = f'(to-{k} {arguments})' if params else f'to-{k}'
+        goes = f'(goes-{k} {arguments} {are}{asked})' if params else f'goes-{k}'
+        if len(names) > 1:
+            w.say(f'group ! {len(names)}')
+        w.pop(len(names))
+        w.say(f'{"use1" if names else "use0"} W (raw (C{k} 𝓤 H A mem run .pre {to})) {goes}')
+        w.push('pre')
+        loads = 'no-more !'
+        for local in reversed(passed):
+            loads = f'and-then ! ({w.look(local)}) ({loads})'
+        u, r, e, is_ = self.fresh('u'), self.fresh('r'), self.fresh('e'), self.fresh('is')
+        result = f.result
+        kappas, xs = tuple_of([self.kappa(j) for j in lifetimes]), tuple_of([value.x for value in values])
+        says = contract.says([par(value.x) for value in values], r)
+        said = f'said-{k} {with_made}{" ".join(par(value.x) for value in values)} {r}'
+        w.say(f'{"calls-at-last" if last else "calls-at"} ! fm (C{k} 𝓤 H A mem run) known-{k} {to} ({loads}) (λ {u}.'
+              f'\n        use1 W (later (some (λ (r : {result.denotation()}). ({self.alive(lifetimes)} ⊛ ‵ ({result.row()} .own r ({u} ∷ []))) ⊛ '
+              f'raw (ensured 𝓤 H A c{k}.ended (c{k}.clauses 𝓤 H A mem run) {kappas} {xs} tt r)))) (id⊢ 𝓤 _) $ await ! tt $ choose ! (λ {r}. '
+              f'split ! $ move ! (1 ∷ []) $ use1 W (raw (fact 𝓤 ({says}))) ({said}) $ heard ! ({says}) (λ {e}. split !', opens=3)
+        w.replace(1, 'alive', 'got')
+        for j in lifetimes:
+            w.say('split !')
+            w.replace(1, f'T{j}', 'alive')
+            w.move('alive')
+        w.drop()
+        w.move('got')
+        w.say(f'facts ! {result.row()} (Is {result.row()}) (shows 𝓤 H A {result.row()}) {r} ({u} ∷ []) (λ {is_}.', opens=1)
+        w.pop()
+        w.append(f' {"land-last" if last else "land"} ! (from ! (stop !)) {w.write(into, Value(result, r, u, is_))}')
+        # the machine value is spelled out, so that a loop's record can name it
+        spelled = f'({result.tells()} {r} _ {is_})'
+        w.say(f'rewrite ! {w.cell(into)} (λ (u : Val). ‵ (fat fullShare {result.mir()} l{into} 0 u)) (ap only {spelled}) refl')
+        w.values[into] = Value(result, r, result.value(r), f'(subst (Is {result.row()} {r}) {spelled} {is_})')
+        self.facts.append((f.short, r, e))
+        if self.lent and made:
+            self.unlend(w)
+
+    def call_lemmas(self, k):
+        """what callee k is passed, what it asks, and what is known of its result"""
+        f, contract, lifetimes = self.calls[k]
+        lifetimes = [lifetimes[j] for j in range(f.lifetimes)]
+        numbers = range(f.nparams)
+        plain = [j for j in numbers if f.params[j].kind != 'slice']
+        rows = [p.row(lifetimes[p.lifetime]) if p.kind == 'slice' else p.row() for p in f.params]
+        made = [j for j in lifetimes if j not in self.lifetimes]
+        made_bound, made_names = ''.join(f'(κ{j} : Lft) (q{j} : Share) ' for j in made), ''.join(f'κ{j} q{j} ' for j in made)
+        a, v = numbered('a', numbers), numbered('v', numbers)
+        bound = made_bound + ' '.join(f'(a{j} : {p.denotation()}) (v{j} : Val)' for j, p in enumerate(f.params))
+        names = made_names + ' '.join(f'a{j} v{j}' for j in numbers)
+        are = ' '.join(f'(i{j} : Is {rows[j]} a{j} (v{j} ∷ []))' for j in plain)
+        kappas, shares = tuple_of(numbered('κ', lifetimes)), tuple_of(numbered('q', lifetimes))
+        asks = contract.requires
+        source = [f'‵ (flft κ{j} q{j})' for j in lifetimes] + [f'‵ ({rows[j]} .own a{j} (v{j} ∷ []))' for j in numbers if j not in plain]
+        w = Walk(self)
+        w.context = numbered('T', lifetimes) + [f'S{j}' for j in numbers if j not in plain]
+        if asks:
+            w.say('says ! pre')
+        w.say('nothing !')
+        w.push('owned')
+        for j in reversed(numbers):
+            if j in plain:
+                w.say(f'owned ! {rows[j]} (Is {rows[j]}) {f.params[j].makes()} a{j} _ i{j}')
+                w.push(f'S{j}')
+            w.move(f'S{j}', 'owned')
+            w.say('fjoin !')
+            w.replace(2, 'owned')
+        w.say('nothing !')
+        w.push('alive')
+        for j in reversed(lifetimes):
+            w.move(f'T{j}', 'alive')
+            w.say('join !')
+            w.replace(2, 'alive')
+        w.move('alive', 'owned')
+        w.say('join !')
+        if not asks:
+            w.say('frame !')
+        w.say('done !')
+        given = f'{bound} {are} {f"(pre : {contract.asks(a)}) " if asks else ""}→ ' if f.nparams else ''
+        says = contract.says(a, 'r')
+        xs, vs = tuple_of(a), tuple_of([f'{x} ∷ []' for x in v])
+        ensured = f'ensured 𝓤 H A c{k}.ended (c{k}.clauses 𝓤 H A mem run) {kappas} {xs} tt r'
+        known_of = made_bound + ' '.join(f'(a{j} : {p.denotation()})' for j, p in enumerate(f.params))
+        return f'''  -- the call of `{f.short}`: what it is passed, what it asks, and what is known of its result
+  abbrev to-{k} : {bound + ' → ' if f.nparams else ''}C{k} 𝓤 H A mem run .Ghost
+  to-{k} {names} = (({kappas}, {shares}, tt, {xs}, {vs}), tt)
+
+  goes-{k} : {given}ent 𝓤 ({f'⋆ 𝓤 H A ({list_of(source)})' if source else 'emp 𝓤'}) (C{k} 𝓤 H A mem run .pre (to-{k} {names}))
+  goes-{k} {names} {' '.join(f'i{j}' for j in plain)} {'pre ' if asks else ''}=
+      qed W ({list_of(source)}) ∵ {' $ '.join(w.steps)}
+
+  said-{k} : {known_of} (r : {f.result.denotation()}) → ent 𝓤 ({ensured}) (fact 𝓤 ({says}))
+  said-{k} {made_names}{' '.join(a)} r = exE 𝓤 _ (λ ws. snd∗ 𝓤 (sem 𝓤 H A (lasts c{k}.ended {kappas} {xs} ws)) (fact 𝓤 ({says})))
+'''
+
+    # ---------- the function's walk
+    def leave(self, w, proof, within=False):
+        """return: the result is read, every local freed, and what the callee gives back stands at the exit"""
+        w.say(f'returns-within ! Post refl (look ! {w.cell(0)} refl)' if within else f'returns ! (look ! {w.cell(0)} refl)')
+        result, lasts = w.values[0], ''.join(f'{w.values[i].now} ' for i in self.muts)
+        self.forget(w, w.values)
+        for i in self.locals:
+            w.move(f'L{i}', f'D{i}')
+            w.say('free1 !')
+            w.pop(2)
+        w.say('free0 !')
+        w.keep(self.kept_names())
+        w.say(f'by ! (exits {lasts}{par(result.x)} {par(result.v)} {par(result.i)} {par(proof)})')
+
+    def forget(self, w, locals_):
+        for i in self.locals:
+            if i in locals_ and i in w.values:
+                w.say(f'forget ! {w.cell(i)} refl')
+
+    def entered(self):
+        """a walk at the function's entry: the parameters are in their locals"""
+        w = Walk(self)
+        for i in self.locals:
+            w.push(f'L{i}', f'D{i}')
+        w.context += ['alive', 'owned']
+        passes = []
+        for i, p in enumerate(self.f.params, 1):
+            w.values[i] = Value(p, f'x{i}', p.value(f'x{i}'), f'i{i}', param=i)
+            passes.append(f'pass1 ! (init ! {w.cell(i)} refl {p.typed(f"x{i}", f"i{i}")})')
+        w.say(' $ '.join([*passes, 'pass0 !']))
+        w.move('owned')
+        for i, p in enumerate(self.f.params, 1):
+            w.say('fsplit !')
+            w.replace(1, f'S{i}', 'owned')
+            if p.kind == 'slice':
+                w.move('owned')
+            elif p.kind == 'mutref':
+                w.say('fsplit3 ! $ drop !')
+                w.replace(1, f'obs{i}', f'bor{i}')
+                w.move('owned')
+                w.values[i].now = f'(x{i} .now)'
+            else:
+                w.drop()
+        w.drop()
+        w.move('alive')
+        for k in self.lifetimes:
+            w.say('split !')
+            w.replace(1, f'T{k}', 'alive')
+            w.move('alive')
+        w.drop()
+        return w
+
+    def run(self):
+        w = self.entered()
+        self.turn = None
+        body = statements(self.f.body)
+        for k, s in enumerate(body):
+            if s == 'return':
+                self.leave(w, self.own['ends'](self.facts))
+                break
+            if s[0] == 'block':
+                self.loop(w, statements(s[1][1]), body[k + 1:])
+                break
+            if s[0] == 'if':
+                self.returning(w, s)
+            else:
+                self.statement(w, s)
+        self.main = w
+        return self.file()
+
+    def returning(self, w, s):
+        """`if c { .. return }`, and what follows"""
+        test, h = place(s[1][1])[0], self.fresh('h')
+        if s[3] != 'skip':
+            raise SystemExit('an `if` in a thin function returns, and has no else')
+        facts = self.facts
+        self.facts = Facts([*facts, ('if', None, h)])
+        out = w.fork()
+        for s2 in statements(s[2])[:-1]:
+            self.statement(out, s2)
+        self.leave(out, self.own['ends'](self.facts), within=True)
+        self.facts = Facts([*facts, ('else', None, h)])
+        w.say(f'leaves-if ! ({w.look(test)})\n        (λ {h}. {out.text()})\n        (λ {h}.', opens=1)
+
+    # ---------- the loop
+    def loop(self, w, turn, rest):
+        """into the loop, and one turn of it; `rest` follows it"""
+        loop = self.own['loop']
+        variables = loop['vars']
+        order = numbered('L', self.locals) + numbered('D', self.locals) + numbered('T', self.lifetimes) + numbered('S', self.slices)
+        others = [i for i in self.locals if not 1 <= i <= self.f.nparams and i not in variables]
+        # what stands at the loop's head
+        head = Walk(self)
+        head.context = list(order)
+        self.head = []
+        for i in self.locals:
+            type_ = self.f.locals[i]
+            if 1 <= i <= self.f.nparams:
+                head.values[i] = w.values[i]
+            elif i in variables:
+                x = f't .0 .{variables[i]}'
+                head.values[i] = Value(type_, x, type_.value(x), f'({nth("t .1", list(variables).index(i))})')
+            cell = f'fat fullShare {type_.mir()} l{i} 0 ({head.values[i].v})' if i in head.values else f'froom {type_.mir()} l{i} 0'
+            self.head.append(f'‵ ({cell})')
+        self.head += [f'‵ (fdies {self.f.locals[i].mir()} l{i})' for i in self.locals]
+        self.head += [f'‵ (flft κ{k} q{k})' for k in self.lifetimes] + [f'‵ ({self.owned(i)})' for i in self.slices]
+        # into it
+        self.forget(w, others)
+        w.keep(order)
+        are = tuple_of([w.values[i].i for i in variables])
+        w.say(f'looped {" ".join(numbered("l", self.locals))} ({loop["start"](self.facts)}, {are})')
+        # a turn
+        self.rest, self.turn, self.facts = rest, head, Facts()
+        for k, s in enumerate(turn):
+            if s[0] not in ('if', 'cond'):
+                self.statement(head, s)
+                continue
+            return self.leaving(head, s, turn[k + 1:], rest, order, others)
+        raise SystemExit('a turn without an `if` that leaves')
+
+    def leaving(self, w, s, tail, rest, order, others):
+        """the `if` that leaves the loop, and the turn's end"""
+        loop = self.own['loop']
+        test, h = place(s[1][1])[0], self.fresh('h')
+        leaves_first = s[2] != 'skip'
+        facts = self.facts
+        # the arm that leaves
+        self.facts = Facts([*facts, ('if', None, h)])
+        out = w.fork()
+        for s2 in statements(s[2] if leaves_first else s[3])[:-1]:
+            self.statement(out, s2)
+        out.say('jumps !')
+        out.say('exec ! C Λ En Rest (atRet En Post)')
+        for s2 in rest[:-1]:
+            self.statement(out, s2)
+        self.leave(out, loop['ends']('t .0', h, self.facts))
+        # the arm that goes on
+        self.facts = Facts([*facts, ('else', None, h)])
+        on = w.fork()
+        for k, s2 in enumerate(tail):
+            self.statement(on, s2, last=k == len(tail) - 1)
+        are = tuple_of([on.values[i].i for i in loop['vars']])
+        self.forget(on, others)
+        on.keep(order)
+        on.say(f'again ! Nearer At t ({loop["next"]("t .0", h, self.facts)}, {are}) {par(loop["less"]("t .0", h, self.facts))}')
+        yes, no = (out, on) if leaves_first else (on, out)
+        w.say(f'{"leaves-if" if leaves_first else "stays-if"} ! ({w.look(test)})\n        (λ {h}. {yes.text()})\n        (λ {h}. {no.text()})')
+
+    # ---------- the file
+    def exit_walk(self):
+        """from what is kept to what the contract wants at the exit"""
+        w = Walk(self)
+        w.context = self.kept_names()
+        w.say('nothing !')
+        w.push('alive')
+        for j in reversed(self.lifetimes):
+            w.move(f'T{j}', 'alive')
+            w.say('join !')
+            w.replace(2, 'alive')
+        w.move('alive')
+        w.say('frame !')
+        w.pop()
+        w.say('nothing !')
+        w.push('owned')
+        for i in reversed(range(1, self.f.nparams + 1)):
+            p = self.param(i)
+            if p.kind == 'mutref':
+                w.move(f'obs{i}', f'bor{i}')
+                value = p.value(f'x{i}')
+                w.say(f'feqI ! (List Val) ({value} ∷ []) ({value} ∷ []) refl $ fjoin3 !')
+                w.replace(2, f'S{i}')
+            elif p.kind != 'slice':
+                w.say(f'owned ! {p.row()} (Is {p.row()}) {p.makes()} x{i} _ i{i}')
+                w.push(f'S{i}')
+            w.move(f'S{i}', 'owned')
+            w.say('fjoin !')
+            w.replace(2, 'owned')
+        w.say('frame !')
+        w.pop()
+        result = self.f.result
+        w.say(f'owned ! {result.row()} (Is {result.row()}) {result.makes()} r _ is')
+        w.say('done !')
+        return ' $ '.join(w.steps)
+
+    def types(self):
+        """every type that the walk names"""
+        used = list(self.f.locals) + [t for f, _, _ in self.calls for t in [f.result, *f.params]]
+        return [inner for t in used for inner in t.inside()]
+
+    def imports(self):
+        types = self.types()
+        widths = sorted({t.bits for t in types if t.kind == 'int'} | {64})
+        lines = [line.replace('WIDTHS', ', '.join(f'w{b}' for b in widths)).replace('UINTS', ', '.join(f'u{b}' for b in widths)) for line in KIT]
+        if self.muts:
+            lines += KIT_MUT
+        if any(t.kind == 'array' for t in types):
+            lines += KIT_ARRAY
+        if self.lends:
+            lines += KIT_LEND + [f'use {self.proofs(HOME)}.Lending as lending']
+        lines.append(f'use {self.proofs(HOME)}.Branching.{{stays-if, leaves-if}}')
+        if 'law' in self.own:
+            lines.append(f'use {self.proofs(self.crate)}.{self.own["law"]} as law')
+        for crate in dict.fromkeys([self.crate] + [f.crate for f, _, _ in self.calls]):
+            inner, outer = f'Rattle.{crate}.specs.', self.specs(crate) + '.'
+            lines += [line.replace(inner, outer) for line in self.sources[crate][1]]
+        for crate, name in sorted({(t.crate, t.name) for t in types if t.declared}):
+            lines.append(f'use {self.specs(crate)}.declared.{name}.{{{name}}}')
+            lines.append(f'use {self.proofs(crate)}.{name} as row-{name}')
+            lines.append(f'use {self.proofs(crate)}.{name}.Laws as law-{name}')
+        for k, (f, _, _) in enumerate(self.calls):
+            where = f'{self.proofs(f.crate)}.{f.short}'
+            lines += [f'use {where} as c{k}', f'use {where}.Symbol as c{k}-def', f'use {where}.Symbol.{{name as #{f.key}}}', f'use {where}.Met as c{k}-thm']
+        here = f'{self.proofs(self.crate)}.{self.name}'
+        lines += [f'use {here}.Key.{{name as #{self.f.key}}}', f'use {here} as self', f'use {here}.Statement as stated', f'use {here}.Code as code']
+        if self.turn:
+            lines.append(f'use {here}.Code.Mir as parts')
+        return lines
+
+    # what is another crate's is named through that crate's facade
+    def proofs(self, crate):
+        return f'Rattle.{crate}.proofs' if crate == self.crate else f'Rattle.{crate}.proofs'
+
+    def specs(self, crate):
+        return f'Rattle.{crate}.specs' if crate == self.crate else f'Rattle.{crate}.specs'
+
+    def loop_record(self):
+        """the loop's variant: what is known at its head, of the locals that change, ordered by what is left"""
+        loop = self.own['loop']
+        facts = []
+        for i, field in loop['vars'].items():
+            type_ = self.f.locals[i]
+            facts.append(f'Is {type_.row()} (t .{field}) ({type_.value(f"t .{field}")} ∷ [])')
+        measure = loop['measure']
+        return f'''  -- the loop's variant: what is known at its head, of the locals that change, ordered by what is left
+  abbrev Turn : Type 0
+  Turn = (t : {loop['state']}) × {product_of(facts)}
+
+  abbrev Nearer : Turn → Turn → Type 0
+  Nearer s t = {measure('s .0')} < {measure('t .0')}
+
+  Nearer-wf : WellFounded Nearer
+  Nearer-wf = InvImage·wf (λ (t : Turn). {measure('t .0')}) (Nat·lt-wfRel .wf)
+'''
+
+    def loop_lemmas(self):
+        count = len(statements(self.f.body))
+        after = count - len(self.rest)
+        cells = list_of(f'({t.mir()}, l{i})' for i, t in enumerate(self.f.locals))
+        back = 'afterBlock 𝓤 H (afterSeq 𝓤 H (Wp 𝓤 H C Λ En Rest (atReturn 𝓤 H En Post)) (atReturn 𝓤 H En Post))'
+        return f'''    module _ ({' '.join(numbered('l', self.locals))} : ℕ) where
+      abbrev En : Env 𝓤 H
+      En = {cells}
+
+      abbrev At : Turn → List (Item 𝓤)
+      At t = {list_of(self.head)}
+
+      abbrev Rest : Body
+      Rest = parts.t-{after + 1}
+
+      abbrev Turned : Turn → Out → SProp 𝓤
+      Turned t = afterTurn 𝓤 H (Below 𝓤 H A Nearer At t) ({back})
+
+      turns : (t : Turn) → Sq W (At t) (runs C Λ En parts.turn-1 (anyQ (Turned t)))
+      unfolding afterTurn
+      turns t =
+        {self.turn.text()}
+
+      looped : (t : Turn) → Sq W (At t) (runs C Λ En parts.t-{after} (atRet En Post))
+      looped t = first ! $ blocks ! $ loops ! 𝓣 Nearer Nearer-wf At turns t
+'''
+
+    def file(self):
+        f, xs = self.f, self.xs
+        dashed = self.name.replace('_', '-')
+        asks = self.contract.requires
+        lasts_named = {self.contract.params[i - 1]: f'y{i}' for i in self.muts}
+        says = self.contract.says(xs, 'r', lasts_named)
+        kappas, shares = tuple_of(numbered('κ', self.lifetimes)), tuple_of(numbered('q', self.lifetimes))
+        values = [p.value(x) for p, x in zip(f.params, xs)]
+        value_list = list_of(map(par, values))
+        stays, goes = [], []
+        for p in f.params:
+            n = f.lifetimes
+            if p.kind == 'mutref':
+                behind = f'(plain (λ _. {p.elem.row()}))'
+                stays.append(f'stay-ref ({p.lifetime} ∷ []) tt {behind}')
+                goes.append(f'goes-ref 𝓤 H A W {n} {p.lifetime} tt {behind}')
+            elif p.kind == 'slice':
+                elems = f'({p.lifetime} ∷ []) tt (plain (λ _. {p.elem.row()})) yes'
+                stays.append(f'stay-none-slice {elems}')
+                goes.append(f'goes-none-slice 𝓤 H A W {n} {elems}')
+            else:
+                stays.append(f'stay-none (λ _. {p.row()}) yes')
+                goes.append(f'goes-none 𝓤 H A W {n} (λ _. {p.row()}) yes (λ κs x f. refl)')
+        kept = [f'‵ (flft κ{k} q{k})' for k in self.lifetimes] + [f'‵ ({self.owned(i)})' for i in self.slices]
+        for i in self.muts:
+            p = self.param(i)
+            kept.append(f'‵ (fobs (x{i} .name) ({p.elem.row()} .coded .code y{i}))')
+            kept.append(f'‵ (fbor κ{p.lifetime} (Behind (mem-of {p.elem.row()}) (x{i} .ptr .0) (x{i} .ptr .1) (x{i} .name)))')
+        lasts = tuple_of([f'y{i}' if i in self.muts else 'tt' for i in range(1, f.nparams + 1)])
+        last_bound = ''.join(f'(y{i} : {self.param(i).elem.denotation()}) ' for i in self.muts)
+        last_names = ''.join(f'y{i} ' for i in self.muts)
+        entry = f'(({kappas}, {shares}, tt, {tuple_of(xs)}, at-entry), tt)'
+        contract = '𝓤 H A self.ended stayed (self.clauses 𝓤 H A mem run)'
+        logic = '{M : Type 1} (𝓤 : URA M) (H : Heap 𝓤) (A : Atoms 𝓤)'
+        running = '(mem : Memory → SProp 𝓤) (run : Routine → Fun 𝓤)'
+        bound = ''.join(f' (κ{k} : Lft)' for k in self.lifetimes) + ''.join(f' (q{k} : Share)' for k in self.lifetimes)
+        bound += ''.join(f' ({x} : {p.denotation()})' for x, p in zip(xs, f.params))
+        bound += ''.join(f' (i{i} : Is {p.row()} x{i} ({v} ∷ []))' for i, (p, v) in enumerate(zip(f.params, values), 1))
+        if asks:
+            bound += f' (pre : {self.contract.asks(xs)})'
+        triples = [f'Triple 𝓤 (𝓣 .C #{c.key}) (C{k} 𝓤 H A mem run)' for k, (c, _, _) in enumerate(self.calls)]
+        known = ' '.join(f'known-{k}' for k in range(len(triples)))
+        out = []
+        if self.calls:
+            out.append(f'module _ {logic} {running} where')
+            out += [f'  abbrev C{k} : Contract 𝓤\n  C{k} = tripleOf 𝓤 H A c{k}.signature (c{k}.spec 𝓤 H A mem run)\n' for k in range(len(self.calls))]
+        out.append(f'''module _ {logic} (W : Given 𝓤 H A) {running}{bound} where
+  abbrev at-entry : Vals self.signature {kappas}
+  at-entry = {tuple_of([f'{v} ∷ []' for v in values])}
+
+  abbrev Post : Val → SProp 𝓤
+  Post = walk-of {contract} .post {entry}
+
+  exits : {last_bound}(r : {f.result.denotation()}) (u : Val) → Is {f.result.row()} r (u ∷ []) → {par(says)} → ent 𝓤 (⋆ 𝓤 H A ({list_of(kept)})) (Post u)
+  exits {last_names}r u is e =
+      qed W ({list_of(kept)}) ∵
+      suffices ! _ (ends-at {contract} W {entry} u r {lasts} {tuple_of(['tt'] * f.nparams)}) $ says ! e $
+      {self.exit_walk()}
+''')
+        out += [self.call_lemmas(k) for k in range(len(self.calls))]
+        if self.turn:
+            out.append(self.loop_record())
+        out.append(f'''  module _ (𝓣 : Tables 𝓤 H){''.join(f' (known-{k} : {t})' for k, t in enumerate(triples))} where
+    abbrev C : Calls 𝓤 H
+    C = 𝓣 .C
+
+    abbrev Λ : Loops 𝓤 H
+    Λ = 𝓣 .Λ
+
+    fm : FmC 𝓤 H (W .laws) (𝓣 .C)
+    fm = fmOf 𝓤 H (W .laws) 𝓣
+''')
+        if self.turn:
+            out.append(self.loop_lemmas())
+        allocations = ' '.join(f'alloc1 ! (λ l{i}.' for i in self.locals)
+        self.main.open += len(self.locals)
+        out.append(f'''    walk : ent 𝓤 (onEntry 𝓤 H A self.signature {kappas} {shares} {tuple_of(xs)} at-entry) (WpFn 𝓤 H (𝓣 .C) (𝓣 .Λ) code.function ({value_list}) Post)
+    walk =
+        qed W ({self.alive(self.lifetimes)} ∷ ‵ (owns ({list_of(p.row() for p in f.params)}) {tuple_of(xs)} at-entry) ∷ []) ∵ enter ! (𝓣 .C) (𝓣 .Λ) code.function ({value_list}) _ $
+        {allocations} alloc0 ! $ params1 ! $
+        {self.main.text()}
+''')
+        paths = ' '.join(f'({nth(t, k)})' for t, n in (('κs', f.lifetimes), ('qs', f.lifetimes), ('a', f.nparams), ('are', f.nparams)) for k in range(n))
+        inner = f'walk 𝓤 H A W mem run {paths}'
+        body = f'needs 𝓤 _ _ (λ pre. {inner} pre 𝓣 {known})' if asks else f'via 𝓤 _ (fst∗ 𝓤 _ (emp 𝓤)) ({inner} 𝓣 {known})'
+        spells = tuple_of([p.values() for p in f.params])
+        tells = tuple_of([p.tells(f'({nth("κs", p.lifetime)})' if p.kind in ('slice', 'mutref') else None) for p in f.params])
+        given = ''.join(f'{t} → ' for t in triples)
+        code = '(WpFn 𝓤 H (𝓣 .C) (𝓣 .Λ) code.function)'
+        out.append(f'''module _ {logic} (W : Given 𝓤 H A) {running} (𝓣 : Tables 𝓤 H) where
+  self-walks : {given}AllWalks 𝓤 H A self.ended stayed {code} (self.clauses 𝓤 H A mem run)
+  self-walks {known} = walked {contract} {code} (λ κs. {spells}) (λ κs. {tells})
+      (λ κs qs bounds a g are. {body})
+
+  self-meets : {given}Meets 𝓤 H A self.signature {code} (self.spec 𝓤 H A mem run)
+  self-meets {known} = walk-meets 𝓤 H A self.ended stayed W {tuple_of(goes)} (self.clauses 𝓤 H A mem run) {code} (WpFn-mono 𝓤 H (W .laws) 𝓣 code.function) (self-walks {known})
+
+pub {dashed}-spec : {{M : Type 1}} → stated.statement M
+unfolding code.routine tablesOf
+{dashed}-spec 𝓤 H 𝓜 𝓖 𝓡 =
+    entered 𝓤 H (tripleOf 𝓤 H (𝓖 .A) self.signature (self.spec 𝓤 H (𝓖 .A) (𝓜 .mem) (𝓡 .run)))
+    (tables 𝓤 H 𝓜 𝓡 code.env .C) (tables 𝓤 H 𝓜 𝓡 code.env .Λ) #{f.key} code.function (code.unfolded 𝓤 H 𝓜 𝓡)
+    (self-meets 𝓤 H (𝓖 .A) (givenOf 𝓤 H 𝓜 𝓖) (𝓜 .mem) (𝓡 .run) (tablesOf 𝓤 H 𝓜 (tables 𝓤 H 𝓜 𝓡 code.env))''')
+        for k, (c, _, _) in enumerate(self.calls):
+            contract_k = f'(C{k} 𝓤 H (𝓖 .A) (𝓜 .mem) (𝓡 .run))'
+            out.append(f'    (cited 𝓤 H {contract_k} 𝓜 𝓡 code.env #{c.key} c{k}-def.routine code.calls-{c.key} (c{k}-thm.met 𝓤 H 𝓜 𝓖 𝓡))')
+        out[-1] += ')'
+        text = f'abbrev stayed : Stays (self.ended .signature .params) (self.ended .kept)\nstayed = {tuple_of(stays)}\n\n' + '\n'.join(out) + '\n'
+        head = f'-- `{self.crate}::{self.name}` meets its contract: a walk of its MIR, which tools/hand_walk prints. Assumes nothing.\n'
+        return head + '\n'.join(needed(self.imports(), text)) + '\n\n' + text
