@@ -299,6 +299,7 @@ fn top_index(address: u32, consumed: u32, width: u32) -> u32
     (address << (consumed % 32)) >> (32 - width)
 }
 
+// TC.
 fn tc_of(g: Registers) -> u32
     ensures { λ r. ⌜ r ≡ g .tc ⌝ }
 {
@@ -551,12 +552,14 @@ fn took(s: Walking030, n: usize, d: Descriptor) -> Walking030
     }
 }
 
+// Whether the walk has ended.
 fn is_over(s: Walking030) -> bool
     ensures { λ r. ⌜ r ≡ s .over ⌝ }
 {
     s.over
 }
 
+// How it ended.
 fn end_of(s: Walking030) -> End
     ensures { λ r. ⌜ r ≡ s .end ⌝ }
 {
@@ -564,19 +567,21 @@ fn end_of(s: Walking030) -> End
     end
 }
 
-// Where the next descriptor stands, and whether it is a long one.
+// Where the next descriptor stands.
 fn wanted(s: Walking030) -> u32
     ensures { λ r. ⌜ r ≡ s .last ⌝ }
 {
     s.last
 }
 
+// Whether the next descriptor is a long one.
 fn wants_long(s: Walking030) -> bool
     ensures { λ r. ⌜ r ≡ s .long ⌝ }
 {
     s.long
 }
 
+// How the walk ended, with what it found.
 fn answer(s: Walking030, end: End) -> Walked
     ensures { λ r. ⌜ r ≡ answered s end ⌝ }
 {
@@ -702,6 +707,7 @@ fn over_040(end: End040, asked: u32) -> Walking040
     }
 }
 
+// The root table's entry is the first long asked for.
 fn begin_040(g: Registers, supervisor: bool, address: u32) -> Walking040
     ensures { λ r. ⌜ r ≡ begin040 g supervisor address ⌝ }
 {
@@ -762,12 +768,14 @@ fn took_040(s: Walking040, g: Registers, address: u32, x: Fetched) -> Walking040
     }
 }
 
+// Whether the walk has ended.
 fn is_over_040(s: Walking040) -> bool
     ensures { λ r. ⌜ r ≡ s .over ⌝ }
 {
     s.over
 }
 
+// How it ended.
 fn end_of_040(s: Walking040) -> End040
     ensures { λ r. ⌜ r ≡ s .end ⌝ }
 {
@@ -782,6 +790,7 @@ fn wanted_040(s: Walking040) -> u32
     s.at
 }
 
+// How the walk ended, with the number of longs asked for.
 fn answer_040(s: Walking040, end: End040) -> Walked040
     ensures { λ r. ⌜ r ≡ answered040 s end ⌝ }
 {
@@ -885,19 +894,21 @@ fn supervisor_of(way: Way) -> bool
     }
 }
 
-// The three results.
+// No walk was wanted.
 fn no_walk_done() -> Walks
     ensures { λ r. ⌜ r ≡ Walks.Idle ⌝ }
 {
     Walks::Idle
 }
 
+// The 68030 walk that was wanted.
 fn done_030(w: Walked) -> Walks
     ensures { λ r. ⌜ r ≡ Walks.By030 w ⌝ }
 {
     Walks::By030(w)
 }
 
+// The 68040 walk that was wanted.
 fn done_040(w: Walked040) -> Walks
     ensures { λ r. ⌜ r ≡ Walks.By040 w ⌝ }
 {
