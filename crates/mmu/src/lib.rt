@@ -1,6 +1,6 @@
 // The public calls of document 01: translate, load, test, probe and the four flushes, by value and in place.
 // A call that walks has three stages: it plans (refusals, transparent registers, cache), walks, and concludes (fault or address, insert).
-mod checks;
+pub mod checks;
 pub mod flush;
 pub mod load;
 pub mod probe;

@@ -1,0 +1,85 @@
+-- From what a call promises to the line that its record prints. Assumes nothing.
+use Prim.Native.Nat.{ℕ}
+use mathlib.Core.Path.{_≡_, refl, ap, sym, _∙_}
+use mathlib.Core.List.{List}
+use mathlib.Core.Bool.{Bool}
+use Rattle.definition.specs.Memory.{Memory}
+use Rattle.definition.specs.Cache030.{Cache030}
+use Rattle.definition.specs.Cache040.{Cache040}
+use Rattle.definition.specs.Translate.{Caches, translate}
+use Rattle.definition.specs.Load.{load}
+use Rattle.definition.specs.Test.{test}
+use Rattle.definition.specs.Probe.{probe}
+use Rattle.definition.specs.Flush.{Flushed, flushAll, flushCode, flushPage, flushFrame}
+use Rattle.definition.specs.Calls as calls
+use Rattle.definition.specs.Calls.{Call, translationLine, loadLine, testLine, probeLine, flushLine, calling, ofFlushed}
+use Rattle.definition.specs.declared.Registers.{Registers}
+use Rattle.definition.specs.declared.Access.{Access}
+use Rattle.definition.specs.declared.Translation.{Translation}
+use Rattle.definition.specs.declared.Load.{Load}
+use Rattle.definition.specs.declared.Test.{Test}
+use Rattle.definition.specs.declared.Probe.{Probe}
+use Rattle.definition.specs.declared.Flush.{Flush}
+use Rattle.trace.specs.Lines.{lineIn}
+use Rattle.trace.specs.declared.Line.{Line}
+use Rattle.cache.specs.Atc030.{cacheOf}
+use Rattle.cache.specs.Atc040.{cache040Of}
+use Rattle.mmu.specs.Stages.{shownTranslated, shownLoaded, shownTested}
+use Rattle.mmu.specs.InPlace.{cachesOf, pairWith, AnsweredIn, LoadedIn, TestedIn, FlushedIn, FlushedIn030, FlushedIn040}
+use Rattle.mmu.proofs.Staged.{load-beside}
+use Rattle.replay.specs.Playing.{CalledIn, Tests}
+
+module _ (g : Registers) (m : Memory) {l : Line} where
+  pub of-translate : (a : Access) (c : Caches) {t : Translation} {n : ℕ} {ts ps ss ms ks bs : List ℕ}
+      → AnsweredIn (shownTranslated (translate g a m c)) t n ts ps ss ms ks bs → lineIn l ≡ translationLine n t
+      → CalledIn (calling g m c (calls.access a)) l ts ps ss ms ks bs
+  unfolding calling
+  of-translate a c k e = record { prints = e ∙ rw (k .answers, k .counts) refl; leaves = k .leaves }
+
+  pub of-load : (code : ℕ) (write : Bool) (address : ℕ) (c : Cache030) (k : Cache040) {t : Load} {n : ℕ} {ts ps ss ms ks bs : List ℕ} → k ≡ cache040Of ks bs
+      → LoadedIn (shownLoaded (load g code write address m (pairWith c k))) t n ts ps ss ms → lineIn l ≡ loadLine n t
+      → CalledIn (calling g m (pairWith c k) (calls.loading code write address)) l ts ps ss ms ks bs
+  unfolding calling
+  of-load code write address c k {ks = ks} {bs = bs} e q f =
+      record {
+        prints = f ∙ rw (q .answers, q .counts) refl;
+        leaves = beside (load g code write address m (pairWith c k) .caches) (q .leaves) (sym e ∙ sym (load-beside g code write address m (pairWith c k)));
+      }
+    where
+      beside : {x : Cache030} {y : Cache040} (d : Caches) → x ≡ d .c030 → y ≡ d .c040 → pairWith x y ≡ d
+      beside d p r = rw (p, r) refl
+
+  pub of-test : (code : ℕ) (write : Bool) (level address : ℕ) {t : Test} {n : ℕ}
+      → TestedIn (shownTested (test g code write level address m)) t n → lineIn l ≡ testLine n t → Tests g m code write level address l
+  unfolding calling
+  of-test code write level address k e = record { prints = λ c. e ∙ rw (k .answers, k .counts) refl; leaves = λ c. refl }
+
+  pub of-probe : (own instruction write : Bool) (address : ℕ) (ts ps ss ms ks bs : List ℕ) {p : Probe}
+      → p ≡ probe g own instruction write address (cachesOf ts ps ss ms ks bs) → lineIn l ≡ probeLine p
+      → CalledIn (calling g m (cachesOf ts ps ss ms ks bs) (calls.probing own instruction write address)) l ts ps ss ms ks bs
+  unfolding calling
+  of-probe own instruction write address ts ps ss ms ks bs k e = record { prints = e ∙ ap probeLine k; leaves = refl }
+
+  -- ---- the flushes
+  pub of-flush-all : (c : Caches) {f : Flush} {ts ps ss ms ks bs : List ℕ} → FlushedIn (flushAll c) f ts ps ss ms ks bs → lineIn l ≡ flushLine f
+      → CalledIn (calling g m c calls.flushingAll) l ts ps ss ms ks bs
+  unfolding calling
+  of-flush-all c k e = record { prints = e ∙ ap flushLine (k .answers); leaves = k .leaves }
+
+  pub of-flush-code : (code mask : ℕ) (c : Cache030) {f : Flush} {ts ps ss ms ks bs : List ℕ}
+      → FlushedIn030 (flushCode code mask (pairWith c (cache040Of ks bs))) (cache040Of ks bs) f ts ps ss ms → lineIn l ≡ flushLine f
+      → CalledIn (calling g m (pairWith c (cache040Of ks bs)) (calls.flushingCode code mask)) l ts ps ss ms ks bs
+  unfolding calling
+  of-flush-code code mask c k e = record { prints = e ∙ ap flushLine (k .answers); leaves = k .leaves }
+
+  pub of-flush-page : (code mask address : ℕ) (c : Cache030) {f : Flush} {ts ps ss ms ks bs : List ℕ}
+      → FlushedIn030 (flushPage code mask address (pairWith c (cache040Of ks bs))) (cache040Of ks bs) f ts ps ss ms → lineIn l ≡ flushLine f
+      → CalledIn (calling g m (pairWith c (cache040Of ks bs)) (calls.flushingPage code mask address)) l ts ps ss ms ks bs
+  unfolding calling
+  of-flush-page code mask address c k e = record { prints = e ∙ ap flushLine (k .answers); leaves = k .leaves }
+
+  pub of-flush-frame : (frame : ℕ) (k : Cache040) {f : Flush} {ts ps ss ms ks bs : List ℕ}
+      → FlushedIn040 (flushFrame frame (pairWith (cacheOf ts ps ss ms) k)) (cacheOf ts ps ss ms) f ks bs → lineIn l ≡ flushLine f
+      → CalledIn (calling g m (pairWith (cacheOf ts ps ss ms) k) (calls.flushingFrame frame)) l ts ps ss ms ks bs
+  unfolding calling
+  of-flush-frame frame k q e = record { prints = e ∙ ap flushLine (q .answers); leaves = q .leaves }

@@ -1,0 +1,117 @@
+-- What each record's parts give together: the definition's step. Assumes nothing.
+use Prim.Native.Nat.{ℕ, suc, _+_, _*_, _/_, _%_, _≤_, _<_}
+use mathlib.Core.Path.{_≡_, refl, ap, sym, _∙_}
+use mathlib.Core.List.{List, [], _∷_, _++_}
+use mathlib.Core.Bool.{Bool, true, false, not, _&&_, _||_, or-assoc, or-false}
+use native.Mathlib.Omega.{arith}
+use native.Mathlib.Numerals.{add-one}
+use borrow.Author.Tests.{eq-eqb, ne-eqb, lt-ltb, le-ltb, le-leb, lt-leb}
+use lib.Dec.{eqb, ltb, leb}
+use lib.ListN.{length, take, set, length-take}
+use lib.Seq.{length-take-le, take-suc-set}
+use Rattle.definition.specs.Words.{if_then_else_, anyOf}
+use Rattle.definition.specs.Refusal.{noFamily, badStore, crossed, noRoom, refusalOf}
+use Rattle.definition.specs.Calls as calls
+use Rattle.definition.specs.Calls.{Call, Called, calling}
+use Rattle.definition.specs.Trace.{State, memoryOf, Loads, Calls, Stores, Adds, stepOf}
+use Rattle.definition.specs.declared.Registers.{Registers}
+use Rattle.definition.specs.declared.Range.{Range}
+use Rattle.trace.specs.Lines.{lineIn}
+use Rattle.trace.specs.Records.{recordIn}
+use Rattle.trace.specs.declared.Line.{Line}
+use Rattle.trace.specs.declared.Record.{Record}
+use Rattle.replay.specs.declared.Kept.{Kept}
+use Rattle.replay.specs.Playing.{rangesOf, stateOf, CalledIn, Tests, StoredIn, PlayedIn}
+
+-- ---- registers
+module _ (k : Kept) (g : Registers) {x : Bool} (is : x ≡ noFamily (g .family)) {longs ts ps ss ms ks bs : List ℕ} where
+  pub set-none : x ≡ true → PlayedIn (stepOf (stateOf k longs ts ps ss ms ks bs) (Loads g)) (Line.R 1) k longs ts ps ss ms ks bs
+  unfolding stepOf refusalOf
+  set-none e = rw (sym is ∙ e) (record { prints = refl; leaves = refl })
+
+  pub set-some : x ≡ false
+      → PlayedIn (stepOf (stateOf k longs ts ps ss ms ks bs) (Loads g)) Line.K (record { registers = g; list = k .list; n = k .n }) longs ts ps ss ms ks bs
+  unfolding stepOf refusalOf
+  set-some e = rw (sym is ∙ e) (record { prints = refl; leaves = refl })
+
+-- ---- a store
+module _ (longs : List ℕ) (address value : ℕ) where
+  pub store-odd : (address % 4 ≡ 0 → ⊥) → StoredIn longs address value (Line.R 2) longs
+  store-odd h = record { prints = rw (ne-eqb (address % 4) 0 h); leaves = rw (ne-eqb (address % 4) 0 h) }
+
+  pub store-outside : address % 4 ≡ 0 → length longs ≤ address / 4 → StoredIn longs address value (Line.R 2) longs
+  store-outside e h =
+      let b : ltb address (4 * length longs) ≡ false = le-ltb address (4 * length longs) (omega arith) in
+      record { prints = rw (eq-eqb (address % 4) 0 e, b); leaves = rw (eq-eqb (address % 4) 0 e, b) }
+
+  pub store-in : address % 4 ≡ 0 → address / 4 < length longs → StoredIn longs address value Line.K (set longs (address / 4) value)
+  store-in e h =
+      let b : ltb address (4 * length longs) ≡ true = lt-ltb address (4 * length longs) (omega arith) in
+      record { prints = rw (eq-eqb (address % 4) 0 e, b); leaves = rw (eq-eqb (address % 4) 0 e, b) }
+
+-- a store is refused or done, as the definition's record is
+pub stored : (k : Kept) (address value : ℕ) (longs : List ℕ) {l : Line} {longs′ ts ps ss ms ks bs : List ℕ} → StoredIn longs address value l longs′
+    → PlayedIn (stepOf (stateOf k longs ts ps ss ms ks bs) (Stores address value)) l k longs′ ts ps ss ms ks bs
+unfolding stepOf refusalOf
+stored k address value longs {l} {longs′} {ts} {ps} {ss} {ms} {ks} {bs} s = go (badStore longs address) refl
+  where
+    go : (b : Bool) → badStore longs address ≡ b → PlayedIn (stepOf (stateOf k longs ts ps ss ms ks bs) (Stores address value)) l k longs′ ts ps ss ms ks bs
+    go true e = rw e (record { prints = rw e at (s .prints); leaves = rw (rw e at (s .leaves)) refl })
+    go false e = rw e (record { prints = rw e at (s .prints); leaves = rw (rw e at (s .leaves)) refl })
+
+-- ---- a range
+any-more : (l : List Range) (r : Range) → crossed r ≡ false → anyOf crossed (l ++ (r ∷ [])) ≡ anyOf crossed l
+unfolding anyOf
+any-more [] r e = rw e
+any-more (x ∷ l) r e = ap (λ (b : Bool). crossed x || b) (any-more l r e)
+
+module _ (k : Kept) (range : Range) {longs ts ps ss ms ks bs : List ℕ} where
+  pub add-crossed : range .last < range .first
+      → PlayedIn (stepOf (stateOf k longs ts ps ss ms ks bs) (Adds range)) (Line.R 3) k longs ts ps ss ms ks bs
+  unfolding stepOf refusalOf
+  add-crossed h = rw (lt-ltb (range .last) (range .first) h) (record { prints = refl; leaves = refl })
+
+  module _ (size : length (k .list) ≡ 16) (h : range .first ≤ range .last) where
+    pub add-full : 16 ≤ k .n → PlayedIn (stepOf (stateOf k longs ts ps ss ms ks bs) (Adds range)) (Line.R 8) k longs ts ps ss ms ks bs
+    unfolding stepOf refusalOf
+    add-full f =
+        rw (le-ltb (range .last) (range .first) h, le-leb 16 (length (take (k .n) (k .list))) (omega (arith, length-take (k .n) (k .list))))
+        (record { prints = refl; leaves = refl })
+
+    pub add-in : k .n < 16
+        → PlayedIn (stepOf (stateOf k longs ts ps ss ms ks bs) (Adds range)) Line.K
+        (record { registers = k .registers; list = set (k .list) (k .n) range; n = k .n + 1 }) longs ts ps ss ms ks bs
+    unfolding stepOf refusalOf
+    add-in f =
+        rw (le-ltb (range .last) (range .first) h, lt-leb 16 (length (take (k .n) (k .list))) (omega (arith, length-take-le (k .n) (k .list) (omega arith))))
+        (record { prints = refl; leaves = rw (add-one, take-suc-set (k .list) (k .n) range (omega arith)) refl })
+
+pub added-crossed : (k : Kept) (range : Range) → length (k .list) ≡ 16 → range .first ≤ range .last → k .n < 16
+    → anyOf crossed (take (k .n + 1) (set (k .list) (k .n) range)) ≡ anyOf crossed (take (k .n) (k .list))
+added-crossed k range size h f =
+    rw (add-one, take-suc-set (k .list) (k .n) range (omega arith)) (any-more (take (k .n) (k .list)) range (le-ltb (range .last) (range .first) h))
+
+-- ---- a call
+pub called : (k : Kept) (call : Call) (longs : List ℕ) (ts ps ss ms ks bs : List ℕ) {l : Line} {ts′ ps′ ss′ ms′ ks′ bs′ : List ℕ}
+    → CalledIn (calling (k .registers) (memoryOf (stateOf k longs ts ps ss ms ks bs)) (stateOf k longs ts ps ss ms ks bs .caches) call) l ts′ ps′ ss′ ms′ ks′ bs′
+    → PlayedIn (stepOf (stateOf k longs ts ps ss ms ks bs) (Calls call)) l k longs ts′ ps′ ss′ ms′ ks′ bs′
+unfolding stepOf
+called k call longs ts ps ss ms ks bs c = record { prints = c .prints; leaves = rw (c .leaves) refl }
+
+-- a PTEST: the caches stay
+pub tested : (k : Kept) (longs ts ps ss ms ks bs : List ℕ) {code level address : ℕ} {write : Bool} {l : Line}
+    → Tests (k .registers) (memoryOf (stateOf k longs ts ps ss ms ks bs)) code write level address l
+    → PlayedIn (stepOf (stateOf k longs ts ps ss ms ks bs) (Calls (calls.testing code write level address))) l k longs ts ps ss ms ks bs
+tested k longs ts ps ss ms ks bs t =
+    called k _ longs ts ps ss ms ks bs (record { prints = t .prints (stateOf k longs ts ps ss ms ks bs .caches); leaves = t .leaves (stateOf k longs ts ps ss ms ks bs .caches) })
+
+-- a record that was told apart
+pub by-record : (s : State) {x y : Record} {l : Line} {k : Kept} {longs ts ps ss ms ks bs : List ℕ} → x ≡ y
+    → PlayedIn (stepOf s (recordIn y)) l k longs ts ps ss ms ks bs → PlayedIn (stepOf s (recordIn x)) l k longs ts ps ss ms ks bs
+by-record s e p = rw e p
+
+-- a malformed one
+pub malformed : (k : Kept) {longs ts ps ss ms ks bs : List ℕ}
+    → PlayedIn (stepOf (stateOf k longs ts ps ss ms ks bs) (recordIn Record.Malformed)) (Line.R 7) k longs ts ps ss ms ks bs
+unfolding stepOf
+malformed k = record { prints = refl; leaves = refl }

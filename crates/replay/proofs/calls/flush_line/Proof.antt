@@ -1,0 +1,18 @@
+use borrow.Author.Needs.{needs}
+use Rattle.replay.proofs.calls.flush_line.Statement.{statement}
+use Rattle.replay.proofs.calls.flush_line.Tie as tie
+
+enum-told : tie.Need-enum-told
+enum-told c = search needs
+
+enum-known-answer : tie.Need-enum-known-answer
+enum-known-answer c = search needs
+
+returns : tie.Need-returns
+returns c = search needs
+
+returns-2 : tie.Need-returns-2
+returns-2 c = rw (c .before .answer .given .1)
+
+pub flush-line-spec : {M : Type 1} → statement M
+flush-line-spec = tie.close (tie.spec enum-told enum-known-answer returns returns-2)

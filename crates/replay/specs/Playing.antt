@@ -1,0 +1,61 @@
+-- What the replay keeps is the definition's state; what one record and a run over a buffer promise.
+use Prim.Native.Nat.{ℕ, _+_, _/_, _≤_}
+use mathlib.Core.Path.{_≡_}
+use mathlib.Core.Bool.{Bool, true, false}
+use mathlib.Core.List.{List, [], _∷_, _++_}
+use lib.ListN.{length, take, drop, set}
+use Rattle.definition.specs.Words.{if_then_else_}
+use Rattle.definition.specs.Memory.{Memory}
+use Rattle.definition.specs.Refusal.{badStore}
+use Rattle.definition.specs.Translate.{Caches}
+use Rattle.definition.specs.Calls as calls
+use Rattle.definition.specs.Trace.{State, Played, Front, Body, Short, Ended, frontOf, recordOf, isMalformed, stepOf, text}
+use Rattle.definition.specs.declared.Range.{Range}
+use Rattle.definition.specs.declared.Registers.{Registers}
+use Rattle.trace.specs.Lines.{lineIn, Wrote}
+use Rattle.trace.specs.declared.Line.{Line}
+use Rattle.mmu.specs.InPlace.{cachesOf}
+use Rattle.replay.specs.declared.Kept.{Kept}
+
+-- the ranges that are kept: the first n of the array
+abbrev pub rangesOf : Kept → List Range
+rangesOf k = take (k .n) (k .list)
+
+abbrev pub stateOf : Kept → List ℕ → List ℕ → List ℕ → List ℕ → List ℕ → List ℕ → List ℕ → State
+stateOf k longs ts ps ss ms ks bs =
+    record { registers = k .registers; longs = longs; ranges = rangesOf k; caches = cachesOf ts ps ss ms ks bs }
+
+-- a call's line, with the arrays after it
+pub record CalledIn (c : calls.Called) (l : Line) (ts ps ss ms ks bs : List ℕ) : Type 0 where
+  pub prints : lineIn l ≡ c .line
+  pub leaves : cachesOf ts ps ss ms ks bs ≡ c .caches
+
+-- a PTEST's line, whatever the caches are, which stay
+pub record Tests (g : Registers) (m : Memory) (code : ℕ) (write : Bool) (level address : ℕ) (l : Line) : Type 0 where
+  pub prints : (c : Caches) → lineIn l ≡ calls.calling g m c (calls.testing code write level address) .line
+  pub leaves : (c : Caches) → c ≡ calls.calling g m c (calls.testing code write level address) .caches
+
+-- a store's line, with the longs after it
+pub record StoredIn (longs : List ℕ) (address value : ℕ) (l : Line) (longs′ : List ℕ) : Type 0 where
+  pub prints : lineIn l ≡ (if badStore longs address then calls.R 2 else calls.K)
+  pub leaves : longs′ ≡ (if badStore longs address then longs else set longs (address / 4) value)
+
+-- a record's line, with what is kept after it
+pub record PlayedIn (p : Played) (l : Line) (k : Kept) (longs ts ps ss ms ks bs : List ℕ) : Type 0 where
+  pub prints : lineIn l ≡ p .line
+  pub leaves : stateOf k longs ts ps ss ms ks bs ≡ p .state
+
+-- records of b, one after the other from state s: they print t and leave state s′ and the bytes r
+pub data Runs (s : State) (b : List ℕ) : List ℕ → State → List ℕ → Type 0 where
+  none : Runs s b [] s b
+  more : {t r : List ℕ} {s′ : State} (body rest : List ℕ) → Runs s b t s′ r → frontOf r ≡ Body body rest → isMalformed (recordOf body) ≡ false
+      → Runs s b (t ++ text (stepOf s′ (recordOf body) .line)) (stepOf s′ (recordOf body) .state) rest
+
+-- a run from state s over the bytes b: what it printed stands at the front of the output, and the bytes from `read` on are left
+pub record RanIn (s : State) (b out : List ℕ) (s′ : State) (read : ℕ) (out′ : List ℕ) (wrote : ℕ) : Type 0 where
+  pub printed : List ℕ
+  pub most : ℕ
+  pub runs : Runs s b printed s′ (drop read b)
+  pub writes : Wrote most out 0 printed out′ wrote
+  pub reads : read ≤ length b
+  pub fits : wrote ≤ length out

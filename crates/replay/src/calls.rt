@@ -1,0 +1,177 @@
+// The calls that a record makes, each with the line that it prints.
+use definition::Access;
+use definition::Flush;
+use definition::Load;
+use definition::Probe;
+use definition::Range;
+use definition::Registers;
+use definition::Test;
+use definition::Translation;
+use trace::Line;
+ghost use mathlib.Core.Path.{_≡_};
+ghost use lib.ListN.{take};
+ghost use Rattle.definition.specs.Words.{anyOf};
+ghost use Rattle.definition.specs.Memory.{memory};
+ghost use Rattle.definition.specs.Refusal.{crossed};
+ghost use Rattle.definition.specs.Calls.{access, loading, testing, probing, flushingAll, flushingCode, flushingPage, flushingFrame, translationLine, loadLine, testLine, probeLine, flushLine, calling};
+ghost use Rattle.trace.specs.Lines.{lineIn};
+ghost use Rattle.mmu.specs.InPlace.{cachesOf};
+ghost use Rattle.replay.specs.Playing.{CalledIn, Tests};
+
+// A address count, or F kind cause address count.
+fn translation_line(answer: Translation, count: u32) -> Line
+    ensures { λ r. ⌜ lineIn r ≡ translationLine count answer ⌝ }
+{
+    match answer {
+        Translation::Address(address) => Line::A { address, count },
+        Translation::Fault {
+            kind,
+            cause,
+            address,
+        } => Line::F {
+            kind: definition::kind_number(kind),
+            cause: definition::cause_number(cause),
+            address,
+            count,
+        },
+        Translation::Refused(number) => Line::R { number },
+    }
+}
+
+// L count.
+fn load_line(answer: Load, count: u32) -> Line
+    ensures { λ r. ⌜ lineIn r ≡ loadLine count answer ⌝ }
+{
+    match answer {
+        Load::Loaded => Line::L { count },
+        Load::Refused(number) => Line::R { number },
+    }
+}
+
+// T MMUSR address count.
+fn test_line(answer: Test, count: u32) -> Line
+    ensures { λ r. ⌜ lineIn r ≡ testLine count answer ⌝ }
+{
+    match answer {
+        Test::Status { mmusr, address } => Line::T {
+            mmusr,
+            address,
+            count,
+        },
+        Test::Refused(number) => Line::R { number },
+    }
+}
+
+// A address 0, or N.
+pub fn probe_line(answer: Probe) -> Line
+    ensures { λ r. ⌜ lineIn r ≡ probeLine answer ⌝ }
+{
+    match answer {
+        Probe::Address(address) => Line::A { address, count: 0 },
+        Probe::Nothing => Line::N,
+        Probe::Refused(number) => Line::R { number },
+    }
+}
+
+// K.
+pub fn flush_line(answer: Flush) -> Line
+    ensures { λ r. ⌜ lineIn r ≡ flushLine answer ⌝ }
+{
+    match answer {
+        Flush::Flushed => Line::K,
+        Flush::Refused(number) => Line::R { number },
+    }
+}
+
+// An access. `three` says whether one of the ranges is crossed.
+pub fn access_line(
+    tags: &mut [u64; 22],
+    pages: &mut [u64; 22],
+    stamps: &mut [u64; 22],
+    marks: &mut [u64; 3],
+    keys: &mut [u64; 64],
+    bases: &mut [u64; 64],
+    longs: &[u32],
+    list: [Range; 16],
+    n: usize,
+    three: bool,
+    g: Registers,
+    a: Access,
+) -> Line
+    ensures { λ r. ⌜ (three ≡ anyOf crossed (take n list) → CalledIn (calling g (memory (now (longs .entry)) 0 (take n list)) (cachesOf (now (tags .entry)) (now (pages .entry)) (now (stamps .entry)) (now (marks .entry)) (now (keys .entry)) (now (bases .entry))) (access a)) r (now (tags .exit)) (now (pages .exit)) (now (stamps .exit)) (now (marks .exit)) (now (keys .exit)) (now (bases .exit))) ⌝ }
+{
+    let o = mmu::translate::translate_in(
+        tags,
+        pages,
+        stamps,
+        marks,
+        keys,
+        bases,
+        longs,
+        0,
+        list,
+        n,
+        three,
+        g,
+        a,
+    );
+    let answer = o.answer;
+    translation_line(answer, o.count)
+}
+
+// A PLOAD. The 68040 cache stays.
+pub fn load_call(
+    tags: &mut [u64; 22],
+    pages: &mut [u64; 22],
+    stamps: &mut [u64; 22],
+    marks: &mut [u64; 3],
+    keys: &[u64; 64],
+    bases: &[u64; 64],
+    longs: &[u32],
+    list: [Range; 16],
+    n: usize,
+    three: bool,
+    g: Registers,
+    code: u32,
+    write: bool,
+    address: u32,
+) -> Line
+    ensures { λ r. ⌜ (three ≡ anyOf crossed (take n list) → CalledIn (calling g (memory (now (longs .entry)) 0 (take n list)) (cachesOf (now (tags .entry)) (now (pages .entry)) (now (stamps .entry)) (now (marks .entry)) (now (keys .entry)) (now (bases .entry))) (loading code write address)) r (now (tags .exit)) (now (pages .exit)) (now (stamps .exit)) (now (marks .exit)) (now (keys .entry)) (now (bases .entry))) ⌝ }
+{
+    let o = mmu::load::load_in(
+        tags,
+        pages,
+        stamps,
+        marks,
+        longs,
+        0,
+        list,
+        n,
+        three,
+        g,
+        code,
+        write,
+        address,
+    );
+    let answer = o.answer;
+    load_line(answer, o.count)
+}
+
+// A PTEST: no cache is touched.
+pub fn test_call(
+    longs: &[u32],
+    list: [Range; 16],
+    n: usize,
+    three: bool,
+    g: Registers,
+    code: u32,
+    write: bool,
+    level: u32,
+    address: u32,
+) -> Line
+    ensures { λ r. ⌜ (three ≡ anyOf crossed (take n list) → Tests g (memory (now (longs .entry)) 0 (take n list)) code write level address r) ⌝ }
+{
+    let o = mmu::test::test_in(longs, 0, list, n, three, g, code, write, level, address);
+    let answer = o.answer;
+    test_line(answer, o.count)
+}
