@@ -1,2 +1,3 @@
 pub mod Calling
 pub mod Stepping
+pub mod Running

@@ -1,8 +1,9 @@
 -- What the replay keeps is the definition's state; what one record and a run over a buffer promise.
-use Prim.Native.Nat.{ℕ, _+_, _/_, _≤_}
+use Prim.Native.Nat.{ℕ, _+_, _-_, _/_, _≤_, _<_}
 use mathlib.Core.Path.{_≡_}
 use mathlib.Core.Bool.{Bool, true, false}
 use mathlib.Core.List.{List, [], _∷_, _++_}
+use mathlib.Core.Logic.{_⊎_}
 use lib.ListN.{length, take, drop, set}
 use Rattle.definition.specs.Words.{if_then_else_}
 use Rattle.definition.specs.Memory.{Memory}
@@ -16,6 +17,10 @@ use Rattle.trace.specs.Lines.{lineIn, Wrote}
 use Rattle.trace.specs.declared.Line.{Line}
 use Rattle.mmu.specs.InPlace.{cachesOf}
 use Rattle.replay.specs.declared.Kept.{Kept}
+use Rattle.replay.specs.declared.run.Whole.{Whole}
+use Rattle.replay.specs.declared.run.Whole.the-variants as whole
+use Rattle.replay.specs.declared.run.Why.{Why}
+use Rattle.replay.specs.declared.run.Why.the-variants as why
 
 -- the ranges that are kept: the first n of the array
 abbrev pub rangesOf : Kept → List Range
@@ -51,11 +56,40 @@ pub data Runs (s : State) (b : List ℕ) : List ℕ → State → List ℕ → T
   more : {t r : List ℕ} {s′ : State} (body rest : List ℕ) → Runs s b t s′ r → frontOf r ≡ Body body rest → isMalformed (recordOf body) ≡ false
       → Runs s b (t ++ text (stepOf s′ (recordOf body) .line)) (stepOf s′ (recordOf body) .state) rest
 
+-- a whole record stands at `at`: its body lies from start to end
+pub record Stands (b : List ℕ) (at start end : ℕ) : Type 0 where
+  pub front : frontOf (drop at b) ≡ Body (take (end - start) (drop start b)) (drop end b)
+  pub after : at + 2 ≤ start
+  pub ends : start ≤ end
+  pub within : end ≤ length b
+
+-- what stands at `at`: a whole record, or none
+unfoldable pub Fronts : List ℕ → ℕ → Whole → Type 0
+Fronts b at (whole.Body start end) = Stands b at start end
+Fronts b at whole.Nothing = (frontOf (drop at b) ≡ Short) ⊎ (frontOf (drop at b) ≡ Ended)
+
+-- the next record is malformed
+pub record Bad (rest : List ℕ) : Type 0 where
+  pub body : List ℕ
+  pub after : List ℕ
+  pub is : frontOf rest ≡ Body body after
+  pub bad : isMalformed (recordOf body) ≡ true
+
+-- why a run stopped: no whole record is left, or the next one is malformed, or there is no room for a line
+abbrev pub Stops : Why → List ℕ → List ℕ → ℕ → Type 0
+Stops why.Input rest out wrote = (frontOf rest ≡ Short) ⊎ (frontOf rest ≡ Ended)
+Stops why.Malformed rest out wrote = Bad rest
+Stops why.Room rest out wrote = length out < wrote + 44
+
 -- a run from state s over the bytes b: what it printed stands at the front of the output, and the bytes from `read` on are left
-pub record RanIn (s : State) (b out : List ℕ) (s′ : State) (read : ℕ) (out′ : List ℕ) (wrote : ℕ) : Type 0 where
+pub record Going (s : State) (b out : List ℕ) (s′ : State) (read : ℕ) (out′ : List ℕ) (wrote : ℕ) : Type 0 where
   pub printed : List ℕ
   pub most : ℕ
   pub runs : Runs s b printed s′ (drop read b)
   pub writes : Wrote most out 0 printed out′ wrote
   pub reads : read ≤ length b
   pub fits : wrote ≤ length out
+
+pub record RanIn (s : State) (b out : List ℕ) (s′ : State) (read : ℕ) (out′ : List ℕ) (wrote : ℕ) (w : Why) : Type 0 where
+  pub going : Going s b out s′ read out′ wrote
+  pub stops : Stops w (drop read b) out wrote

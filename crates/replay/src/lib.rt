@@ -1,5 +1,6 @@
 // The replay: what each record of a trace does and prints, over state that the caller keeps. No input and no output.
 pub mod calls;
+pub mod run;
 pub mod step;
 
 use definition::Range;

@@ -1,0 +1,160 @@
+-- A run: what stands at a place of the buffer, one record more, and why it stops. Assumes nothing.
+use Prim.Native.Nat.{ℕ, zero, suc, _+_, _-_, _*_, _≤_, _<_}
+use mathlib.Core.Path.{_≡_, refl, ap, sym, subst, _∙_}
+use mathlib.Core.List.{List, [], _∷_, _++_, append-assoc}
+use mathlib.Core.Bool.{Bool, true, false}
+use mathlib.Core.Logic.{_⊎_, inl, inr}
+use native.Mathlib.Omega.{arith}
+use native.Mathlib.Numerals.{add-one, add-two}
+use native.Mathlib.Nat.{not-suc-le-zero, le-of-suc-le-suc}
+use borrow.Author.Tests.{le-leb, lt-leb, leb-true}
+use lib.Dec.{leb}
+use lib.ListN.{length, getD, take, drop, length-drop}
+use lib.Seq.{drop-cons, drop-drop}
+use Rattle.definition.specs.Words.{if_then_else_}
+use Rattle.definition.specs.Calls as calls
+use Rattle.definition.specs.Trace.{State, Front, Body, Short, Ended, frontOf, Record, recordOf, isMalformed, stepOf, text, newline, goesOn, onFront, playFrom}
+use Rattle.trace.specs.Lines.{lineIn, Wrote}
+use Rattle.trace.specs.Records.{recordIn}
+use Rattle.trace.specs.declared.Line.{Line}
+use Rattle.trace.specs.declared.Record.{Record as Said}
+use Rattle.trace.proofs.Writes.{nothing, then, same-length, next-near}
+use Rattle.replay.specs.declared.Kept.{Kept}
+use Rattle.replay.specs.declared.run.Whole.{Whole}
+use Rattle.replay.specs.declared.run.Why.{Why}
+use Rattle.replay.specs.Playing.{stateOf, PlayedIn, Runs, none, more, Stands, Fronts, Bad, Stops, Going, RanIn}
+
+-- ---- what stands at a place
+few : (l : List ℕ) → length l < 2 → (frontOf l ≡ Short) ⊎ (frontOf l ≡ Ended)
+unfolding frontOf
+few [] h = inr refl
+few (x ∷ []) h = inl refl
+few (x ∷ y ∷ l) h = absurd (not-suc-le-zero (le-of-suc-le-suc (le-of-suc-le-suc h)))
+
+two : (b : List ℕ) (at : ℕ) → at + 2 ≤ length b → drop at b ≡ getD b at 0 ∷ getD b (at + 1) 0 ∷ drop (at + 2) b
+two b at h =
+    let one : at < length b = omega arith in
+    let next : suc at < length b = omega arith in
+    rw (drop-cons b at 0 one, drop-cons b (suc at) 0 next, add-one, add-two)
+
+-- the front of two bytes and more
+front-of : (high low : ℕ) (rest : List ℕ) → frontOf (high ∷ low ∷ rest) ≡ (if leb (high * 256 + low) (length rest) then Body (take (high * 256 + low) rest) (drop (high * 256 + low) rest) else Short)
+unfolding frontOf
+front-of high low rest = refl
+
+module _ (b : List ℕ) (at : ℕ) where
+  pub front-few : length b - at < 2 → Fronts b at Whole.Nothing
+  unfolding Fronts
+  front-few h = few (drop at b) (omega (arith, length-drop at b))
+
+  module _ (size : 2 ≤ length b - at) (n : ℕ) (is : n ≡ getD b at 0 * 256 + getD b (at + 1) 0) where
+    pub front-cut : length b - at - 2 < n → Fronts b at Whole.Nothing
+    unfolding Fronts
+    front-cut h =
+        inl
+        (ap frontOf (two b at (omega arith)) ∙ front-of (getD b at 0) (getD b (at + 1) 0) (drop (at + 2) b)
+        ∙ rw (← is, lt-leb n (length (drop (at + 2) b)) (omega (arith, length-drop (at + 2) b))) refl)
+
+    pub front-whole : n ≤ length b - at - 2 → Fronts b at (Whole.Body (at + 2) (at + 2 + n))
+    unfolding Fronts
+    front-whole h =
+        let e : at + 2 + n - (at + 2) ≡ n = omega arith in
+        record {
+          front =
+              ap frontOf (two b at (omega arith)) ∙ front-of (getD b at 0) (getD b (at + 1) 0) (drop (at + 2) b)
+              ∙ rw (← is, le-leb n (length (drop (at + 2) b)) (omega (arith, length-drop (at + 2) b)), e, drop-drop) refl;
+          after = omega arith;
+          ends = omega arith;
+          within = omega arith;
+        }
+
+-- ---- what stands at a place, once it is told apart
+module _ (b : List ℕ) (at : ℕ) {x : Whole} where
+  pub nothing-at : x ≡ Whole.Nothing → Fronts b at x → Fronts b at Whole.Nothing
+  nothing-at e f = subst (Fronts b at) e f
+
+  pub whole-at : {start end : ℕ} → x ≡ Whole.Body start end → Fronts b at x → Stands b at start end
+  unfolding Fronts
+  whole-at e f = subst (Fronts b at) e f
+
+-- ---- a run goes on
+pub begins : (s : State) (b out : List ℕ) → Going s b out s 0 out 0
+begins s b out = record { printed = []; most = 0; runs = none; writes = nothing out 0; reads = omega arith; fits = omega arith }
+
+module _ (s : State) (b out : List ℕ) (s′ : State) {read wrote : ℕ} {out′ : List ℕ} (g : Going s b out s′ read out′ wrote) where
+  -- one record more
+  pub goes-on : (said : Said) {start end next : ℕ} {l : Line} {k : Kept} {longs ts ps ss ms ks bs out″ : List ℕ}
+      → Stands b read start end → recordIn said ≡ recordOf (take (end - start) (drop start b)) → isMalformed (recordIn said) ≡ false
+      → PlayedIn (stepOf s′ (recordIn said)) l k longs ts ps ss ms ks bs → wrote + 44 ≤ length out′
+      → Wrote 44 out′ wrote (text (lineIn l)) out″ next
+      → Going s b out (stateOf k longs ts ps ss ms ks bs) end out″ next
+  goes-on said {start} {end} {next} {l} f e m p room w =
+      record {
+        printed = g .printed ++ text (lineIn l);
+        most = g .most + 44;
+        runs =
+            rw (p .leaves, p .prints, e)
+            (more (take (end - start) (drop start b)) (drop end b) (g .runs) (f .front) (sym (ap isMalformed e) ∙ m));
+        writes = (then) (g .writes) w;
+        reads = f .within;
+        fits = omega (arith, next-near w, same-length (g .writes), g .fits);
+      }
+
+  -- ---- why it stops
+  pub stops-room : length out - wrote < 44 → RanIn s b out s′ read out′ wrote Why.Room
+  stops-room h = record { going = g; stops = omega (arith, g .fits) }
+
+  pub stops-input : Fronts b read Whole.Nothing → RanIn s b out s′ read out′ wrote Why.Input
+  unfolding Fronts
+  stops-input f = record { going = g; stops = f }
+
+  pub stops-malformed : (said : Said) {start end : ℕ} → Stands b read start end
+      → recordIn said ≡ recordOf (take (end - start) (drop start b)) → isMalformed (recordIn said) ≡ true → RanIn s b out s′ read out′ wrote Why.Malformed
+  stops-malformed said {start} {end} f e m =
+      record { going = g; stops = record { body = take (end - start) (drop start b); after = drop end b; is = f .front; bad = sym (ap isMalformed e) ∙ m } }
+
+-- ---- runs are the definition's: what is left plays on from where they stopped
+abbrev pub plays : State → List ℕ → List ℕ
+plays s b = playFrom (suc (length b)) s b
+
+shorter : (b body rest : List ℕ) → frontOf b ≡ Body body rest → length rest < length b
+unfolding frontOf
+shorter [] body rest e = let z : _≡_ {A = ℕ} 0 1 = cc in omega arith
+shorter (x ∷ []) body rest e = let z : _≡_ {A = ℕ} 0 1 = cc in omega arith
+shorter (high ∷ low ∷ l) body rest e = go (leb (high * 256 + low) (length l)) e
+  where
+    same : (r : List ℕ) (x : List ℕ) → Body x r ≡ Body body rest → r ≡ rest
+    same r x e = cc
+
+    go : (c : Bool) → (if c then Body (take (high * 256 + low) l) (drop (high * 256 + low) l) else Short) ≡ Body body rest → length rest < length (high ∷ low ∷ l)
+    go true e = omega (arith, ap length (same (drop (high * 256 + low) l) (take (high * 256 + low) l) e), length-drop (high * 256 + low) l)
+    go false e = let z : _≡_ {A = ℕ} 0 1 = cc in omega arith
+
+-- any bound above the number of bytes gives the same
+enough : (n m : ℕ) (s : State) (b : List ℕ) → length b < n → length b < m → playFrom n s b ≡ playFrom m s b
+unfolding playFrom
+enough zero m s b h k = absurd (not-suc-le-zero h)
+enough (suc n) zero s b h k = absurd (not-suc-le-zero k)
+enough (suc n) (suc m) s b h k = go (frontOf b) refl (λ t rest l. enough n m t rest (omega arith) (omega arith))
+  where
+    go : (f : Front) → frontOf b ≡ f → ((t : State) (rest : List ℕ) → length rest < length b → playFrom n t rest ≡ playFrom m t rest)
+        → onFront s (λ t rest. playFrom n t rest) f ≡ onFront s (λ t rest. playFrom m t rest) f
+    go Ended e ih = refl
+    go (Body body rest) e ih =
+        ap (λ (x : List ℕ). if isMalformed (recordOf body) then text (calls.R 7) else text (stepOf s (recordOf body) .line) ++ x)
+        (ih (stepOf s (recordOf body) .state) rest (shorter b body rest e))
+    go Short e ih = refl
+
+-- one record of a file that is not malformed prints its line, and the rest plays on
+one-more : (s : State) (b body rest : List ℕ) → frontOf b ≡ Body body rest → isMalformed (recordOf body) ≡ false
+    → plays s b ≡ text (stepOf s (recordOf body) .line) ++ plays (stepOf s (recordOf body) .state) rest
+unfolding playFrom
+one-more s b body rest e m =
+    rw (e, m)
+    (ap (λ (x : List ℕ). text (stepOf s (recordOf body) .line) ++ x)
+    (enough (length b) (suc (length rest)) (stepOf s (recordOf body) .state) rest (shorter b body rest e) (omega arith)))
+
+pub runs-play : (s : State) (b : List ℕ) {t r : List ℕ} {s′ : State} → Runs s b t s′ r → plays s b ≡ t ++ plays s′ r
+runs-play s b none = refl
+runs-play s b (more {t} {r} {s′} body rest k e m) =
+    runs-play s b k ∙ ap (λ (x : List ℕ). t ++ x) (one-more s′ r body rest e m) ∙ sym (append-assoc t _ _)

@@ -1,0 +1,142 @@
+// A run over a buffer: the records that stand in it whole, one after the other.
+use crate::Kept;
+use crate::step;
+use trace::Record;
+ghost use mathlib.Core.Path.{_≡_};
+ghost use Prim.Native.Nat.{_≤_};
+ghost use lib.ListN.{length};
+ghost use Rattle.definition.specs.Words.{anyOf};
+ghost use Rattle.definition.specs.Refusal.{crossed};
+ghost use Rattle.definition.specs.Trace.{isMalformed};
+ghost use Rattle.trace.specs.Records.{recordIn};
+ghost use Rattle.replay.specs.Playing.{rangesOf, stateOf, Fronts, RanIn};
+
+// A whole record at a place of the buffer: where its body starts and ends.
+pub enum Whole {
+    Body { start: usize, end: usize },
+    Nothing,
+}
+
+// Why a run stopped: no whole record is left, the next one is malformed, or there is no room for a line.
+pub enum Why {
+    Input,
+    Malformed,
+    Room,
+}
+
+// What is kept after a run, how many bytes it read and wrote, and why it stopped.
+pub struct Ran {
+    pub kept: Kept,
+    pub read: usize,
+    pub wrote: usize,
+    pub why: Why,
+}
+
+// Each record is a 2-byte length and its body.
+fn front(input: &[u8], at: usize) -> Whole
+    requires { ⌜ at ≤ length (now input) ⌝ }
+    ensures { λ r. ⌜ Fronts (now (input .entry)) at r ⌝ }
+{
+    let left = input.len() - at;
+    if left < 2 {
+        return Whole::Nothing;
+    }
+    let n = (input[at] as usize) * 256 + (input[at + 1] as usize);
+    if left - 2 < n {
+        return Whole::Nothing;
+    }
+    let start = at + 2;
+    Whole::Body {
+        start,
+        end: start + n,
+    }
+}
+
+// Whether the record is malformed: refusal 7.
+fn is_malformed(said: Record) -> bool
+    ensures { λ r. ⌜ r ≡ isMalformed (recordIn said) ⌝ }
+{
+    match said {
+        Record::Malformed => true,
+        Record::Registers(_) => false,
+        Record::Access(_) => false,
+        Record::Load { .. } => false,
+        Record::Test { .. } => false,
+        Record::FlushAll => false,
+        Record::FlushCode { .. } => false,
+        Record::FlushPage { .. } => false,
+        Record::FlushFrame { .. } => false,
+        Record::Store { .. } => false,
+        Record::Range(_) => false,
+        Record::Probe { .. } => false,
+    }
+}
+
+// Plays the whole records of `input` from its start on, with a line of `out` for each. `three` says whether one of the ranges
+// is crossed; no record changes that.
+pub fn run(
+    tags: &mut [u64; 22],
+    pages: &mut [u64; 22],
+    stamps: &mut [u64; 22],
+    marks: &mut [u64; 3],
+    keys: &mut [u64; 64],
+    bases: &mut [u64; 64],
+    longs: &mut [u32],
+    kept: Kept,
+    three: bool,
+    input: &[u8],
+    out: &mut [u8],
+) -> Ran
+    ensures { λ r. ⌜ (three ≡ anyOf crossed (rangesOf kept) → RanIn (stateOf kept (now (longs .entry)) (now (tags .entry)) (now (pages .entry)) (now (stamps .entry)) (now (marks .entry)) (now (keys .entry)) (now (bases .entry))) (now (input .entry)) (now (out .entry)) (stateOf (r .kept) (now (longs .exit)) (now (tags .exit)) (now (pages .exit)) (now (stamps .exit)) (now (marks .exit)) (now (keys .exit)) (now (bases .exit))) (r .read) (now (out .exit)) (r .wrote) (r .why)) × (anyOf crossed (rangesOf (r .kept)) ≡ anyOf crossed (rangesOf kept)) ⌝ }
+{
+    let mut now = kept;
+    let mut read: usize = 0;
+    let mut wrote: usize = 0;
+    loop {
+        if out.len() - wrote < 44 {
+            return Ran {
+                kept: now,
+                read,
+                wrote,
+                why: Why::Room,
+            };
+        }
+        match front(input, read) {
+            Whole::Nothing => {
+                return Ran {
+                    kept: now,
+                    read,
+                    wrote,
+                    why: Why::Input,
+                };
+            }
+            Whole::Body { start, end } => {
+                let said = trace::decode(&input[start..end]);
+                if is_malformed(said) {
+                    return Ran {
+                        kept: now,
+                        read,
+                        wrote,
+                        why: Why::Malformed,
+                    };
+                }
+                let s = step::perform(
+                    tags,
+                    pages,
+                    stamps,
+                    marks,
+                    keys,
+                    bases,
+                    longs,
+                    now,
+                    three,
+                    said,
+                );
+                let line = s.line;
+                wrote = trace::put_line(out, wrote, line);
+                now = s.kept;
+                read = end;
+            }
+        }
+    }
+}
