@@ -3,7 +3,7 @@
 
     python3 tools/hand_walk CRATE [FUNCTION..]
 
-It is run where crates.txt stands, reads tools/CRATE_walks.py, and writes crates/CRATE/proofs/FUNCTION/Proof.antt of each function that
+A function of a module is named MODULE.FUNCTION. It is run where crates.txt stands, reads tools/CRATE_walks.py, and writes crates/CRATE/proofs/FUNCTION/Proof.antt of each function that
 is named there, or of those that are given.
 
 A thin function has parameters that are numbers, bools, structs, enums and arrays by value, `&[T]` of numbers or structs, and `&mut S`
@@ -57,7 +57,7 @@ def main():
     functions = load(mir)
     sources = {source.name: contracts(source.name) for source in pathlib.Path('crates').iterdir()}
     for name in names or configuration.FUNCTIONS:
-        proof = pathlib.Path('crates', crate, 'proofs', name, 'Proof.antt')
+        proof = pathlib.Path('crates', crate, 'proofs', *name.split('.'), 'Proof.antt')
         proof.parent.mkdir(parents=True, exist_ok=True)
         proof.write_text(Printer(configuration, crate, functions, sources, name).run())
     subprocess.run(['rt', 'fmt'], check=True)

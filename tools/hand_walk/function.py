@@ -13,10 +13,10 @@ class Printer:
         self.crate = crate
         self.functions = functions
         self.name = name
-        self.f = functions[f'{crate}::{name}']
+        self.f = functions[f'{crate}::{name}'.replace('.', '::')]
         self.own = configuration.FUNCTIONS[name]
-        self.sources = sources       # crate -> its contracts, and the `use` lines that they want
-        self.contract = sources[crate][0][name]
+        self.sources = sources       # crate -> its contracts
+        self.contract = sources[crate][name]
         self.calls = []              # (callee, its contract, its lifetimes -> the caller's)
         self.facts = Facts()
         self.lent = None             # the array that is lent until the next call has returned
@@ -237,7 +237,7 @@ class Printer:
                     raise SystemExit(f'{f.short} is called with other lifetimes')
                 return k
         f = self.functions[name]
-        self.calls.append((f, self.sources[f.crate][0][f.short], lifetimes))
+        self.calls.append((f, self.sources[f.crate][f.short], lifetimes))
         return len(self.calls) - 1
 
     def arguments(self, s):
@@ -272,7 +272,7 @@ class Printer:
         with_made = ''.join(f'(α{j} ∷ []) fullShare ' for j in made)
         arguments = with_made + ' '.join(value.args for value in values)
         are = ' '.join(par(value.i) for value, p in zip(values, params) if p.kind != 'slice')
-        asked = ' ' + par(self.own['pre'][f.short](self.facts)) if contract.requires else ''
+        asked = ' ' + par(self.own['pre'][f.bare](self.facts)) if contract.requires else ''
         to = f'(to-{k} {arguments})' if params else f'to-{k}'
         goes = f'(goes-{k} {arguments} {are}{asked})' if params else f'goes-{k}'
         if len(names) > 1:
@@ -306,7 +306,7 @@ class Printer:
         spelled = f'({result.tells()} {r} _ {is_})'
         w.say(f'rewrite ! {w.cell(into)} (λ (u : Val). ‵ (fat fullShare {result.mir()} l{into} 0 u)) (ap only {spelled}) refl')
         w.values[into] = Value(result, r, result.value(r), f'(subst (Is {result.row()} {r}) {spelled} {is_})')
-        self.facts.append((f.short, r, e))
+        self.facts.append((f.bare, r, e))
         if self.lent and made:
             self.unlend(w)
 
@@ -569,13 +569,13 @@ class Printer:
         lines.append(f'use {self.proofs(HOME)}.Branching.{{stays-if, leaves-if}}')
         if 'law' in self.own:
             lines.append(f'use {self.proofs(self.crate)}.{self.own["law"]} as law')
-        for crate in dict.fromkeys([self.crate] + [f.crate for f, _, _ in self.calls]):
+        for crate, contract in [(self.crate, self.contract)] + [(f.crate, contract) for f, contract, _ in self.calls]:
             inner, outer = f'Rattle.{crate}.specs.', self.specs(crate) + '.'
-            lines += [line.replace(inner, outer) for line in self.sources[crate][1]]
-        for crate, name in sorted({(t.crate, t.name) for t in types if t.declared}):
-            lines.append(f'use {self.specs(crate)}.declared.{name}.{{{name}}}')
-            lines.append(f'use {self.proofs(crate)}.{name} as row-{name}')
-            lines.append(f'use {self.proofs(crate)}.{name}.Laws as law-{name}')
+            lines += [line for line in (use.replace(inner, outer) for use in contract.uses) if line not in lines]
+        for crate, path, name in sorted({(t.crate, t.path, t.name) for t in types if t.declared}):
+            lines.append(f'use {self.specs(crate)}.declared.{path}.{{{name}}}')
+            lines.append(f'use {self.proofs(crate)}.{path} as row-{name}')
+            lines.append(f'use {self.proofs(crate)}.{path}.Laws as law-{name}')
         for k, (f, _, _) in enumerate(self.calls):
             where = f'{self.proofs(f.crate)}.{f.short}'
             lines += [f'use {where} as c{k}', f'use {where}.Symbol as c{k}-def', f'use {where}.Symbol.{{name as #{f.key}}}', f'use {where}.Met as c{k}-thm']
@@ -640,7 +640,7 @@ class Printer:
 
     def file(self):
         f, xs = self.f, self.xs
-        dashed = self.name.replace('_', '-')
+        dashed = self.f.bare.replace('_', '-')
         asks = self.contract.requires
         lasts_named = {self.contract.params[i - 1]: f'y{i}' for i in self.muts}
         says = self.contract.says(xs, 'r', lasts_named)
@@ -746,5 +746,5 @@ unfolding code.routine tablesOf
             out.append(f'    (cited 𝓤 H {contract_k} 𝓜 𝓡 code.env #{c.key} c{k}-def.routine code.calls-{c.key} (c{k}-thm.met 𝓤 H 𝓜 𝓖 𝓡))')
         out[-1] += ')'
         text = f'abbrev stayed : Stays (self.ended .signature .params) (self.ended .kept)\nstayed = {tuple_of(stays)}\n\n' + '\n'.join(out) + '\n'
-        head = f'-- `{self.crate}::{self.name}` meets its contract: a walk of its MIR, which tools/hand_walk prints. Assumes nothing.\n'
+        head = f'-- `{self.f.name}` meets its contract: a walk of its MIR, which tools/hand_walk prints. Assumes nothing.\n'
         return head + '\n'.join(needed(self.imports(), text)) + '\n\n' + text

@@ -15,12 +15,13 @@ class Type:
         if x[0] == 'tyInt':
             return Type('int', bits=int(x[1]))
         if x[0] == 'tyNamed':
-            crate, name = x[1][1].strip('"').split('::', 1)
+            crate, *path = x[1][1].strip('"').split('::')
+            names = dict(name=path[-1], path='.'.join(path), crate=crate)
             shape = shapes.get(x[1][1], ['fields', 'tnil'])
             if shape[0] == 'variants':
-                return Type('enum', name=name.split('::')[-1], crate=crate)
+                return Type('enum', **names)
             fields = [Type.of(field, shapes) for field in items(shape[1], 'tcons')]
-            return Type('struct', name=name.split('::')[-1], crate=crate, fields=fields)
+            return Type('struct', **names, fields=fields)
         if x[0] == 'tyStruct' and x[1] == '"&[]"':
             reference = items(x[2], 'tcons')[0]
             if reference[2] == 'imm':

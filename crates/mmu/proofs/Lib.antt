@@ -6,3 +6,6 @@ pub mod Translating
 pub mod Testing
 pub mod Probing
 pub mod Flushing
+pub mod ByValue
+pub mod Singles
+pub mod Refusing

@@ -80,24 +80,24 @@ module _ (code : ℕ) {w : Walks} where
   unfolding testWalks
   tested-040 e = rw e (record { answers = refl; counts = refl })
 
+module _ (code : ℕ) {p : Plan} (w : Walks) where
+  pub test-refuses : {n : ℕ} → p ≡ plan.Refused n → TestedIn (concludeTest code p w) (Test.Refused n) 0
+  unfolding concludeTest
+  test-refuses e = rw e (record { answers = refl; counts = refl })
+
+  pub test-settles : {x : ℕ} → p ≡ plan.Settled x → TestedIn (concludeTest code p w) (Test.Status x 0) 0
+  unfolding concludeTest
+  test-settles e = rw e (record { answers = refl; counts = refl })
+
+  pub test-walks-on : {way : Way} {t : Test} {n : ℕ} → p ≡ plan.Walk way → TestedIn (testWalks code w) t n → TestedIn (concludeTest code p w) t n
+  unfolding concludeTest
+  test-walks-on e k = rw e k
+
 -- ---- the call
 module _ (g : Registers) (code : ℕ) (write : Bool) (level address : ℕ) (m : Memory) {two three : Bool}
     (is-two : two ≡ badBase m) (is-three : three ≡ badRange m) {p : Plan} (k : p ≡ planTest g code level address two three) where
-  test-by : {t : Test} {n : ℕ} → TestedIn (concludeTest code p (walksOf m g address (wayOf p))) t n
-      → TestedIn (shownTested (test g code write level address m)) t n
-  test-by q =
+  pub test-by : {way : Way} {w : Walks} {t : Test} {n : ℕ} → way ≡ wayOf p → w ≡ walksOf m g address way
+      → TestedIn (concludeTest code p w) t n → TestedIn (shownTested (test g code write level address m)) t n
+  test-by e f q =
       let plans : p ≡ planTest g code level address (badBase m) (badRange m) = rw (← is-two, ← is-three) k in
-      rw (← test-staged g code write level address m, ← plans) q
-
-  pub tests-refused : {n : ℕ} → p ≡ plan.Refused n → TestedIn (shownTested (test g code write level address m)) (Test.Refused n) 0
-  unfolding concludeTest
-  tests-refused e = test-by (rw e (record { answers = refl; counts = refl }))
-
-  pub tests-settled : {x : ℕ} → p ≡ plan.Settled x → TestedIn (shownTested (test g code write level address m)) (Test.Status x 0) 0
-  unfolding concludeTest
-  tests-settled e = test-by (rw e (record { answers = refl; counts = refl }))
-
-  pub tests-walked : {way : Way} {w : Walks} {t : Test} {n : ℕ} → p ≡ plan.Walk way → w ≡ walksOf m g address way
-      → TestedIn (testWalks code w) t n → TestedIn (shownTested (test g code write level address m)) t n
-  unfolding concludeTest
-  tests-walked e f q = test-by (rw (e, ← f) q)
+      rw (← test-staged g code write level address m, ← plans, ← e, ← f) q

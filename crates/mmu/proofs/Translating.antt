@@ -123,6 +123,22 @@ pub load-030 : (tc : ℕ) (c : Cache030) (code address : ℕ) (write : Bool) {w 
 unfolding loadWalks
 load-030 tc c code address write e k = rw e (record { answers = refl; counts = refl; leaves = k .leaves; sized = k .sized })
 
+module _ (tc code address : ℕ) (write : Bool) {p : Plan} (w : Walks) where
+  pub load-refuses : {ts ps ss ms : List ℕ} {n : ℕ} → p ≡ plan.Refused n → Sized ts ps ss ms
+      → LoadedIn (concludeLoad tc code address write (cacheOf ts ps ss ms) p w) (Load.Refused n) 0 ts ps ss ms
+  unfolding concludeLoad
+  load-refuses e z = rw e (record { answers = refl; counts = refl; leaves = refl; sized = z })
+
+  pub load-settles : {ts ps ss ms : List ℕ} {x : ℕ} → p ≡ plan.Settled x → Sized ts ps ss ms
+      → LoadedIn (concludeLoad tc code address write (cacheOf ts ps ss ms) p w) Load.Loaded 0 ts ps ss ms
+  unfolding concludeLoad
+  load-settles e z = rw e (record { answers = refl; counts = refl; leaves = refl; sized = z })
+
+  pub load-walks : (c : Cache030) {way : Way} {l : Load} {n : ℕ} {ts ps ss ms : List ℕ} → p ≡ plan.Walk way
+      → LoadedIn (loadWalks tc code address write c w) l n ts ps ss ms → LoadedIn (concludeLoad tc code address write c p w) l n ts ps ss ms
+  unfolding concludeLoad
+  load-walks c e k = rw e k
+
 -- ---- load: the call
 module _ (g : Registers) (code : ℕ) (write : Bool) (address : ℕ) (m : Memory) (c : Caches) {two three : Bool}
     (is-two : two ≡ badBase m) (is-three : three ≡ badRange m) {p : Plan} {ts ps ss ms : List ℕ}
@@ -130,21 +146,7 @@ module _ (g : Registers) (code : ℕ) (write : Bool) (address : ℕ) (m : Memory
   load-planned : PlannedIn030 (planLoad g code address (badBase m) (badRange m) (c .c030)) p ts ps ss ms
   load-planned = rw (← is-two, ← is-three) k
 
-  load-by : {l : Load} {n : ℕ} {ts′ ps′ ss′ ms′ : List ℕ}
-      → LoadedIn (concludeLoad (g .tc) code address write (cacheOf ts ps ss ms) p (walksOf m g address (wayOf p))) l n ts′ ps′ ss′ ms′
+  pub load-by : {way : Way} {w : Walks} {l : Load} {n : ℕ} {ts′ ps′ ss′ ms′ : List ℕ} → way ≡ wayOf p → w ≡ walksOf m g address way
+      → LoadedIn (concludeLoad (g .tc) code address write (cacheOf ts ps ss ms) p w) l n ts′ ps′ ss′ ms′
       → LoadedIn (shownLoaded (load g code write address m c)) l n ts′ ps′ ss′ ms′
-  load-by q = rw (← load-staged g code write address m c, ← load-planned .plans, ← load-planned .leaves) q
-
-  pub loads-refused : {n : ℕ} → p ≡ plan.Refused n → LoadedIn (shownLoaded (load g code write address m c)) (Load.Refused n) 0 ts ps ss ms
-  unfolding concludeLoad
-  loads-refused e = load-by (rw e (record { answers = refl; counts = refl; leaves = refl; sized = k .sized }))
-
-  pub loads-settled : {x : ℕ} → p ≡ plan.Settled x → LoadedIn (shownLoaded (load g code write address m c)) Load.Loaded 0 ts ps ss ms
-  unfolding concludeLoad
-  loads-settled e = load-by (rw e (record { answers = refl; counts = refl; leaves = refl; sized = k .sized }))
-
-  pub loads-walked : {way : Way} {w : Walks} {l : Load} {n : ℕ} {ts′ ps′ ss′ ms′ : List ℕ} → p ≡ plan.Walk way → w ≡ walksOf m g address way
-      → LoadedIn (loadWalks (g .tc) code address write (cacheOf ts ps ss ms) w) l n ts′ ps′ ss′ ms′
-      → LoadedIn (shownLoaded (load g code write address m c)) l n ts′ ps′ ss′ ms′
-  unfolding concludeLoad
-  loads-walked e f q = load-by (rw (e, ← f) q)
+  load-by e f q = rw (← load-staged g code write address m c, ← load-planned .plans, ← load-planned .leaves, ← e, ← f) q

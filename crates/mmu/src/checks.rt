@@ -3,8 +3,10 @@ use definition::Access;
 use definition::Override;
 use definition::Registers;
 ghost use mathlib.Core.Path.{_≡_};
+ghost use mathlib.Core.List.{[]};
+ghost use Rattle.definition.specs.Memory.{memory};
 ghost use Rattle.definition.specs.Registers.{on, codeOf, supervisorBy, instructionBy, comparedBy, asSupervisor, asInstruction, walkCode, comparedCode};
-ghost use Rattle.definition.specs.Refusal.{noFamily, not030, aboveSeven, badOverride, badFrame, refusalOf};
+ghost use Rattle.definition.specs.Refusal.{noFamily, badBase, not030, aboveSeven, badOverride, badFrame, refusalOf};
 ghost use Rattle.mmu.specs.Stages.{checksOf};
 
 // 1: the family is not 30, 40 or 60.
@@ -12,6 +14,13 @@ pub fn no_family(family: u32) -> bool
     ensures { λ r. ⌜ r ≡ noFamily family ⌝ }
 {
     !((family == 30) | (family == 40) | (family == 60))
+}
+
+// 2: the base is bad for these longs, whatever the ranges.
+pub fn bad_longs(longs: &[u32], base: u32) -> bool
+    ensures { λ r. ⌜ r ≡ badBase (memory (now (longs .entry)) base []) ⌝ }
+{
+    tables::bad_base(longs.len(), base)
 }
 
 // 6: PLOAD or PTEST on family 40 or 60.

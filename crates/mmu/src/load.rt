@@ -21,7 +21,7 @@ ghost use Rattle.definition.specs.Walk030.{shiftOf};
 ghost use Rattle.definition.specs.Cache040.{Cache040};
 ghost use Rattle.definition.specs.Load.{stopped, load};
 ghost use Rattle.cache.specs.Atc030.{cacheOf, Sized};
-ghost use Rattle.mmu.specs.Stages.{loadPlan, planLoad, loadWalks, concludeLoad, shownLoaded};
+ghost use Rattle.mmu.specs.Stages.{Coded, loadPlan, planLoad, loadWalks, concludeLoad, shownLoaded};
 ghost use Rattle.mmu.specs.InPlace.{pairWith, PlannedIn030, LoadedIn};
 
 // An answer with its count.
@@ -115,6 +115,36 @@ fn loaded(
     }
 }
 
+// The answer, its count and the next 68030 cache, from the plan and the walk that it asked for.
+pub fn conclude_load(
+    tags: &mut [u64; 22],
+    pages: &mut [u64; 22],
+    stamps: &mut [u64; 22],
+    marks: &mut [u64; 3],
+    tc: u32,
+    code: u32,
+    address: u32,
+    write: bool,
+    plan: Plan,
+    walks: Walks,
+) -> LoadOutcome
+    requires { ⌜ Coded plan code ⌝ }
+    ensures { λ r. ⌜ LoadedIn (concludeLoad tc code address write (cacheOf (now (tags .entry)) (now (pages .entry)) (now (stamps .entry)) (now (marks .entry))) plan walks) (r .answer) (r .count) (now (tags .exit)) (now (pages .exit)) (now (stamps .exit)) (now (marks .exit)) ⌝ }
+{
+    checks::lengths_030(tags, pages, stamps, marks);
+    match plan {
+        Plan::Refused(n) => LoadOutcome {
+            answer: Load::Refused(n),
+            count: 0,
+        },
+        Plan::Settled(_) => LoadOutcome {
+            answer: Load::Loaded,
+            count: 0,
+        },
+        Plan::Walk(_) => loaded(tags, pages, stamps, marks, tc, code, address, write, walks),
+    }
+}
+
 // Load over a 68030 cache that the caller keeps, with the first `n` of the ranges that it keeps; `three` as for `translate_in`.
 pub fn load_in(
     tags: &mut [u64; 22],
@@ -135,28 +165,18 @@ pub fn load_in(
 {
     let two = tables::bad_base(longs.len(), base);
     let plan = plan_load(tags, pages, stamps, marks, two, three, g, code, address);
-    match plan {
-        Plan::Refused(number) => LoadOutcome {
-            answer: Load::Refused(number),
-            count: 0,
-        },
-        Plan::Settled(_) => LoadOutcome {
-            answer: Load::Loaded,
-            count: 0,
-        },
-        Plan::Walk(way) => {
-            let walks = tables::walk_kept(longs, base, list, n, g, address, way);
-            loaded(
-                tags,
-                pages,
-                stamps,
-                marks,
-                g.tc,
-                code,
-                address,
-                write,
-                walks,
-            )
-        }
-    }
+    let way = crate::way_of(plan);
+    let walks = tables::walk_kept(longs, base, list, n, g, address, way);
+    conclude_load(
+        tags,
+        pages,
+        stamps,
+        marks,
+        g.tc,
+        code,
+        address,
+        write,
+        plan,
+        walks,
+    )
 }

@@ -106,6 +106,23 @@ fn tested(code: u32, walks: Walks) -> TestOutcome
     }
 }
 
+// The answer and its count, from the plan and the walk that it asked for.
+pub fn conclude_test(code: u32, plan: Plan, walks: Walks) -> TestOutcome
+    ensures { λ r. ⌜ TestedIn (concludeTest code plan walks) (r .answer) (r .count) ⌝ }
+{
+    match plan {
+        Plan::Refused(n) => TestOutcome {
+            answer: Test::Refused(n),
+            count: 0,
+        },
+        Plan::Settled(mmusr) => TestOutcome {
+            answer: Test::Status { mmusr, address: 0 },
+            count: 0,
+        },
+        Plan::Walk(_) => tested(code, walks),
+    }
+}
+
 // Test with the first `n` of the ranges that the caller keeps; `three` as for `translate_in`. The write byte changes nothing.
 pub fn test_in(
     longs: &[u32],
@@ -123,18 +140,7 @@ pub fn test_in(
 {
     let two = tables::bad_base(longs.len(), base);
     let plan = plan_test(two, three, g, code, level, address);
-    match plan {
-        Plan::Refused(number) => TestOutcome {
-            answer: Test::Refused(number),
-            count: 0,
-        },
-        Plan::Settled(mmusr) => TestOutcome {
-            answer: Test::Status { mmusr, address: 0 },
-            count: 0,
-        },
-        Plan::Walk(way) => {
-            let walks = tables::walk_kept(longs, base, list, n, g, address, way);
-            tested(code, walks)
-        }
-    }
+    let way = crate::way_of(plan);
+    let walks = tables::walk_kept(longs, base, list, n, g, address, way);
+    conclude_test(code, plan, walks)
 }

@@ -9,29 +9,17 @@ bad-base-requires c κs = search needs
 plan-load-requires : tie.Need-plan-load-requires
 plan-load-requires c κs = search needs
 
-enum-known-plan : tie.Need-enum-known-plan
-enum-known-plan c = search needs
-
-enum-told : tie.Need-enum-told
-enum-told c = search needs
-
-enum-known-plan-2 : tie.Need-enum-known-plan-2
-enum-known-plan-2 c = search needs
+way-of-requires : tie.Need-way-of-requires
+way-of-requires c κs = search needs
 
 walk-kept-requires : tie.Need-walk-kept-requires
 walk-kept-requires c κs = search needs
 
-loaded-requires : tie.Need-loaded-requires
-loaded-requires c κs = (law.load-code _ _ _ _ _ _ (c .before .before .before .before .before .before .before .before .plan-load .ensures .plans) (c .before .before .before .before .before .before .plan2 .given .1), c .before .before .before .before .before .before .before .before .plan-load .ensures .sized)
+conclude-load-requires : tie.Need-conclude-load-requires
+conclude-load-requires c κs = λ way e. law.load-code _ _ _ _ _ _ (c .before .before .before .before .before .before .plan-load .ensures .plans) e
 
 returns : tie.Need-returns
-returns c = λ k h. law.loads-refused _ _ _ _ _ _ (c .before .before .before .before .before .before .before .before .bad-base .ensures) h (c .before .before .before .plan-load .ensures) (c .before .plan .given .1)
-
-returns-2 : tie.Need-returns-2
-returns-2 c = λ k h. law.loads-settled _ _ _ _ _ _ (c .before .before .before .before .before .before .before .bad-base .ensures) h (c .before .before .plan-load .ensures) (c .enum-told .given .1)
-
-returns-3 : tie.Need-returns-3
-returns-3 c = λ k h. law.loads-walked _ _ _ _ _ _ (c .before .before .before .before .before .before .before .before .before .before .before .before .before .before .bad-base .ensures) h (c .before .before .before .before .before .before .before .before .before .plan-load .ensures) (c .before .before .before .before .before .before .before .plan2 .given .1) (c .before .before .before .before .before .walk-kept .ensures) (c .loaded .ensures)
+returns c = λ k h. law.load-by _ _ _ _ _ _ (c .before .before .before .before .before .before .before .before .before .before .before .before .bad-base .ensures) h (c .before .before .before .before .before .before .before .plan-load .ensures) (c .before .before .before .before .before .before .way-of .ensures) (c .before .before .before .before .before .walk-kept .ensures) (c .conclude-load .ensures)
 
 pub load-in-spec : {M : Type 1} → statement M
 load-in-spec =
@@ -39,11 +27,7 @@ load-in-spec =
     (tie.spec
     bad-base-requires
     plan-load-requires
-    enum-known-plan
-    enum-told
-    enum-known-plan-2
+    way-of-requires
     walk-kept-requires
-    loaded-requires
-    returns
-    returns-2
-    returns-3)
+    conclude-load-requires
+    returns)

@@ -9,29 +9,17 @@ bad-base-requires c κs = search needs
 plan-test-requires : tie.Need-plan-test-requires
 plan-test-requires c κs = search needs
 
-enum-known-plan : tie.Need-enum-known-plan
-enum-known-plan c = search needs
-
-enum-known-plan-2 : tie.Need-enum-known-plan-2
-enum-known-plan-2 c = search needs
-
-enum-known-plan-3 : tie.Need-enum-known-plan-3
-enum-known-plan-3 c = search needs
+way-of-requires : tie.Need-way-of-requires
+way-of-requires c κs = search needs
 
 walk-kept-requires : tie.Need-walk-kept-requires
 walk-kept-requires c κs = search needs
 
-tested-requires : tie.Need-tested-requires
-tested-requires c κs = search needs
+conclude-test-requires : tie.Need-conclude-test-requires
+conclude-test-requires c κs = search needs
 
 returns : tie.Need-returns
-returns c = λ h. law.tests-refused _ _ _ _ _ _ (c .before .before .before .before .bad-base .ensures) h (c .before .before .before .plan-test .ensures) (c .before .plan .given .1)
-
-returns-2 : tie.Need-returns-2
-returns-2 c = λ h. law.tests-settled _ _ _ _ _ _ (c .before .before .before .before .bad-base .ensures) h (c .before .before .before .plan-test .ensures) (c .before .plan2 .given .1)
-
-returns-3 : tie.Need-returns-3
-returns-3 c = λ h. law.tests-walked _ _ _ _ _ _ (c .before .before .before .before .before .before .bad-base .ensures) h (c .before .before .before .before .before .plan-test .ensures) (c .before .before .before .plan3 .given .1) (c .before .walk-kept .ensures) (c .tested .ensures)
+returns c = λ h. law.test-by _ _ _ _ _ _ (c .before .before .before .before .bad-base .ensures) h (c .before .before .before .plan-test .ensures) (c .before .before .way-of .ensures) (c .before .walk-kept .ensures) (c .conclude-test .ensures)
 
 pub test-in-spec : {M : Type 1} → statement M
 test-in-spec =
@@ -39,11 +27,7 @@ test-in-spec =
     (tie.spec
     bad-base-requires
     plan-test-requires
-    enum-known-plan
-    enum-known-plan-2
-    enum-known-plan-3
+    way-of-requires
     walk-kept-requires
-    tested-requires
-    returns
-    returns-2
-    returns-3)
+    conclude-test-requires
+    returns)

@@ -1,0 +1,35 @@
+-- What the calls by value promise: the definition's answer, count and next caches, of a pair whose arrays have their lengths.
+use mathlib.Core.Path.{_≡_}
+use lib.ListN.{length}
+use Rattle.definition.specs.Translate.{Translated as TranslatedOf}
+use Rattle.definition.specs.Load.{Loaded as LoadedOf}
+use Rattle.definition.specs.Flush.{Flushed as FlushedOf}
+use Rattle.cache.specs.Atc040.{Sized040}
+use Rattle.cache.specs.Pair.{pairOf, Whole}
+use Rattle.cache.specs.declared.CachePair.{CachePair}
+use Rattle.mmu.specs.declared.by_value.Translated.{Translated}
+use Rattle.mmu.specs.declared.by_value.Loaded.{Loaded}
+use Rattle.mmu.specs.declared.by_value.Flushed.{Flushed}
+
+pub record TranslatedBy (t : TranslatedOf) (r : Translated) : Type 0 where
+  pub answers : r .answer ≡ t .answer
+  pub counts : r .count ≡ length (t .asked)
+  pub leaves : pairOf (r .caches) ≡ t .caches
+  pub whole : Whole (r .caches)
+
+pub record LoadedBy (l : LoadedOf) (r : Loaded) : Type 0 where
+  pub answers : r .answer ≡ l .answer
+  pub counts : r .count ≡ length (l .asked)
+  pub leaves : pairOf (r .caches) ≡ l .caches
+  pub whole : Whole (r .caches)
+
+pub record FlushedBy (f : FlushedOf) (r : Flushed) : Type 0 where
+  pub answers : r .answer ≡ f .answer
+  pub leaves : pairOf (r .caches) ≡ f .caches
+  pub whole : Whole (r .caches)
+
+-- a call that takes the 68030 cache alone: the 68040 arrays stay
+pub record Beside (p r : CachePair) : Type 0 where
+  pub keys : r .keys ≡ p .keys
+  pub bases : r .bases ≡ p .bases
+  pub sized040 : Sized040 (r .keys) (r .bases)

@@ -1,0 +1,432 @@
+// The calls of document 01 by value: 'Two caches, by value first.' Each copies the pair's arrays, lends them to a function in place and builds the pair anew.
+// A call that is lent the ranges is thin: its proof is a walk by hand, which tools/ prints.
+use crate::Plan;
+use crate::checks;
+use crate::flush;
+use crate::load;
+use crate::probe;
+use crate::test;
+use crate::test::TestOutcome;
+use crate::translate;
+use cache::CachePair;
+use definition::Access;
+use definition::Flush;
+use definition::Load;
+use definition::Probe;
+use definition::Range;
+use definition::Registers;
+use definition::Translation;
+use tables::Walks;
+use tables::Way;
+ghost use mathlib.Core.Path.{_≡_};
+ghost use Rattle.definition.specs.Memory.{memory};
+ghost use Rattle.definition.specs.Translate.{translate as translateOf};
+ghost use Rattle.definition.specs.Load.{load as loadOf};
+ghost use Rattle.definition.specs.Test.{test as testOf};
+ghost use Rattle.definition.specs.Probe.{probe as probeOf};
+ghost use Rattle.definition.specs.Flush.{flushAll, flushCode, flushPage, flushFrame};
+ghost use Rattle.cache.specs.Pair.{pairOf};
+ghost use Rattle.mmu.specs.Stages.{Coded, wayOf, planAccess, concludeAccess, planLoad, concludeLoad, shownTested};
+ghost use Rattle.mmu.specs.InPlace.{PlannedIn, PlannedIn030, AnsweredIn, LoadedIn, TestedIn};
+ghost use Rattle.mmu.specs.ByValue.{TranslatedBy, LoadedBy, FlushedBy, Beside};
+
+// An answer, its count and the next caches.
+pub struct Translated {
+    pub answer: Translation,
+    pub count: u32,
+    pub caches: CachePair,
+}
+
+// The same of a load.
+pub struct Loaded {
+    pub answer: Load,
+    pub count: u32,
+    pub caches: CachePair,
+}
+
+// An answer and the next caches.
+pub struct Flushed {
+    pub answer: Flush,
+    pub caches: CachePair,
+}
+
+// A plan and the caches after it.
+struct PlannedPair {
+    plan: Plan,
+    caches: CachePair,
+}
+
+// The walk that a plan wants.
+fn wanted(p: PlannedPair) -> Way
+    ensures { λ r. ⌜ r ≡ wayOf (p .plan) ⌝ }
+{
+    let plan = p.plan;
+    crate::way_of(plan)
+}
+
+// ---- Translate.
+
+// The address of an access.
+fn address_of(a: Access) -> u32
+    ensures { λ r. ⌜ r ≡ a .address ⌝ }
+{
+    a.address
+}
+
+// The plan of an access, over copies of the arrays.
+fn planned(two: bool, three: bool, g: Registers, a: Access, caches: CachePair) -> PlannedPair
+    ensures { λ r. ⌜ PlannedIn (planAccess g a two three (pairOf caches)) (r .plan) (r .caches .tags) (r .caches .pages) (r .caches .stamps) (r .caches .marks) (r .caches .keys) (r .caches .bases) ⌝ }
+{
+    let tags = caches.tags;
+    let pages = caches.pages;
+    let mut stamps = caches.stamps;
+    let mut marks = caches.marks;
+    let keys = caches.keys;
+    let bases = caches.bases;
+    let plan = translate::plan_access(
+        &tags,
+        &pages,
+        &mut stamps,
+        &mut marks,
+        &keys,
+        &bases,
+        two,
+        three,
+        g,
+        a,
+    );
+    PlannedPair {
+        plan,
+        caches: CachePair {
+            tags,
+            pages,
+            stamps,
+            marks,
+            keys,
+            bases,
+        },
+    }
+}
+
+// What the plan and its walk give, over copies of the arrays.
+fn concluded(g: Registers, a: Access, p: PlannedPair, walks: Walks) -> Translated
+    ensures { λ r. ⌜ AnsweredIn (concludeAccess g a (pairOf (p .caches)) (p .plan) walks) (r .answer) (r .count) (r .caches .tags) (r .caches .pages) (r .caches .stamps) (r .caches .marks) (r .caches .keys) (r .caches .bases) ⌝ }
+{
+    let plan = p.plan;
+    let caches = p.caches;
+    let mut tags = caches.tags;
+    let mut pages = caches.pages;
+    let mut stamps = caches.stamps;
+    let mut marks = caches.marks;
+    let mut keys = caches.keys;
+    let mut bases = caches.bases;
+    let outcome = translate::conclude_access(
+        &mut tags,
+        &mut pages,
+        &mut stamps,
+        &mut marks,
+        &mut keys,
+        &mut bases,
+        g,
+        a,
+        plan,
+        walks,
+    );
+    let answer = outcome.answer;
+    Translated {
+        answer,
+        count: outcome.count,
+        caches: CachePair {
+            tags,
+            pages,
+            stamps,
+            marks,
+            keys,
+            bases,
+        },
+    }
+}
+
+// Translate: refusals, then 'transparent registers, cache, walk'.
+pub fn translate(
+    longs: &[u32],
+    base: u32,
+    ranges: &[Range],
+    g: Registers,
+    a: Access,
+    caches: CachePair,
+) -> Translated
+    ensures { λ r. ⌜ TranslatedBy (translateOf g a (memory (now (longs .entry)) base (now (ranges .entry))) (pairOf caches)) r ⌝ }
+{
+    let two = checks::bad_longs(longs, base);
+    let three = tables::any_crossed(ranges);
+    let p = planned(two, three, g, a, caches);
+    let address = address_of(a);
+    let way = wanted(p);
+    let walks = tables::walk_for(longs, base, ranges, g, address, way);
+    concluded(g, a, p, walks)
+}
+
+// ---- Load.
+
+// The plan of a load, over copies of the arrays.
+fn planned_load(
+    two: bool,
+    three: bool,
+    g: Registers,
+    code: u32,
+    address: u32,
+    caches: CachePair,
+) -> PlannedPair
+    ensures { λ r. ⌜ PlannedIn030 (planLoad g code address two three (pairOf caches .c030)) (r .plan) (r .caches .tags) (r .caches .pages) (r .caches .stamps) (r .caches .marks) × Beside caches (r .caches) ⌝ }
+{
+    let mut tags = caches.tags;
+    let pages = caches.pages;
+    let stamps = caches.stamps;
+    let marks = caches.marks;
+    let keys = caches.keys;
+    let bases = caches.bases;
+    let plan = load::plan_load(
+        &mut tags,
+        &pages,
+        &stamps,
+        &marks,
+        two,
+        three,
+        g,
+        code,
+        address,
+    );
+    PlannedPair {
+        plan,
+        caches: CachePair {
+            tags,
+            pages,
+            stamps,
+            marks,
+            keys,
+            bases,
+        },
+    }
+}
+
+// What the plan and its walk give, over copies of the arrays.
+fn concluded_load(
+    g: Registers,
+    code: u32,
+    write: bool,
+    address: u32,
+    p: PlannedPair,
+    walks: Walks,
+) -> Loaded
+    requires { ⌜ Coded (p .plan) code ⌝ }
+    ensures { λ r. ⌜ LoadedIn (concludeLoad (g .tc) code address write (pairOf (p .caches) .c030) (p .plan) walks) (r .answer) (r .count) (r .caches .tags) (r .caches .pages) (r .caches .stamps) (r .caches .marks) × Beside (p .caches) (r .caches) ⌝ }
+{
+    let plan = p.plan;
+    let caches = p.caches;
+    let mut tags = caches.tags;
+    let mut pages = caches.pages;
+    let mut stamps = caches.stamps;
+    let mut marks = caches.marks;
+    let keys = caches.keys;
+    let bases = caches.bases;
+    let outcome = load::conclude_load(
+        &mut tags,
+        &mut pages,
+        &mut stamps,
+        &mut marks,
+        g.tc,
+        code,
+        address,
+        write,
+        plan,
+        walks,
+    );
+    let answer = outcome.answer;
+    Loaded {
+        answer,
+        count: outcome.count,
+        caches: CachePair {
+            tags,
+            pages,
+            stamps,
+            marks,
+            keys,
+            bases,
+        },
+    }
+}
+
+// Load: 'drops the page (mask 7), .. and searches and caches'.
+pub fn load(
+    longs: &[u32],
+    base: u32,
+    ranges: &[Range],
+    g: Registers,
+    code: u32,
+    write: bool,
+    address: u32,
+    caches: CachePair,
+) -> Loaded
+    ensures { λ r. ⌜ LoadedBy (loadOf g code write address (memory (now (longs .entry)) base (now (ranges .entry))) (pairOf caches)) r ⌝ }
+{
+    let two = checks::bad_longs(longs, base);
+    let three = tables::any_crossed(ranges);
+    let p = planned_load(two, three, g, code, address, caches);
+    let way = wanted(p);
+    let walks = tables::walk_for(longs, base, ranges, g, address, way);
+    concluded_load(g, code, write, address, p, walks)
+}
+
+// ---- Test and probe.
+
+// Test: 'works whether enabled or not and touches no cache'. The write byte changes nothing.
+pub fn test(
+    longs: &[u32],
+    base: u32,
+    ranges: &[Range],
+    g: Registers,
+    code: u32,
+    write: bool,
+    level: u32,
+    address: u32,
+) -> TestOutcome
+    ensures { λ r. ⌜ TestedIn (shownTested (testOf g code write level address (memory (now (longs .entry)) base (now (ranges .entry))))) (r .answer) (r .count) ⌝ }
+{
+    let two = checks::bad_longs(longs, base);
+    let three = tables::any_crossed(ranges);
+    let plan = test::plan_test(two, three, g, code, level, address);
+    let way = crate::way_of(plan);
+    let walks = tables::walk_for(longs, base, ranges, g, address, way);
+    test::conclude_test(code, plan, walks)
+}
+
+// Probe: 'answers from a transparent match or an unrecorded hit, else nothing'.
+pub fn probe(
+    g: Registers,
+    own: bool,
+    instruction: bool,
+    write: bool,
+    address: u32,
+    caches: CachePair,
+) -> Probe
+    ensures { λ r. ⌜ r ≡ probeOf g own instruction write address (pairOf caches) ⌝ }
+{
+    let tags = caches.tags;
+    let pages = caches.pages;
+    let stamps = caches.stamps;
+    let marks = caches.marks;
+    let keys = caches.keys;
+    let bases = caches.bases;
+    probe::probe_in(
+        &tags,
+        &pages,
+        &stamps,
+        &marks,
+        &keys,
+        &bases,
+        g,
+        own,
+        instruction,
+        write,
+        address,
+    )
+}
+
+// ---- The flushes.
+
+// 'Empties both.'
+pub fn flush_all(caches: CachePair) -> Flushed
+    ensures { λ r. ⌜ FlushedBy (flushAll (pairOf caches)) r ⌝ }
+{
+    let mut tags = caches.tags;
+    let pages = caches.pages;
+    let stamps = caches.stamps;
+    let marks = caches.marks;
+    let mut keys = caches.keys;
+    let bases = caches.bases;
+    let answer = flush::flush_all_in(&mut tags, &pages, &stamps, &marks, &mut keys, &bases);
+    Flushed {
+        answer,
+        caches: CachePair {
+            tags,
+            pages,
+            stamps,
+            marks,
+            keys,
+            bases,
+        },
+    }
+}
+
+// 'Drops entries whose code agrees on the mask's bits.'
+pub fn flush_code(code: u32, mask: u32, caches: CachePair) -> Flushed
+    ensures { λ r. ⌜ FlushedBy (flushCode code mask (pairOf caches)) r ⌝ }
+{
+    let mut tags = caches.tags;
+    let pages = caches.pages;
+    let stamps = caches.stamps;
+    let marks = caches.marks;
+    let keys = caches.keys;
+    let bases = caches.bases;
+    let answer = flush::flush_code_in(&mut tags, &pages, &stamps, &marks, code, mask);
+    Flushed {
+        answer,
+        caches: CachePair {
+            tags,
+            pages,
+            stamps,
+            marks,
+            keys,
+            bases,
+        },
+    }
+}
+
+// '.. and, for a page, whose page is the address's at the stored shift.'
+pub fn flush_page(code: u32, mask: u32, address: u32, caches: CachePair) -> Flushed
+    ensures { λ r. ⌜ FlushedBy (flushPage code mask address (pairOf caches)) r ⌝ }
+{
+    let mut tags = caches.tags;
+    let pages = caches.pages;
+    let stamps = caches.stamps;
+    let marks = caches.marks;
+    let keys = caches.keys;
+    let bases = caches.bases;
+    let answer = flush::flush_page_in(&mut tags, &pages, &stamps, &marks, code, mask, address);
+    Flushed {
+        answer,
+        caches: CachePair {
+            tags,
+            pages,
+            stamps,
+            marks,
+            keys,
+            bases,
+        },
+    }
+}
+
+// 'Drops that frame for either privilege.'
+pub fn flush_frame(frame: u32, caches: CachePair) -> Flushed
+    ensures { λ r. ⌜ FlushedBy (flushFrame frame (pairOf caches)) r ⌝ }
+{
+    let tags = caches.tags;
+    let pages = caches.pages;
+    let stamps = caches.stamps;
+    let marks = caches.marks;
+    let mut keys = caches.keys;
+    let bases = caches.bases;
+    let answer = flush::flush_frame_in(&mut keys, &bases, frame);
+    Flushed {
+        answer,
+        caches: CachePair {
+            tags,
+            pages,
+            stamps,
+            marks,
+            keys,
+            bases,
+        },
+    }
+}

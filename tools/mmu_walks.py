@@ -1,0 +1,32 @@
+# What hand_walk is told of the crate `mmu`: the proof at each return, from the facts that the calls leave.
+MEMORY = '(memory (now x1) x2 (now x3))'
+
+
+# x4 are the registers, x5 the access, x6 the caches
+def translated(facts):
+    return f'law.translates x4 x5 {MEMORY} x6 {facts("bad_longs", "any_crossed", "planned", "address_of", "wanted", "walk_for", "concluded")}'
+
+
+# x4 are the registers, x5 the code, x6 whether it is a write, x7 the address, x8 the caches
+def planned_load(facts):
+    return f'x4 x5 x7 x8 _ _ {facts("planned_load")}'
+
+
+def loaded(facts):
+    return f'law.loads {planned_load(facts)} x6 {MEMORY} {facts("bad_longs", "any_crossed", "wanted", "walk_for", "concluded_load")}'
+
+
+# x4 are the registers, x5 the code, x6 whether it is a write, x7 the level, x8 the address
+def tested(facts):
+    return f'law.test-by x4 x5 x6 x7 x8 {MEMORY} {facts("bad_longs", "any_crossed", "plan_test", "way_of", "walk_for", "conclude_test")}'
+
+
+FUNCTIONS = {
+    'by_value.translate': dict(law='ByValue', ends=translated),
+    'by_value.load': dict(
+        law='ByValue',
+        pre={'concluded_load': lambda facts: f'law.load-asks {planned_load(facts)}'},
+        ends=loaded,
+    ),
+    'by_value.test': dict(law='Testing', ends=tested),
+}
