@@ -4,12 +4,10 @@ use mathlib.Core.Path.{_≡_, sym, _∙_}
 use Rattle.definition.specs.Translate.{Translated as TranslatedOf}
 use Rattle.definition.specs.Load.{Loaded as LoadedOf}
 use Rattle.definition.specs.Flush.{Flushed as FlushedOf}
-use Rattle.definition.specs.declared.Translation.{Translation}
 use Rattle.definition.specs.declared.Load.{Load}
 use Rattle.definition.specs.declared.Test.{Test}
 use Rattle.definition.specs.declared.Probe.{Probe}
 use Rattle.definition.specs.declared.Flush.{Flush}
-use Rattle.cache.specs.declared.CachePair.{CachePair}
 use Rattle.cache.proofs.Pairs.{pair-same}
 use Rattle.mmu.specs.declared.test.TestOutcome.{TestOutcome}
 use Rattle.mmu.specs.declared.by_value.Translated.{Translated}
@@ -17,17 +15,14 @@ use Rattle.mmu.specs.declared.by_value.Loaded.{Loaded}
 use Rattle.mmu.specs.declared.by_value.Flushed.{Flushed}
 use Rattle.mmu.specs.Stages.{TestAnswered}
 use Rattle.mmu.specs.InPlace.{TestedIn}
-use Rattle.mmu.specs.ByValue.{TranslatedBy, LoadedBy, FlushedBy}
+use Rattle.mmu.specs.ByValue.{translatedWith, TranslatedBy, loadedWith, LoadedBy, flushedWith, FlushedBy}
 
 pub translate-single : (t : TranslatedOf) (r s : Translated) → TranslatedBy t r → TranslatedBy t s → r ≡ s
 translate-single t r s a b =
     fields (a .answers ∙ sym (b .answers)) (a .counts ∙ sym (b .counts))
     (pair-same (r .caches) (s .caches) (a .whole) (b .whole) (a .leaves ∙ sym (b .leaves)))
   where
-    with : Translation → ℕ → CachePair → Translated
-    with answer count caches = record { answer = answer; count = count; caches = caches }
-
-    fields : r .answer ≡ s .answer → r .count ≡ s .count → r .caches ≡ s .caches → with (r .answer) (r .count) (r .caches) ≡ with (s .answer) (s .count) (s .caches)
+    fields : r .answer ≡ s .answer → r .count ≡ s .count → r .caches ≡ s .caches → translatedWith (r .answer) (r .count) (r .caches) ≡ translatedWith (s .answer) (s .count) (s .caches)
     fields e f g = cc
 
 pub load-single : (l : LoadedOf) (r s : Loaded) → LoadedBy l r → LoadedBy l s → r ≡ s
@@ -35,10 +30,7 @@ load-single l r s a b =
     fields (a .answers ∙ sym (b .answers)) (a .counts ∙ sym (b .counts))
     (pair-same (r .caches) (s .caches) (a .whole) (b .whole) (a .leaves ∙ sym (b .leaves)))
   where
-    with : Load → ℕ → CachePair → Loaded
-    with answer count caches = record { answer = answer; count = count; caches = caches }
-
-    fields : r .answer ≡ s .answer → r .count ≡ s .count → r .caches ≡ s .caches → with (r .answer) (r .count) (r .caches) ≡ with (s .answer) (s .count) (s .caches)
+    fields : r .answer ≡ s .answer → r .count ≡ s .count → r .caches ≡ s .caches → loadedWith (r .answer) (r .count) (r .caches) ≡ loadedWith (s .answer) (s .count) (s .caches)
     fields e f g = cc
 
 pub test-single : (t : TestAnswered) (r s : TestOutcome) → TestedIn t (r .answer) (r .count) → TestedIn t (s .answer) (s .count) → r ≡ s
@@ -58,8 +50,5 @@ pub flush-single : (f : FlushedOf) (r s : Flushed) → FlushedBy f r → Flushed
 flush-single f r s a b =
     fields (a .answers ∙ sym (b .answers)) (pair-same (r .caches) (s .caches) (a .whole) (b .whole) (a .leaves ∙ sym (b .leaves)))
   where
-    with : Flush → CachePair → Flushed
-    with answer caches = record { answer = answer; caches = caches }
-
-    fields : r .answer ≡ s .answer → r .caches ≡ s .caches → with (r .answer) (r .caches) ≡ with (s .answer) (s .caches)
+    fields : r .answer ≡ s .answer → r .caches ≡ s .caches → flushedWith (r .answer) (r .caches) ≡ flushedWith (s .answer) (s .caches)
     fields e g = cc

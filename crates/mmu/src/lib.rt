@@ -4,6 +4,7 @@ pub mod by_value;
 pub mod checks;
 pub mod flush;
 pub mod load;
+pub mod pair;
 pub mod probe;
 mod search;
 pub mod test;
