@@ -1,0 +1,88 @@
+-- An answer's numbers, by what the answer is; an override, by its number. Assumes nothing.
+use Prim.Native.Nat.{ℕ}
+use mathlib.Core.Path.{_≡_, ap, _∙_}
+use mathlib.Core.List.{List, [], _∷_}
+use mathlib.Core.Bool.{Bool}
+use lib.ListN.{getD}
+use Rattle.definition.specs.Words.{bitOf}
+use Rattle.definition.specs.Translate.{Caches}
+use Rattle.definition.specs.Probe.{probe}
+use Rattle.definition.specs.declared.Registers.{Registers}
+use Rattle.definition.specs.declared.Probe.{Probe}
+use borrow.Author.Tests.{eq-eqb, ne-eqb}
+use Rattle.definition.specs.Answers.{kindNumber, causeNumber}
+use Rattle.definition.specs.Cache030.{Cache030}
+use Rattle.definition.specs.Cache040.{Cache040}
+use Rattle.definition.specs.Flush.{Flushed}
+use Rattle.definition.specs.declared.Override.{Override}
+use Rattle.definition.specs.declared.FaultKind.{FaultKind}
+use Rattle.definition.specs.declared.FaultCause.{FaultCause}
+use Rattle.definition.specs.declared.Translation.{Translation}
+use Rattle.definition.specs.declared.Translation.the-variants as translation
+use Rattle.definition.specs.declared.Load.{Load}
+use Rattle.definition.specs.declared.Load.the-variants as load
+use Rattle.definition.specs.declared.Test.{Test}
+use Rattle.definition.specs.declared.Test.the-variants as test
+use Rattle.definition.specs.declared.Flush.{Flush}
+use Rattle.mmu.specs.InPlace.{cachesOf, pairWith, FlushedIn, FlushedIn030, FlushedIn040}
+use Rattle.cache.specs.Atc030.{cacheOf}
+use Rattle.cache.specs.Atc040.{cache040Of}
+use Rattle.host.specs.Numbers.{registersWith, registersOf, overrideOf, accessWith, accessOf, probeNumbers, translationNumbers, loadNumbers, testNumbers, flushNumber, FlushedTo}
+
+module _ (code : ℕ) where
+  pub none : code ≡ 255 → Override.Plain ≡ overrideOf code
+  none e = rw (eq-eqb code 255 e)
+
+  pub some : (code ≡ 255 → ⊥) → Override.Code code ≡ overrideOf code
+  some h = rw (ne-eqb code 255 h)
+
+module _ {out : List ℕ} {count : ℕ} where
+  pub address : {t : Translation} {x : ℕ} → t ≡ translation.Address x → out ≡ 0 ∷ x ∷ 0 ∷ 0 ∷ count ∷ [] → out ≡ translationNumbers t count
+  address e f = rw e f
+
+  pub fault : {t : Translation} {kind : FaultKind} {cause : FaultCause} {x k c : ℕ} → t ≡ translation.Fault kind cause x → k ≡ kindNumber kind → c ≡ causeNumber cause
+      → out ≡ 1 ∷ x ∷ k ∷ c ∷ count ∷ [] → out ≡ translationNumbers t count
+  fault e a b f = rw (e, ← a, ← b) f
+
+  pub refused : {t : Translation} {n : ℕ} → t ≡ translation.Refused n → out ≡ 2 ∷ n ∷ 0 ∷ 0 ∷ count ∷ [] → out ≡ translationNumbers t count
+  refused e f = rw e f
+
+  pub loaded : {l : Load} → l ≡ load.Loaded → out ≡ 0 ∷ 0 ∷ 0 ∷ 0 ∷ count ∷ [] → out ≡ loadNumbers l count
+  loaded e f = rw e f
+
+  pub load-refused : {l : Load} {n : ℕ} → l ≡ load.Refused n → out ≡ 2 ∷ n ∷ 0 ∷ 0 ∷ count ∷ [] → out ≡ loadNumbers l count
+  load-refused e f = rw e f
+
+  pub status : {t : Test} {mmusr x : ℕ} → t ≡ test.Status mmusr x → out ≡ 0 ∷ mmusr ∷ x ∷ 0 ∷ count ∷ [] → out ≡ testNumbers t count
+  status e f = rw e f
+
+  pub test-refused : {t : Test} {n : ℕ} → t ≡ test.Refused n → out ≡ 2 ∷ n ∷ 0 ∷ 0 ∷ count ∷ [] → out ≡ testNumbers t count
+  test-refused e f = rw e f
+
+-- ---- a flush of one cache
+pub flushed-030 : {f : Flushed} {k : Cache040} {answer : Flush} {ts ps ss ms : List ℕ} {n : ℕ} → FlushedIn030 f k answer ts ps ss ms → n ≡ flushNumber answer
+    → FlushedTo f n (pairWith (cacheOf ts ps ss ms) k)
+flushed-030 q e = record { answers = e ∙ ap flushNumber (q .answers); leaves = q .leaves }
+
+pub flushed-040 : {f : Flushed} {c : Cache030} {answer : Flush} {ks bs : List ℕ} {n : ℕ} → FlushedIn040 f c answer ks bs → n ≡ flushNumber answer
+    → FlushedTo f n (pairWith c (cache040Of ks bs))
+flushed-040 q e = record { answers = e ∙ ap flushNumber (q .answers); leaves = q .leaves }
+
+-- ---- a flush of both
+pub flushed-both : {f : Flushed} {answer : Flush} {ts ps ss ms ks bs : List ℕ} {n : ℕ} → FlushedIn f answer ts ps ss ms ks bs → n ≡ flushNumber answer
+    → FlushedTo f n (cachesOf ts ps ss ms ks bs)
+flushed-both q e = record { answers = e ∙ ap flushNumber (q .answers); leaves = q .leaves }
+
+-- ---- the host's numbers
+pub accessed : (flags code address : ℕ) {w s i o r : Bool} {c : Override} → w ≡ bitOf flags 0 → s ≡ bitOf flags 1 → i ≡ bitOf flags 2 → o ≡ bitOf flags 3
+    → r ≡ bitOf flags 4 → c ≡ overrideOf code
+    → accessWith address w s i o c r ≡ accessOf flags code address
+accessed flags code address w s i o r c = rw (w, s, i, o, r, c)
+
+pub registered : (ns : List ℕ) {p e : Bool} → p ≡ bitOf (getD ns 1 0) 0 → e ≡ bitOf (getD ns 1 0) 1 → registersWith ns p e ≡ registersOf ns
+registered ns p e = rw (p, e)
+
+pub probed : (ns : List ℕ) (flags address : ℕ) (c : Caches) {out : List ℕ} {p : Probe} {g : Registers} {o i w : Bool} → out ≡ probeNumbers p → p ≡ probe g o i w address c
+    → g ≡ registersOf ns → o ≡ bitOf flags 3 → i ≡ bitOf flags 2 → w ≡ bitOf flags 0
+    → out ≡ probeNumbers (probe (registersOf ns) (bitOf flags 3) (bitOf flags 2) (bitOf flags 0) address c)
+probed ns flags address c t p g o i w = rw (← g, ← o, ← i, ← w, ← p) t

@@ -1,0 +1,96 @@
+-- What the host's numbers are: registers, an access, ranges, and the five numbers of an answer.
+use Prim.Native.Nat.{ℕ}
+use mathlib.Core.Path.{_≡_}
+use mathlib.Core.List.{List, [], _∷_}
+use mathlib.Core.Bool.{Bool}
+use lib.Dec.{eqb}
+use lib.ListN.{getD}
+use Rattle.definition.specs.Words.{if_then_else_, bitOf}
+use Rattle.definition.specs.Answers.{kindNumber, causeNumber}
+use Rattle.definition.specs.Translate.{Caches}
+use Rattle.definition.specs.Load.{Loaded}
+use Rattle.definition.specs.Flush.{Flushed}
+use Rattle.definition.specs.declared.Registers.{Registers}
+use Rattle.definition.specs.declared.Access.{Access}
+use Rattle.definition.specs.declared.Override.{Override}
+use Rattle.definition.specs.declared.Translation.{Translation}
+use Rattle.definition.specs.declared.Translation.the-variants as translation
+use Rattle.definition.specs.declared.Load.{Load}
+use Rattle.definition.specs.declared.Load.the-variants as load
+use Rattle.definition.specs.declared.Test.{Test}
+use Rattle.definition.specs.declared.Test.the-variants as test
+use Rattle.definition.specs.declared.Probe.{Probe}
+use Rattle.definition.specs.declared.Probe.the-variants as probe
+use Rattle.definition.specs.declared.Flush.{Flush}
+use Rattle.definition.specs.declared.Flush.the-variants as flush
+
+-- family, flags (bit 0 PMMU, 1 enabled), and the 11 longs in the order of a trace's record
+abbrev pub registersWith : List ℕ → Bool → Bool → Registers
+registersWith ns present enabled =
+    record {
+      family = getD ns 0 0;
+      present = present;
+      enabled = enabled;
+      tc = getD ns 2 0;
+      crp = record { limit = getD ns 3 0; address = getD ns 4 0 };
+      srp = record { limit = getD ns 5 0; address = getD ns 6 0 };
+      tt0 = getD ns 7 0;
+      tt1 = getD ns 8 0;
+      itt0 = getD ns 9 0;
+      itt1 = getD ns 10 0;
+      dtt0 = getD ns 11 0;
+      dtt1 = getD ns 12 0;
+    }
+
+abbrev pub registersOf : List ℕ → Registers
+registersOf ns = registersWith ns (bitOf (getD ns 1 0) 0) (bitOf (getD ns 1 0) 1)
+
+-- 'override or FF'
+abbrev pub overrideOf : ℕ → Override
+overrideOf code = if eqb code 255 then Override.Plain else Override.Code code
+
+-- 'flags (0 write, 1 supervisor, 2 instruction, 3 CPU state, 4 record)'
+abbrev pub accessWith : ℕ → Bool → Bool → Bool → Bool → Override → Bool → Access
+accessWith address write supervisor instruction own code recorded =
+    record {
+      address = address;
+      write = write;
+      supervisor = supervisor;
+      instruction = instruction;
+      own = own;
+      code = code;
+      recorded = recorded;
+    }
+
+abbrev pub accessOf : ℕ → ℕ → ℕ → Access
+accessOf flags code address =
+    accessWith address (bitOf flags 0) (bitOf flags 1) (bitOf flags 2) (bitOf flags 3) (overrideOf code) (bitOf flags 4)
+
+-- what an answer is (0 an address, a status or done; 1 a fault; 2 a refusal; 3 nothing), its number, two numbers more, and the count
+abbrev pub translationNumbers : Translation → ℕ → List ℕ
+translationNumbers (translation.Address x) count = 0 ∷ x ∷ 0 ∷ 0 ∷ count ∷ []
+translationNumbers (translation.Fault kind cause x) count = 1 ∷ x ∷ kindNumber kind ∷ causeNumber cause ∷ count ∷ []
+translationNumbers (translation.Refused n) count = 2 ∷ n ∷ 0 ∷ 0 ∷ count ∷ []
+
+abbrev pub loadNumbers : Load → ℕ → List ℕ
+loadNumbers load.Loaded count = 0 ∷ 0 ∷ 0 ∷ 0 ∷ count ∷ []
+loadNumbers (load.Refused n) count = 2 ∷ n ∷ 0 ∷ 0 ∷ count ∷ []
+
+abbrev pub testNumbers : Test → ℕ → List ℕ
+testNumbers (test.Status mmusr address) count = 0 ∷ mmusr ∷ address ∷ 0 ∷ count ∷ []
+testNumbers (test.Refused n) count = 2 ∷ n ∷ 0 ∷ 0 ∷ count ∷ []
+
+abbrev pub probeNumbers : Probe → List ℕ
+probeNumbers (probe.Address x) = 0 ∷ x ∷ 0 ∷ 0 ∷ 0 ∷ []
+probeNumbers probe.Nothing = 3 ∷ 0 ∷ 0 ∷ 0 ∷ 0 ∷ []
+probeNumbers (probe.Refused n) = 2 ∷ n ∷ 0 ∷ 0 ∷ 0 ∷ []
+
+-- a flush answers 0, or the number of its refusal
+abbrev pub flushNumber : Flush → ℕ
+flushNumber flush.Flushed = 0
+flushNumber (flush.Refused n) = n
+
+-- a flush's number and the caches after it
+pub record FlushedTo (f : Flushed) (number : ℕ) (after : Caches) : Type 0 where
+  pub answers : number ≡ flushNumber (f .answer)
+  pub leaves : after ≡ f .caches

@@ -1,0 +1,289 @@
+// The host's calls, for C or Rust to link. The host keeps the caches' arrays, the longs, the registers and the ranges as numbers and lends them;
+// a call changes the caches in place and writes its answer to five numbers. specs/ says which number means what.
+use definition::Access;
+use definition::Flush;
+use definition::Load;
+use definition::Override;
+use definition::Probe;
+use definition::Registers;
+use definition::Root;
+use definition::Test;
+use definition::Translation;
+use mmu::flush;
+use mmu::load::LoadOutcome;
+use mmu::probe;
+use mmu::test::TestOutcome;
+use mmu::translate::Outcome;
+ghost use mathlib.Core.Path.{_≡_};
+ghost use Prim.Native.Nat.{_<_};
+ghost use mathlib.Core.List.{[], _∷_};
+ghost use Rattle.definition.specs.Words.{bitOf};
+ghost use Rattle.definition.specs.Cache030.{Cache030};
+ghost use Rattle.definition.specs.Cache040.{Cache040};
+ghost use Rattle.definition.specs.Translate.{emptyCaches};
+ghost use Rattle.definition.specs.Probe.{probe as probeOf};
+ghost use Rattle.definition.specs.Flush.{flushAll, flushCode, flushPage, flushFrame};
+ghost use Rattle.cache.specs.Atc030.{cacheOf};
+ghost use Rattle.cache.specs.Atc040.{cache040Of};
+ghost use Rattle.mmu.specs.InPlace.{cachesOf, pairWith};
+ghost use Rattle.host.specs.Numbers.{registersOf, overrideOf, accessOf, translationNumbers, loadNumbers, testNumbers, probeNumbers, flushNumber, FlushedTo};
+
+// ---- What the host's numbers are.
+
+// Bit `k` of `x`.
+fn bit(x: u32, k: u32) -> bool
+    requires { ⌜ k < 32 ⌝ }
+    ensures { λ r. ⌜ r ≡ bitOf x k ⌝ }
+{
+    (x >> k) % 2 == 1
+}
+
+// Family, flags, and the 11 longs.
+fn registers_of(numbers: &[u32; 13]) -> Registers
+    ensures { λ r. ⌜ r ≡ registersOf (now (numbers .entry)) ⌝ }
+{
+    let flags = numbers[1];
+    let present = bit(flags, 0);
+    let enabled = bit(flags, 1);
+    let crp = Root {
+        limit: numbers[3],
+        address: numbers[4],
+    };
+    let srp = Root {
+        limit: numbers[5],
+        address: numbers[6],
+    };
+    Registers {
+        family: numbers[0],
+        present,
+        enabled,
+        tc: numbers[2],
+        crp,
+        srp,
+        tt0: numbers[7],
+        tt1: numbers[8],
+        itt0: numbers[9],
+        itt1: numbers[10],
+        dtt0: numbers[11],
+        dtt1: numbers[12],
+    }
+}
+
+// An override, or FF for none.
+fn override_of(code: u32) -> Override
+    ensures { λ r. ⌜ r ≡ overrideOf code ⌝ }
+{
+    if code == 255 {
+        return Override::Plain;
+    }
+    Override::Code(code)
+}
+
+// Flags: 0 write, 1 supervisor, 2 instruction, 3 CPU state, 4 record.
+fn access_of(flags: u32, code: u32, address: u32) -> Access
+    ensures { λ r. ⌜ r ≡ accessOf flags code address ⌝ }
+{
+    let write = bit(flags, 0);
+    let supervisor = bit(flags, 1);
+    let instruction = bit(flags, 2);
+    let own = bit(flags, 3);
+    let recorded = bit(flags, 4);
+    let code = override_of(code);
+    Access {
+        address,
+        write,
+        supervisor,
+        instruction,
+        own,
+        code,
+        recorded,
+    }
+}
+
+// ---- What an answer is in numbers.
+
+// A flush's: 0, or the number of its refusal.
+fn flush_number(f: Flush) -> u32
+    ensures { λ r. ⌜ r ≡ flushNumber f ⌝ }
+{
+    match f {
+        Flush::Flushed => 0,
+        Flush::Refused(n) => n,
+    }
+}
+
+// The five numbers of an answer.
+fn tell(out: &mut [u32; 5], what: u32, number: u32, second: u32, third: u32, count: u32)
+    ensures { λ _. ⌜ now (out .exit) ≡ what ∷ number ∷ second ∷ third ∷ count ∷ [] ⌝ }
+{
+    *out = [what, number, second, third, count];
+}
+
+// A translation's.
+fn tell_translation(out: &mut [u32; 5], o: Outcome)
+    ensures { λ _. ⌜ now (out .exit) ≡ translationNumbers (o .answer) (o .count) ⌝ }
+{
+    let answer = o.answer;
+    match answer {
+        Translation::Address(x) => tell(out, 0, x, 0, 0, o.count),
+        Translation::Fault {
+            kind,
+            cause,
+            address,
+        } => {
+            let k = definition::kind_number(kind);
+            let c = definition::cause_number(cause);
+            tell(out, 1, address, k, c, o.count)
+        }
+        Translation::Refused(n) => tell(out, 2, n, 0, 0, o.count),
+    }
+}
+
+// A load's.
+fn tell_load(out: &mut [u32; 5], o: LoadOutcome)
+    ensures { λ _. ⌜ now (out .exit) ≡ loadNumbers (o .answer) (o .count) ⌝ }
+{
+    let answer = o.answer;
+    match answer {
+        Load::Loaded => tell(out, 0, 0, 0, 0, o.count),
+        Load::Refused(n) => tell(out, 2, n, 0, 0, o.count),
+    }
+}
+
+// A test's.
+fn tell_test(out: &mut [u32; 5], o: TestOutcome)
+    ensures { λ _. ⌜ now (out .exit) ≡ testNumbers (o .answer) (o .count) ⌝ }
+{
+    let answer = o.answer;
+    match answer {
+        Test::Status { mmusr, address } => tell(out, 0, mmusr, address, 0, o.count),
+        Test::Refused(n) => tell(out, 2, n, 0, 0, o.count),
+    }
+}
+
+// A probe's.
+fn tell_probe(out: &mut [u32; 5], p: Probe)
+    ensures { λ _. ⌜ now (out .exit) ≡ probeNumbers p ⌝ }
+{
+    match p {
+        Probe::Address(x) => tell(out, 0, x, 0, 0, 0),
+        Probe::Nothing => tell(out, 3, 0, 0, 0, 0),
+        Probe::Refused(n) => tell(out, 2, n, 0, 0, 0),
+    }
+}
+
+// ---- The calls.
+
+// The empty caches: every number 0.
+#[no_mangle]
+pub extern "C" fn mmu_empty(
+    tags: &mut [u64; 22],
+    pages: &mut [u64; 22],
+    stamps: &mut [u64; 22],
+    marks: &mut [u64; 3],
+    keys: &mut [u64; 64],
+    bases: &mut [u64; 64],
+)
+    ensures { λ _. ⌜ cachesOf (now (tags .exit)) (now (pages .exit)) (now (stamps .exit)) (now (marks .exit)) (now (keys .exit)) (now (bases .exit)) ≡ emptyCaches ⌝ }
+{
+    *tags = [0; 22];
+    *pages = [0; 22];
+    *stamps = [0; 22];
+    *marks = [0; 3];
+    *keys = [0; 64];
+    *bases = [0; 64];
+}
+
+// Probe: the CPU's own state, instruction and write in the flags.
+#[no_mangle]
+pub extern "C" fn mmu_probe(
+    tags: &[u64; 22],
+    pages: &[u64; 22],
+    stamps: &[u64; 22],
+    marks: &[u64; 3],
+    keys: &[u64; 64],
+    bases: &[u64; 64],
+    registers: &[u32; 13],
+    flags: u32,
+    address: u32,
+    out: &mut [u32; 5],
+)
+    ensures { λ _. ⌜ now (out .exit) ≡ probeNumbers (probeOf (registersOf (now (registers .entry))) (bitOf flags 3) (bitOf flags 2) (bitOf flags 0) address (cachesOf (now (tags .entry)) (now (pages .entry)) (now (stamps .entry)) (now (marks .entry)) (now (keys .entry)) (now (bases .entry)))) ⌝ }
+{
+    let g = registers_of(registers);
+    let own = bit(flags, 3);
+    let instruction = bit(flags, 2);
+    let write = bit(flags, 0);
+    let answer = probe::probe_in(
+        tags,
+        pages,
+        stamps,
+        marks,
+        keys,
+        bases,
+        g,
+        own,
+        instruction,
+        write,
+        address,
+    );
+    tell_probe(out, answer)
+}
+
+// Empties both caches.
+#[no_mangle]
+pub extern "C" fn mmu_flush_all(
+    tags: &mut [u64; 22],
+    pages: &[u64; 22],
+    stamps: &[u64; 22],
+    marks: &[u64; 3],
+    keys: &mut [u64; 64],
+    bases: &[u64; 64],
+) -> u32
+    ensures { λ r. ⌜ FlushedTo (flushAll (cachesOf (now (tags .entry)) (now (pages .entry)) (now (stamps .entry)) (now (marks .entry)) (now (keys .entry)) (now (bases .entry)))) r (cachesOf (now (tags .exit)) (now (pages .entry)) (now (stamps .entry)) (now (marks .entry)) (now (keys .exit)) (now (bases .entry))) ⌝ }
+{
+    let f = flush::flush_all_in(tags, pages, stamps, marks, keys, bases);
+    flush_number(f)
+}
+
+// Drops the 68030 entries whose code agrees on the mask's bits.
+#[no_mangle]
+pub extern "C" fn mmu_flush_code(
+    tags: &mut [u64; 22],
+    pages: &[u64; 22],
+    stamps: &[u64; 22],
+    marks: &[u64; 3],
+    code: u32,
+    mask: u32,
+) -> u32
+    ensures { λ r. ⌜ ((k : Cache040) → FlushedTo (flushCode code mask (pairWith (cacheOf (now (tags .entry)) (now (pages .entry)) (now (stamps .entry)) (now (marks .entry))) k)) r (pairWith (cacheOf (now (tags .exit)) (now (pages .entry)) (now (stamps .entry)) (now (marks .entry))) k)) ⌝ }
+{
+    let f = flush::flush_code_in(tags, pages, stamps, marks, code, mask);
+    flush_number(f)
+}
+
+// Drops those of them whose page is the address's.
+#[no_mangle]
+pub extern "C" fn mmu_flush_page(
+    tags: &mut [u64; 22],
+    pages: &[u64; 22],
+    stamps: &[u64; 22],
+    marks: &[u64; 3],
+    code: u32,
+    mask: u32,
+    address: u32,
+) -> u32
+    ensures { λ r. ⌜ ((k : Cache040) → FlushedTo (flushPage code mask address (pairWith (cacheOf (now (tags .entry)) (now (pages .entry)) (now (stamps .entry)) (now (marks .entry))) k)) r (pairWith (cacheOf (now (tags .exit)) (now (pages .entry)) (now (stamps .entry)) (now (marks .entry))) k)) ⌝ }
+{
+    let f = flush::flush_page_in(tags, pages, stamps, marks, code, mask, address);
+    flush_number(f)
+}
+
+// Drops a 68040 frame for either privilege.
+#[no_mangle]
+pub extern "C" fn mmu_flush_frame(keys: &mut [u64; 64], bases: &[u64; 64], frame: u32) -> u32
+    ensures { λ r. ⌜ ((c : Cache030) → FlushedTo (flushFrame frame (pairWith c (cache040Of (now (keys .entry)) (now (bases .entry))))) r (pairWith c (cache040Of (now (keys .exit)) (now (bases .entry))))) ⌝ }
+{
+    let f = flush::flush_frame_in(keys, bases, frame);
+    flush_number(f)
+}
