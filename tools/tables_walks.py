@@ -47,9 +47,20 @@ def chosen(facts):
     return f'law.done-040 {way} {facts("is_idle", "else", "is_by_030", "else", "supervisor_of", "walk_040", "done_040")}'
 
 
-# walk_kept: x3 is the array, x4 how many of it count; i3 .1 .0 .1 says that the array has its length
-def kept(law, facts):
-    return f'law.{law} x4 x3 (i3 .1 .0 .1) {facts("of_sixteen")}'
+def kept(array, count, ends):
+    """the first of an array's ranges are lent: `array` and `count` are their parameters' numbers; i .1 .0 .1 says that the array has its length"""
+    length = f'i{array} .1 .0 .1'
+
+    def law(name, facts):
+        return f'law.{name} x{count} x{array} ({length}) {facts("of_sixteen")}'
+
+    return dict(
+        law='Choosing',
+        count=lambda facts: law('count', facts),
+        room=lambda facts: law('room', facts),
+        length=length,
+        ends=lambda facts: f'{ends(facts)} ({law("firsts", facts)})',
+    )
 
 
 FUNCTIONS = {
@@ -97,11 +108,6 @@ FUNCTIONS = {
         law='Choosing',
         ends=chosen,
     ),
-    'walk_kept': dict(
-        law='Choosing',
-        count=lambda facts: kept('count', facts),
-        room=lambda facts: kept('room', facts),
-        length='i3 .1 .0 .1',
-        ends=lambda facts: f'{facts("walk_for")} ∙ ap (λ (l : List Range). walksOf (memory (now x1) x2 l) x5 x6 x7) ({kept("firsts", facts)})',
-    ),
+    'walk_kept': kept(3, 4, lambda facts: f'{facts("walk_for")} ∙ ap (λ (l : List Range). walksOf (memory (now x1) x2 l) x5 x6 x7)'),
+    'any_crossed_kept': kept(1, 2, lambda facts: f'{facts("any_crossed")} ∙ ap (anyOf crossed)'),
 }

@@ -3,9 +3,15 @@ use Prim.Native.Nat.{ℕ}
 use mathlib.Core.Path.{_≡_, ap, _∙_}
 use mathlib.Core.List.{List, [], _∷_}
 use mathlib.Core.Bool.{Bool}
-use lib.ListN.{getD}
-use Rattle.definition.specs.Words.{bitOf}
-use Rattle.definition.specs.Translate.{Caches}
+use lib.ListN.{getD, take}
+use Rattle.definition.specs.Words.{bitOf, anyOf}
+use Rattle.definition.specs.Memory.{memory}
+use Rattle.definition.specs.Refusal.{crossed}
+use Rattle.definition.specs.Load.{load}
+use Rattle.definition.specs.Test.{test}
+use Rattle.definition.specs.declared.Range.{Range}
+use Rattle.definition.specs.declared.Access.{Access}
+use Rattle.definition.specs.Translate.{Caches, translate}
 use Rattle.definition.specs.Probe.{probe}
 use Rattle.definition.specs.declared.Registers.{Registers}
 use Rattle.definition.specs.declared.Probe.{Probe}
@@ -20,14 +26,15 @@ use Rattle.definition.specs.declared.FaultCause.{FaultCause}
 use Rattle.definition.specs.declared.Translation.{Translation}
 use Rattle.definition.specs.declared.Translation.the-variants as translation
 use Rattle.definition.specs.declared.Load.{Load}
-use Rattle.definition.specs.declared.Load.the-variants as load
+use Rattle.definition.specs.declared.Load.the-variants as load′
 use Rattle.definition.specs.declared.Test.{Test}
-use Rattle.definition.specs.declared.Test.the-variants as test
+use Rattle.definition.specs.declared.Test.the-variants as test′
 use Rattle.definition.specs.declared.Flush.{Flush}
-use Rattle.mmu.specs.InPlace.{cachesOf, pairWith, FlushedIn, FlushedIn030, FlushedIn040}
+use Rattle.mmu.specs.InPlace.{cachesOf, pairWith, AnsweredIn, LoadedIn, TestedIn, FlushedIn, FlushedIn030, FlushedIn040}
+use Rattle.mmu.specs.Stages.{shownTranslated, shownLoaded, shownTested}
 use Rattle.cache.specs.Atc030.{cacheOf}
 use Rattle.cache.specs.Atc040.{cache040Of}
-use Rattle.host.specs.Numbers.{registersWith, registersOf, overrideOf, accessWith, accessOf, probeNumbers, translationNumbers, loadNumbers, testNumbers, flushNumber, FlushedTo}
+use Rattle.host.specs.Numbers.{rangesOf, TranslatedTo, LoadedTo, testedNumbers, registersWith, registersOf, overrideOf, accessWith, accessOf, probeNumbers, translationNumbers, loadNumbers, testNumbers, flushNumber, FlushedTo}
 
 module _ (code : ℕ) where
   pub none : code ≡ 255 → Override.Plain ≡ overrideOf code
@@ -47,16 +54,16 @@ module _ {out : List ℕ} {count : ℕ} where
   pub refused : {t : Translation} {n : ℕ} → t ≡ translation.Refused n → out ≡ 2 ∷ n ∷ 0 ∷ 0 ∷ count ∷ [] → out ≡ translationNumbers t count
   refused e f = rw e f
 
-  pub loaded : {l : Load} → l ≡ load.Loaded → out ≡ 0 ∷ 0 ∷ 0 ∷ 0 ∷ count ∷ [] → out ≡ loadNumbers l count
+  pub loaded : {l : Load} → l ≡ load′.Loaded → out ≡ 0 ∷ 0 ∷ 0 ∷ 0 ∷ count ∷ [] → out ≡ loadNumbers l count
   loaded e f = rw e f
 
-  pub load-refused : {l : Load} {n : ℕ} → l ≡ load.Refused n → out ≡ 2 ∷ n ∷ 0 ∷ 0 ∷ count ∷ [] → out ≡ loadNumbers l count
+  pub load-refused : {l : Load} {n : ℕ} → l ≡ load′.Refused n → out ≡ 2 ∷ n ∷ 0 ∷ 0 ∷ count ∷ [] → out ≡ loadNumbers l count
   load-refused e f = rw e f
 
-  pub status : {t : Test} {mmusr x : ℕ} → t ≡ test.Status mmusr x → out ≡ 0 ∷ mmusr ∷ x ∷ 0 ∷ count ∷ [] → out ≡ testNumbers t count
+  pub status : {t : Test} {mmusr x : ℕ} → t ≡ test′.Status mmusr x → out ≡ 0 ∷ mmusr ∷ x ∷ 0 ∷ count ∷ [] → out ≡ testNumbers t count
   status e f = rw e f
 
-  pub test-refused : {t : Test} {n : ℕ} → t ≡ test.Refused n → out ≡ 2 ∷ n ∷ 0 ∷ 0 ∷ count ∷ [] → out ≡ testNumbers t count
+  pub test-refused : {t : Test} {n : ℕ} → t ≡ test′.Refused n → out ≡ 2 ∷ n ∷ 0 ∷ 0 ∷ count ∷ [] → out ≡ testNumbers t count
   test-refused e f = rw e f
 
 -- ---- a flush of one cache
@@ -86,3 +93,27 @@ pub probed : (ns : List ℕ) (flags address : ℕ) (c : Caches) {out : List ℕ}
     → g ≡ registersOf ns → o ≡ bitOf flags 3 → i ≡ bitOf flags 2 → w ≡ bitOf flags 0
     → out ≡ probeNumbers (probe (registersOf ns) (bitOf flags 3) (bitOf flags 2) (bitOf flags 0) address c)
 probed ns flags address c t p g o i w = rw (← g, ← o, ← i, ← w, ← p) t
+
+-- ---- the calls over the ranges: the answer's numbers, from the call's promise in place
+module _ (ns rs : List ℕ) {g : Registers} {list : List Range} (is-g : g ≡ registersOf ns) (is-list : list ≡ rangesOf rs) (longs : List ℕ) (base n : ℕ) {three : Bool}
+    (is-three : three ≡ anyOf crossed (take n list)) {out : List ℕ} where
+  pub translates : (flags code address : ℕ) (c : Caches) {a : Access} {t : Translation} {count : ℕ} {ts ps ss ms ks bs : List ℕ} → a ≡ accessOf flags code address
+      → (three ≡ anyOf crossed (take n list) → AnsweredIn (shownTranslated (translate g a (memory longs base (take n list)) c)) t count ts ps ss ms ks bs)
+      → out ≡ translationNumbers t count
+      → TranslatedTo (translate (registersOf ns) (accessOf flags code address) (memory longs base (take n (rangesOf rs))) c) out (cachesOf ts ps ss ms ks bs)
+  translates flags code address c is-a k e =
+      let q = k is-three in
+      rw (← is-g, ← is-a, ← is-list) (record { answers = e ∙ rw (q .answers, q .counts); leaves = q .leaves })
+
+  pub loads : (code : ℕ) (write : Bool) (address : ℕ) (c : Caches) {l : Load} {count : ℕ} {ts ps ss ms : List ℕ}
+      → (three ≡ anyOf crossed (take n list) → LoadedIn (shownLoaded (load g code write address (memory longs base (take n list)) c)) l count ts ps ss ms)
+      → out ≡ loadNumbers l count
+      → LoadedTo (load (registersOf ns) code write address (memory longs base (take n (rangesOf rs))) c) out (cacheOf ts ps ss ms)
+  loads code write address c k e =
+      let q = k is-three in rw (← is-g, ← is-list) (record { answers = e ∙ rw (q .answers, q .counts); leaves = q .leaves })
+
+  pub tests : (code : ℕ) (write : Bool) (level address : ℕ) {t : Test} {count : ℕ}
+      → (three ≡ anyOf crossed (take n list) → TestedIn (shownTested (test g code write level address (memory longs base (take n list)))) t count)
+      → out ≡ testNumbers t count → out ≡ testedNumbers (test (registersOf ns) code write level address (memory longs base (take n (rangesOf rs))))
+  tests code write level address k e =
+      let q = k is-three in rw (← is-g, ← is-list) (e ∙ rw (q .answers, q .counts))

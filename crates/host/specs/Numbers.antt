@@ -1,13 +1,17 @@
 -- What the host's numbers are: registers, an access, ranges, and the five numbers of an answer.
-use Prim.Native.Nat.{ℕ}
+use Prim.Native.Nat.{ℕ, _+_, _*_}
 use mathlib.Core.Path.{_≡_}
-use mathlib.Core.List.{List, [], _∷_}
+use mathlib.Core.List.{List, [], _∷_, map}
 use mathlib.Core.Bool.{Bool}
 use lib.Dec.{eqb}
-use lib.ListN.{getD}
+use lib.ListN.{length, getD}
 use Rattle.definition.specs.Words.{if_then_else_, bitOf}
 use Rattle.definition.specs.Answers.{kindNumber, causeNumber}
-use Rattle.definition.specs.Translate.{Caches}
+use Rattle.definition.specs.Cache030.{Cache030}
+use Rattle.definition.specs.Translate.{Caches, Translated}
+use Rattle.definition.specs.Load.{Loaded}
+use Rattle.definition.specs.Test.{Tested}
+use Rattle.definition.specs.declared.Range.{Range}
 use Rattle.definition.specs.Load.{Loaded}
 use Rattle.definition.specs.Flush.{Flushed}
 use Rattle.definition.specs.declared.Registers.{Registers}
@@ -44,6 +48,13 @@ registersWith ns present enabled =
 
 abbrev pub registersOf : List ℕ → Registers
 registersOf ns = registersWith ns (bitOf (getD ns 1 0) 0) (bitOf (getD ns 1 0) 1)
+
+-- a range's first and last address, and the sixteen that the host keeps
+abbrev pub rangeAt : List ℕ → ℕ → Range
+rangeAt ns i = record { first = getD ns (2 * i) 0; last = getD ns (2 * i + 1) 0 }
+
+abbrev pub rangesOf : List ℕ → List Range
+rangesOf ns = map (rangeAt ns) (0 ∷ 1 ∷ 2 ∷ 3 ∷ 4 ∷ 5 ∷ 6 ∷ 7 ∷ 8 ∷ 9 ∷ 10 ∷ 11 ∷ 12 ∷ 13 ∷ 14 ∷ 15 ∷ [])
 
 -- 'override or FF'
 abbrev pub overrideOf : ℕ → Override
@@ -94,3 +105,16 @@ flushNumber (flush.Refused n) = n
 pub record FlushedTo (f : Flushed) (number : ℕ) (after : Caches) : Type 0 where
   pub answers : number ≡ flushNumber (f .answer)
   pub leaves : after ≡ f .caches
+
+-- an answer's numbers and the caches after it
+pub record TranslatedTo (t : Translated) (numbers : List ℕ) (after : Caches) : Type 0 where
+  pub answers : numbers ≡ translationNumbers (t .answer) (length (t .asked))
+  pub leaves : after ≡ t .caches
+
+-- a load's, with the 68030 cache: the other one stays
+pub record LoadedTo (l : Loaded) (numbers : List ℕ) (after : Cache030) : Type 0 where
+  pub answers : numbers ≡ loadNumbers (l .answer) (length (l .asked))
+  pub leaves : after ≡ l .caches .c030
+
+abbrev pub testedNumbers : Tested → List ℕ
+testedNumbers t = testNumbers (t .answer) (length (t .asked))

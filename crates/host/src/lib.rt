@@ -5,14 +5,18 @@ use definition::Flush;
 use definition::Load;
 use definition::Override;
 use definition::Probe;
+use definition::Range;
 use definition::Registers;
 use definition::Root;
 use definition::Test;
 use definition::Translation;
 use mmu::flush;
+use mmu::load;
 use mmu::load::LoadOutcome;
 use mmu::probe;
+use mmu::test;
 use mmu::test::TestOutcome;
+use mmu::translate;
 use mmu::translate::Outcome;
 ghost use mathlib.Core.Path.{_≡_};
 ghost use Prim.Native.Nat.{_<_};
@@ -20,31 +24,27 @@ ghost use mathlib.Core.List.{[], _∷_};
 ghost use Rattle.definition.specs.Words.{bitOf};
 ghost use Rattle.definition.specs.Cache030.{Cache030};
 ghost use Rattle.definition.specs.Cache040.{Cache040};
-ghost use Rattle.definition.specs.Translate.{emptyCaches};
+ghost use Rattle.definition.specs.Translate.{emptyCaches, translate as translateOf};
+ghost use Rattle.definition.specs.Load.{load as loadOf};
+ghost use Rattle.definition.specs.Test.{test as testOf};
+ghost use Rattle.definition.specs.Memory.{memory};
+ghost use lib.ListN.{take};
 ghost use Rattle.definition.specs.Probe.{probe as probeOf};
 ghost use Rattle.definition.specs.Flush.{flushAll, flushCode, flushPage, flushFrame};
 ghost use Rattle.cache.specs.Atc030.{cacheOf};
 ghost use Rattle.cache.specs.Atc040.{cache040Of};
 ghost use Rattle.mmu.specs.InPlace.{cachesOf, pairWith};
-ghost use Rattle.host.specs.Numbers.{registersOf, overrideOf, accessOf, translationNumbers, loadNumbers, testNumbers, probeNumbers, flushNumber, FlushedTo};
+ghost use Rattle.host.specs.Numbers.{rangeAt, rangesOf, registersOf, overrideOf, accessOf, translationNumbers, loadNumbers, testNumbers, probeNumbers, flushNumber, TranslatedTo, LoadedTo, testedNumbers, FlushedTo};
 
 // ---- What the host's numbers are.
-
-// Bit `k` of `x`.
-fn bit(x: u32, k: u32) -> bool
-    requires { ⌜ k < 32 ⌝ }
-    ensures { λ r. ⌜ r ≡ bitOf x k ⌝ }
-{
-    (x >> k) % 2 == 1
-}
 
 // Family, flags, and the 11 longs.
 fn registers_of(numbers: &[u32; 13]) -> Registers
     ensures { λ r. ⌜ r ≡ registersOf (now (numbers .entry)) ⌝ }
 {
     let flags = numbers[1];
-    let present = bit(flags, 0);
-    let enabled = bit(flags, 1);
+    let present = tables::bit(flags, 0);
+    let enabled = tables::bit(flags, 1);
     let crp = Root {
         limit: numbers[3],
         address: numbers[4],
@@ -83,11 +83,11 @@ fn override_of(code: u32) -> Override
 fn access_of(flags: u32, code: u32, address: u32) -> Access
     ensures { λ r. ⌜ r ≡ accessOf flags code address ⌝ }
 {
-    let write = bit(flags, 0);
-    let supervisor = bit(flags, 1);
-    let instruction = bit(flags, 2);
-    let own = bit(flags, 3);
-    let recorded = bit(flags, 4);
+    let write = tables::bit(flags, 0);
+    let supervisor = tables::bit(flags, 1);
+    let instruction = tables::bit(flags, 2);
+    let own = tables::bit(flags, 3);
+    let recorded = tables::bit(flags, 4);
     let code = override_of(code);
     Access {
         address,
@@ -98,6 +98,57 @@ fn access_of(flags: u32, code: u32, address: u32) -> Access
         code,
         recorded,
     }
+}
+
+// Range `i`: its first and its last address.
+fn range_at(numbers: &[u32; 32], i: usize) -> Range
+    requires { ⌜ i < 16 ⌝ }
+    ensures { λ r. ⌜ r ≡ rangeAt (now (numbers .entry)) i ⌝ }
+{
+    Range {
+        first: numbers[2 * i],
+        last: numbers[2 * i + 1],
+    }
+}
+
+// The sixteen ranges that the host keeps.
+fn ranges_of(numbers: &[u32; 32]) -> [Range; 16]
+    ensures { λ r. ⌜ r ≡ rangesOf (now (numbers .entry)) ⌝ }
+{
+    let r0 = range_at(numbers, 0);
+    let r1 = range_at(numbers, 1);
+    let r2 = range_at(numbers, 2);
+    let r3 = range_at(numbers, 3);
+    let r4 = range_at(numbers, 4);
+    let r5 = range_at(numbers, 5);
+    let r6 = range_at(numbers, 6);
+    let r7 = range_at(numbers, 7);
+    let r8 = range_at(numbers, 8);
+    let r9 = range_at(numbers, 9);
+    let r10 = range_at(numbers, 10);
+    let r11 = range_at(numbers, 11);
+    let r12 = range_at(numbers, 12);
+    let r13 = range_at(numbers, 13);
+    let r14 = range_at(numbers, 14);
+    let r15 = range_at(numbers, 15);
+    [
+        r0,
+        r1,
+        r2,
+        r3,
+        r4,
+        r5,
+        r6,
+        r7,
+        r8,
+        r9,
+        r10,
+        r11,
+        r12,
+        r13,
+        r14,
+        r15,
+    ]
 }
 
 // ---- What an answer is in numbers.
@@ -194,6 +245,112 @@ pub extern "C" fn mmu_empty(
     *bases = [0; 64];
 }
 
+// Translate over the caches that the host keeps, with the first `n` of its ranges.
+#[no_mangle]
+pub extern "C" fn mmu_translate(
+    tags: &mut [u64; 22],
+    pages: &mut [u64; 22],
+    stamps: &mut [u64; 22],
+    marks: &mut [u64; 3],
+    keys: &mut [u64; 64],
+    bases: &mut [u64; 64],
+    longs: &[u32],
+    base: u32,
+    ranges: &[u32; 32],
+    n: usize,
+    registers: &[u32; 13],
+    flags: u32,
+    code: u32,
+    address: u32,
+    out: &mut [u32; 5],
+)
+    ensures { λ _. ⌜ TranslatedTo (translateOf (registersOf (now (registers .entry))) (accessOf flags code address) (memory (now (longs .entry)) base (take n (rangesOf (now (ranges .entry))))) (cachesOf (now (tags .entry)) (now (pages .entry)) (now (stamps .entry)) (now (marks .entry)) (now (keys .entry)) (now (bases .entry)))) (now (out .exit)) (cachesOf (now (tags .exit)) (now (pages .exit)) (now (stamps .exit)) (now (marks .exit)) (now (keys .exit)) (now (bases .exit))) ⌝ }
+{
+    let g = registers_of(registers);
+    let a = access_of(flags, code, address);
+    let list = ranges_of(ranges);
+    let three = tables::any_crossed_kept(list, n);
+    let o = translate::translate_in(
+        tags,
+        pages,
+        stamps,
+        marks,
+        keys,
+        bases,
+        longs,
+        base,
+        list,
+        n,
+        three,
+        g,
+        a,
+    );
+    tell_translation(out, o)
+}
+
+// Load over the 68030 cache that the host keeps.
+#[no_mangle]
+pub extern "C" fn mmu_load(
+    tags: &mut [u64; 22],
+    pages: &mut [u64; 22],
+    stamps: &mut [u64; 22],
+    marks: &mut [u64; 3],
+    longs: &[u32],
+    base: u32,
+    ranges: &[u32; 32],
+    n: usize,
+    registers: &[u32; 13],
+    code: u32,
+    write: bool,
+    address: u32,
+    out: &mut [u32; 5],
+)
+    ensures { λ _. ⌜ ((k : Cache040) → LoadedTo (loadOf (registersOf (now (registers .entry))) code write address (memory (now (longs .entry)) base (take n (rangesOf (now (ranges .entry))))) (pairWith (cacheOf (now (tags .entry)) (now (pages .entry)) (now (stamps .entry)) (now (marks .entry))) k)) (now (out .exit)) (cacheOf (now (tags .exit)) (now (pages .exit)) (now (stamps .exit)) (now (marks .exit)))) ⌝ }
+{
+    let g = registers_of(registers);
+    let list = ranges_of(ranges);
+    let three = tables::any_crossed_kept(list, n);
+    let o = load::load_in(
+        tags,
+        pages,
+        stamps,
+        marks,
+        longs,
+        base,
+        list,
+        n,
+        three,
+        g,
+        code,
+        write,
+        address,
+    );
+    tell_load(out, o)
+}
+
+// Test: it touches no cache.
+#[no_mangle]
+pub extern "C" fn mmu_test(
+    longs: &[u32],
+    base: u32,
+    ranges: &[u32; 32],
+    n: usize,
+    registers: &[u32; 13],
+    code: u32,
+    write: bool,
+    level: u32,
+    address: u32,
+    out: &mut [u32; 5],
+)
+    ensures { λ _. ⌜ now (out .exit) ≡ testedNumbers (testOf (registersOf (now (registers .entry))) code write level address (memory (now (longs .entry)) base (take n (rangesOf (now (ranges .entry)))))) ⌝ }
+{
+    let g = registers_of(registers);
+    let list = ranges_of(ranges);
+    let three = tables::any_crossed_kept(list, n);
+    let o = test::test_in(longs, base, list, n, three, g, code, write, level, address);
+    tell_test(out, o)
+}
+
 // Probe: the CPU's own state, instruction and write in the flags.
 #[no_mangle]
 pub extern "C" fn mmu_probe(
@@ -211,9 +368,9 @@ pub extern "C" fn mmu_probe(
     ensures { λ _. ⌜ now (out .exit) ≡ probeNumbers (probeOf (registersOf (now (registers .entry))) (bitOf flags 3) (bitOf flags 2) (bitOf flags 0) address (cachesOf (now (tags .entry)) (now (pages .entry)) (now (stamps .entry)) (now (marks .entry)) (now (keys .entry)) (now (bases .entry)))) ⌝ }
 {
     let g = registers_of(registers);
-    let own = bit(flags, 3);
-    let instruction = bit(flags, 2);
-    let write = bit(flags, 0);
+    let own = tables::bit(flags, 3);
+    let instruction = tables::bit(flags, 2);
+    let write = tables::bit(flags, 0);
     let answer = probe::probe_in(
         tags,
         pages,

@@ -126,7 +126,7 @@ pub fn fetch(longs: &[u32], base: u32, ranges: &[Range], at: u32) -> Fetched
 // ---- One 68030 descriptor.
 
 // Bit `k` of `x`.
-fn bit(x: u32, k: u32) -> bool
+pub fn bit(x: u32, k: u32) -> bool
     requires { ⌜ k < 32 ⌝ }
     ensures { λ r. ⌜ r ≡ bitOf x k ⌝ }
 {
@@ -950,7 +950,7 @@ fn of_sixteen(n: usize) -> usize
     16
 }
 
-// The same over the first `n` of the ranges that a caller keeps in an array: they are lent as a slice.
+// The walk over the first `n` of the ranges that a caller keeps in an array: they are lent as a slice.
 pub fn walk_kept(
     longs: &[u32],
     base: u32,
@@ -964,6 +964,14 @@ pub fn walk_kept(
 {
     let m = of_sixteen(n);
     walk_for(longs, base, &list[..m], g, address, way)
+}
+
+// Refusal 3 of the same ranges.
+pub fn any_crossed_kept(list: [Range; 16], n: usize) -> bool
+    ensures { λ r. ⌜ r ≡ anyOf crossed (take n list) ⌝ }
+{
+    let m = of_sixteen(n);
+    any_crossed(&list[..m])
 }
 
 // ---- What a page gives.
