@@ -1,0 +1,72 @@
+use Rattle.calls_cases.proofs.setting.same.Statement.{statement}
+use Rattle.calls_cases.proofs.setting.same.Tie as tie
+use Rattle.calls_cases.proofs.setting.same.Reads as reads
+use Rattle.calls_cases.proofs.setting.same.Lts as lts
+
+abbrev Inv-loop : tie.InvT-loop
+Inv-loop a b i₀ i = ?
+
+abbrev μ-loop : tie.MeasureT-loop
+μ-loop a b i₀ i = ?
+
+-- src/setting.rt:94:9
+returns : tie.Need-returns Inv-loop μ-loop
+returns c = ?
+
+-- src/setting.rt:97:5
+loop-holds : tie.Need-loop-holds Inv-loop μ-loop
+loop-holds c = ?
+
+-- src/setting.rt:98:12
+mul-if2 : tie.Need-mul-if2 Inv-loop μ-loop
+mul-if2 c = ?
+
+-- src/setting.rt:98:12
+shared-slice-read-if2 : tie.Need-shared-slice-read-if2 Inv-loop μ-loop
+shared-slice-read-if2 c = ?
+
+-- src/setting.rt:98:20
+mul-if2-2 : tie.Need-mul-if2-2 Inv-loop μ-loop
+mul-if2-2 c = ?
+
+-- src/setting.rt:98:20
+shared-slice-read-if2-2 : tie.Need-shared-slice-read-if2-2 Inv-loop μ-loop
+shared-slice-read-if2-2 c = ?
+
+-- src/setting.rt:99:13
+returns-2 : tie.Need-returns-2 Inv-loop μ-loop
+returns-2 c = ?
+
+-- src/setting.rt:101:9
+add-i : tie.Need-add-i Inv-loop μ-loop
+add-i c = ?
+
+-- src/setting.rt:97:5
+loop-less : tie.Need-loop-less Inv-loop μ-loop
+loop-less c = ?
+
+-- src/setting.rt:97:5
+loop-again : tie.Need-loop-again Inv-loop μ-loop
+loop-again c = ?
+
+-- src/setting.rt:92:1
+returns-3 : tie.Need-returns-3 Inv-loop μ-loop
+returns-3 c = ?
+
+pub same-spec : {M : Type 1} → statement M
+same-spec =
+    tie.close
+    (tie.spec
+    Inv-loop
+    μ-loop
+    returns
+    loop-holds
+    mul-if2
+    shared-slice-read-if2
+    mul-if2-2
+    shared-slice-read-if2-2
+    returns-2
+    add-i
+    loop-less
+    loop-again
+    returns-3)
