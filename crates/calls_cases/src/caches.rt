@@ -65,7 +65,7 @@ fn show_answer(answer: Translation) {
 }
 
 // Writes entry i.
-fn show_entry(tags: &[u64], pages: &[u64], stamps: &[u64], i: usize) {
+fn show_entry(tags: &[u64; 22], pages: &[u64; 22], stamps: &[u64; 22], i: usize) {
     io::write_all(1, b" ");
     io::print_hex(1, setting::at(tags, i), 1);
     io::write_all(1, b",");
@@ -75,7 +75,7 @@ fn show_entry(tags: &[u64], pages: &[u64], stamps: &[u64], i: usize) {
 }
 
 // Writes the marks.
-fn show_marks(marks: &[u64]) {
+fn show_marks(marks: &[u64; 3]) {
     io::write_all(1, b" m=");
     io::print_decimal(1, setting::at(marks, 0));
     io::write_all(1, b" c=");

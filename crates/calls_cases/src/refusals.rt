@@ -13,10 +13,10 @@ use definition::Translation;
 
 // Whether the 68030 cache has every number 3, as it had, but the most recent index and the shift.
 fn stays_030(
-    tags: &[u64],
-    pages: &[u64],
-    stamps: &[u64],
-    marks: &[u64],
+    tags: &[u64; 22],
+    pages: &[u64; 22],
+    stamps: &[u64; 22],
+    marks: &[u64; 3],
     recent: u64,
     shift: u64,
 ) -> bool {
@@ -30,7 +30,7 @@ fn stays_030(
 }
 
 // Whether the 68040 cache has every number 3, as it had.
-fn stays_040(keys: &[u64], bases: &[u64]) -> bool {
+fn stays_040(keys: &[u64; 64], bases: &[u64; 64]) -> bool {
     let threes = [3u64; 64];
     let a = setting::same(keys, &threes);
     let b = setting::same(bases, &threes);
