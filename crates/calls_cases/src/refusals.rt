@@ -343,9 +343,8 @@ fn off(t: Trial) -> Trial {
 
 // ---- The lines.
 
-// Writes a line of loads, from what none refuses: each number alone, then of two neighbours which comes first.
-fn load_line(t: Trial) {
-    // Alone: 1 6 5 2 2 3 4 4.
+// Loads that meet one number alone: 1 6 5 2 2 3 4 4.
+fn loads_alone(t: Trial) {
     setting::show(load(one(t)));
     setting::show(load(six(t)));
     setting::show(load(five(t)));
@@ -354,13 +353,22 @@ fn load_line(t: Trial) {
     setting::show(load(three(t)));
     setting::show(load(four(t)));
     setting::show(load(four_shift(t)));
-    io::write_all(1, b" |");
-    // No family is both 1 and 6, so 1 stands with 5. Of two: 1 6 5 2 3.
+}
+
+// Loads that meet two neighbours, of which the first is given: 1 6 5 2 3. No family is both 1 and 6, so 1 stands with 5.
+fn loads_of_two(t: Trial) {
     setting::show(load(one(five(t))));
     setting::show(load(six(five(t))));
     setting::show(load(five(two(t))));
     setting::show(load(two(three(t))));
     setting::show(load(three(four(t))));
+}
+
+// Writes a line of loads, from what none refuses.
+fn load_line(t: Trial) {
+    loads_alone(t);
+    io::write_all(1, b" |");
+    loads_of_two(t);
     io::write_all(1, b"\n");
 }
 
@@ -373,20 +381,8 @@ pub fn loads() {
     load_line(off(t));
 }
 
-// What is just not refused, with the PMMU off, where nothing changes: 0 each.
-pub fn largest_taken() {
-    let t = off(largest(setting::fit()));
-    io::write_all(1, b"largest");
-    setting::show(load(t));
-    setting::show(translate(t));
-    setting::show(test(t, 0));
-    setting::show(probe(t));
-    io::write_all(1, b"\n");
-}
-
-// Writes a line of translations in the same manner. Number 6 is not theirs: family 40 is none.
-fn translate_line(t: Trial) {
-    // Alone: 1 5 2 2 3 4 4.
+// Translations that meet one number alone: 1 5 2 2 3 4 4. Number 6 is not theirs.
+fn translations_alone(t: Trial) {
     setting::show(translate(one(t)));
     setting::show(translate(five(t)));
     setting::show(translate(two(t)));
@@ -394,13 +390,22 @@ fn translate_line(t: Trial) {
     setting::show(translate(three(t)));
     setting::show(translate(four(t)));
     setting::show(translate(four_shift(t)));
-    io::write_all(1, b" |");
-    // Of two: 1 5 2 3. And on family 40 number 4 applies too: 4.
+}
+
+// Translations that meet two neighbours: 1 5 2 3. And on family 40 number 4 applies too: 4.
+fn translations_of_two(t: Trial) {
     setting::show(translate(one(five(t))));
     setting::show(translate(five(two(t))));
     setting::show(translate(two(three(t))));
     setting::show(translate(three(four(t))));
     setting::show(translate(six(four(t))));
+}
+
+// Writes a line of translations, from what none refuses.
+fn translate_line(t: Trial) {
+    translations_alone(t);
+    io::write_all(1, b" |");
+    translations_of_two(t);
     io::write_all(1, b"\n");
 }
 
@@ -413,11 +418,8 @@ pub fn translations() {
     translate_line(off(t));
 }
 
-// Tests, at level 7 and with the PMMU off at level 0. They take no cache, so number 4 is not theirs: 0.
-pub fn tests() {
-    let t = setting::fit();
-    io::write_all(1, b"test");
-    // Alone: 1 6 5 5 2 2 3, the second 5 by its level.
+// Tests that meet one number alone: 1 6 5 5 2 2 3, the second 5 by its level.
+fn tests_alone(t: Trial) {
     setting::show(test(one(t), 0));
     setting::show(test(six(t), 0));
     setting::show(test(five(t), 0));
@@ -425,8 +427,10 @@ pub fn tests() {
     setting::show(test(two(t), 0));
     setting::show(test(two_high(t), 0));
     setting::show(test(three(t), 0));
-    io::write_all(1, b" |");
-    // Of two: 1 6 5 2. A bad cache is nothing to it: 0. The last two with the PMMU off: 6 5.
+}
+
+// Tests that meet two neighbours: 1 6 5 2. They take no cache, so a bad one is nothing to them: 0. With the PMMU off: 6 5.
+fn tests_of_two(t: Trial) {
     setting::show(test(one(five(t)), 7));
     setting::show(test(six(five(t)), 7));
     setting::show(test(five(two(t)), 7));
@@ -434,6 +438,15 @@ pub fn tests() {
     setting::show(test(four(t), 0));
     setting::show(test(six(off(t)), 7));
     setting::show(test(off(t), 8));
+}
+
+// Writes a line of tests.
+pub fn tests() {
+    let t = setting::fit();
+    io::write_all(1, b"test");
+    tests_alone(t);
+    io::write_all(1, b" |");
+    tests_of_two(t);
     io::write_all(1, b"\n");
 }
 
@@ -452,35 +465,66 @@ pub fn probes() {
     io::write_all(1, b"\n");
 }
 
-// Flushes: 4 for each that takes the 68030 cache, 5 for each that takes a code, a mask or a frame.
-pub fn flushes() {
-    let t = setting::fit();
-    io::write_all(1, b"flush");
-    // All: 4 4.
+// Flushes of all: 4 4.
+fn flushes_all(t: Trial) {
     setting::show(flush_all(four(t)));
     setting::show(flush_all(four_shift(t)));
-    io::write_all(1, b" |");
-    // By code: 5 5 4, of two 5. At code 7 and mask 7 none, and no entry of code 1 goes: 0.
+}
+
+// Flushes by code: 5 5 4, of two 5. Code and mask 7 are taken, and no entry of code 1 goes: 0.
+fn flushes_code(t: Trial) {
     setting::show(flush_code(five(t), 7));
     setting::show(flush_code(t, 8));
     setting::show(flush_code(four(t), 7));
     setting::show(flush_code(five(four(t)), 7));
     setting::show(flush_code(largest(t), 7));
-    io::write_all(1, b" |");
-    // By page: 5 5 4, of two 5.
+}
+
+// Flushes by page: 5 5 4, of two 5.
+fn flushes_page(t: Trial) {
     setting::show(flush_page(five(t), 7));
     setting::show(flush_page(t, 8));
     setting::show(flush_page(four(t), 7));
     setting::show(flush_page(five(four(t)), 7));
-    io::write_all(1, b" |");
-    // Of frame 2^20: 5. Of frame FFFFF none, and no slot of frame 0 goes: 0.
+}
+
+// Flushes of frame 2^20: 5. Frame FFFFF is taken, and no slot of frame 0 goes: 0.
+fn flushes_frame() {
     setting::show(flush_frame(0x10_0000));
     setting::show(flush_frame(0xF_FFFF));
-    io::write_all(1, b" |");
-    // None is refused, and each drops: 0! four times.
+}
+
+// Flushes that none refuses, and each drops what the caches have: 0! four times.
+fn flushes_that_drop(t: Trial) {
     setting::show(flush_all(t));
     setting::show(flush_code(t, 7));
     setting::show(flush_page(t, 7));
     setting::show(flush_frame(0));
+}
+
+// Writes a line of flushes.
+pub fn flushes() {
+    let t = setting::fit();
+    io::write_all(1, b"flush");
+    flushes_all(t);
+    io::write_all(1, b" |");
+    flushes_code(t);
+    io::write_all(1, b" |");
+    flushes_page(t);
+    io::write_all(1, b" |");
+    flushes_frame();
+    io::write_all(1, b" |");
+    flushes_that_drop(t);
+    io::write_all(1, b"\n");
+}
+
+// What is just not refused, with the PMMU off, where nothing changes: 0 each.
+pub fn largest_taken() {
+    let t = off(largest(setting::fit()));
+    io::write_all(1, b"largest");
+    setting::show(load(t));
+    setting::show(translate(t));
+    setting::show(test(t, 0));
+    setting::show(probe(t));
     io::write_all(1, b"\n");
 }
