@@ -3,7 +3,7 @@
 ghost use mathlib.Core.Path.{_≡_};
 ghost use Prim.Native.Nat.{_+_, _≤_};
 ghost use lib.ListN.{length, take, drop};
-ghost use Rattle.vectors.specs.Rows.{digitOf, closedBy, numberAt, Ahead, rowAt, shown, Within};
+ghost use Rattle.vectors.specs.Rows.{digitOf, closedBy, numberAt, Ahead, rowAt, shown, Within, Room};
 
 // ---- A text.
 
@@ -116,7 +116,7 @@ pub struct Window {
 }
 
 // The next row of a file, with what is left of the buffer. End: there is none.
-pub enum Next {
+enum Next {
     Row { count: usize, rest: Window },
     End,
     Malformed,
@@ -149,7 +149,9 @@ fn refill(fd: i32, buf: &mut [u8], from: usize, n: usize) -> Window
 }
 
 // The row at the window's start. End: the window ends before the row does.
-fn row_in(buf: &[u8], w: Window, numbers: &mut [u32]) -> Next {
+fn row_in(buf: &[u8], w: Window, numbers: &mut [u32]) -> Next
+    ensures { λ r. ⌜ Room r (length (now (numbers .entry))) ⌝ }
+{
     let to = w.to;
     if buf.len() < to {
         return Next::Malformed;
@@ -165,7 +167,9 @@ fn row_in(buf: &[u8], w: Window, numbers: &mut [u32]) -> Next {
 }
 
 // The next row: where the window ends before the row does, the buffer is filled again, once. A line that is not ended is malformed.
-pub fn next_row(fd: i32, buf: &mut [u8; 65536], w: Window, numbers: &mut [u32; 128]) -> Next {
+fn next_row(fd: i32, buf: &mut [u8; 65536], w: Window, numbers: &mut [u32; 128]) -> Next
+    ensures { λ r. ⌜ Room r 128 ⌝ }
+{
     let from = w.from;
     let to = w.to;
     if to < from {
@@ -189,10 +193,14 @@ pub fn next_row(fd: i32, buf: &mut [u8; 65536], w: Window, numbers: &mut [u32; 1
     Next::Malformed
 }
 
-// ---- The verdict.
+// ---- A comparison, row by row.
 
-// How many rows were compared, and how many of them differ.
-pub struct Tally {
+// How far it is: whether there is a row to judge, and of how many numbers; what is left of the buffer; how many rows were
+// judged, and how many of them differ.
+pub struct Progress {
+    pub on: bool,
+    pub count: usize,
+    pub rest: Window,
     pub rows: u64,
     pub differ: u64,
 }
@@ -212,26 +220,56 @@ fn say_differs(row: u64) {
     io::write_all(1, b" differs\n");
 }
 
-impl Tally {
-    pub fn new() -> Self {
-        Tally { rows: 0, differ: 0 }
+impl Progress {
+    pub fn start() -> Self {
+        Progress {
+            on: true,
+            count: 0,
+            rest: Window { from: 0, to: 0 },
+            rows: 0,
+            differ: 0,
+        }
     }
 
-    // One more row. The first five that differ are told.
+    // The row is judged. The first five that differ are told.
     pub fn judged(self, same: bool) -> Self {
-        let rows = one_more(self.rows);
+        let mut p = self;
+        p.rows = one_more(self.rows);
         if same {
-            return Tally {
-                rows,
-                differ: self.differ,
-            };
+            return p;
         }
         if self.differ < 5 {
-            say_differs(rows);
+            say_differs(p.rows);
         }
-        Tally {
-            rows,
-            differ: one_more(self.differ),
+        p.differ = one_more(self.differ);
+        p
+    }
+
+    // There is no row to judge any more.
+    fn over(self) -> Self
+        ensures { λ r. ⌜ r .count ≡ 0 ⌝ }
+    {
+        let mut p = self;
+        p.on = false;
+        p.count = 0;
+        p
+    }
+
+    // Reads the next row. A malformed one differs, and is the last.
+    pub fn advance(self, fd: i32, buf: &mut [u8; 65536], numbers: &mut [u32; 128]) -> Self
+        ensures { λ r. ⌜ r .count ≤ 128 ⌝ }
+    {
+        let w = self.rest;
+        match next_row(fd, buf, w, numbers) {
+            Next::Row { count, rest } => Progress {
+                on: true,
+                count,
+                rest,
+                rows: self.rows,
+                differ: self.differ,
+            },
+            Next::End => self.over(),
+            Next::Malformed => self.judged(false).over(),
         }
     }
 
