@@ -14,7 +14,6 @@ use lib.Seq.{drop-cons, take-suc, take-suc-set, drop-set-lt, drop-drop, getD-dro
 use Rattle.vectors.specs.Rows.{digitOf, closedBy, numberFrom, numberAt, Ahead, Found, whole, ended, malformed, after, onNumber, rowAt, Within}
 use Rattle.vectors.specs.declared.Number.{Number}
 use Rattle.vectors.specs.declared.Number.the-variants as number
-use Rattle.vectors.specs.declared.Row.{Row}
 use Rattle.vectors.specs.declared.Row.the-variants as row
 use Rattle.vectors.specs.declared.Cursor.{Cursor}
 
@@ -213,8 +212,3 @@ one-moved {first} {l} {from} {i} m h =
       rest = rw (drop-set-lt (i + 1) l i (getD l (from + i) 0) (omega arith), ← drop-drop 1 i l, ← drop-drop 1 i first, m .rest);
       kept = rw length-set (m .kept);
     }
-
--- a whole row has no more numbers than there is room for
-pub fits : (size at : ℕ) {r : Row} {count room : ℕ} {next : Cursor} → r ≡ row.Whole count next → Within r room size at → count ≤ room
-unfolding Within
-fits size at e w = (rw e at w) .1

@@ -8,8 +8,6 @@ use Rattle.vectors.specs.declared.Number.{Number}
 use Rattle.vectors.specs.declared.Number.the-variants as number
 use Rattle.vectors.specs.declared.Row.{Row}
 use Rattle.vectors.specs.declared.Row.the-variants as row
-use Rattle.vectors.specs.declared.Next.{Next}
-use Rattle.vectors.specs.declared.Next.the-variants as next
 
 -- ---- a number
 -- the digit that a byte is, and 10 where it is none
@@ -70,9 +68,3 @@ unfoldable pub Within : Row → ℕ → ℕ → ℕ → Type 0
 Within (row.Whole count next) room size at = (0 < count) × (count ≤ room) × (at < next .at) × (next .at ≤ size)
 Within row.End room size at = Unit
 Within row.Malformed room size at = Unit
-
--- a row has no more numbers than there is room for
-abbrev pub Room : Next → ℕ → Type 0
-Room (next.Row count rest) room = count ≤ room
-Room next.End room = Unit
-Room next.Malformed room = Unit

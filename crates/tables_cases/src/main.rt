@@ -1,0 +1,173 @@
+// Walks tables that the original's walks were tried on, by the proved walks, and says how many of them differ.
+// The rows on standard input are those of `differential walks 1 500` (differential/README.md): registers, access and base, the
+// longs that are not 0, the bus-error ranges, what the original's translation from empty caches answers, and for family 30 what
+// its PTEST answers at the levels 1 to 7.
+mod answers;
+mod rows;
+
+use definition::Translation;
+use rows::Case;
+use rows::Parts;
+use tables::Walked;
+use tables::Walks;
+use tables::Way;
+use vectors::Progress;
+ghost use Prim.Native.Nat.{_+_, _*_, _≤_};
+
+// The walk of a translation: every level of the 68030's, or the 68040's.
+fn way_of(family: u32, code: u32) -> Way {
+    if family == 30 {
+        return Way::By030 { code, limit: 5 };
+    }
+    Way::By040 {
+        supervisor: answers::is_supervisor(code),
+    }
+}
+
+fn walked(longs: &[u32], c: Case, way: Way) -> Walks {
+    let list = c.list;
+    let g = c.registers;
+    tables::walk_kept(longs, c.base, list, c.ranges, g, c.address, way)
+}
+
+// Whether the five numbers at `at` are this answer: fault address kind cause count.
+fn has_translation(row: &[u32; 128], at: usize, t: Translation, count: u32) -> bool
+    requires { ⌜ at + 5 ≤ 128 ⌝ }
+{
+    match t {
+        Translation::Address(address) => {
+            (row[at] == 0)
+                & (row[at + 1] == address)
+                & (row[at + 2] == 0)
+                & (row[at + 3] == 0)
+                & (row[at + 4] == count)
+        }
+        Translation::Fault {
+            kind,
+            cause,
+            address,
+        } => {
+            (row[at] == 1)
+                & (row[at + 1] == address)
+                & (row[at + 2] == definition::kind_number(kind))
+                & (row[at + 3] == definition::cause_number(cause))
+                & (row[at + 4] == count)
+        }
+        Translation::Refused(_) => false,
+    }
+}
+
+// Whether the translation answers as the row says.
+fn same_translation(row: &[u32; 128], at: usize, longs: &[u32], c: Case) -> bool
+    requires { ⌜ at + 5 ≤ 128 ⌝ }
+{
+    let way = way_of(row[0], c.code);
+    match walked(longs, c, way) {
+        Walks::Idle => false,
+        Walks::By030(w) => {
+            let t = answers::translated_030(w, c.code, c.write, c.address);
+            has_translation(row, at, t, w.asked)
+        }
+        Walks::By040(w) => {
+            let t = answers::translated_040(w, row[1], c.code, c.write, c.address);
+            has_translation(row, at, t, w.asked)
+        }
+    }
+}
+
+// Whether the three numbers at `at` are this test: MMUSR address count.
+fn has_test(row: &[u32; 128], at: usize, w: Walked, code: u32) -> bool
+    requires { ⌜ at + 3 ≤ 128 ⌝ }
+{
+    (row[at] == answers::mmusr(w, code)) & (row[at + 1] == w.last) & (row[at + 2] == w.asked)
+}
+
+// Whether PTEST at one level answers as the row says.
+fn same_test(row: &[u32; 128], at: usize, longs: &[u32], c: Case, level: u32) -> bool
+    requires { ⌜ at + 3 ≤ 128 ⌝ }
+{
+    let way = Way::By030 {
+        code: c.code,
+        limit: level,
+    };
+    match walked(longs, c, way) {
+        Walks::Idle => false,
+        Walks::By030(w) => has_test(row, at, w, c.code),
+        Walks::By040(_) => false,
+    }
+}
+
+// Whether PTEST at each level answers so.
+fn same_tests(row: &[u32; 128], at: usize, longs: &[u32], c: Case) -> bool
+    requires { ⌜ at + 21 ≤ 128 ⌝ }
+{
+    for k in 0..7 {
+        if !same_test(row, at + 3 * k, longs, c, k as u32 + 1) {
+            return false;
+        }
+    }
+    true
+}
+
+// Whether the walks of a case answer as the row says from `at` on.
+fn same_answers(row: &[u32; 128], at: usize, longs: &[u32], c: Case) -> bool
+    requires { ⌜ at + 26 ≤ 128 ⌝ }
+{
+    if !same_translation(row, at, longs, c) {
+        return false;
+    }
+    if row[0] != 30 {
+        return true;
+    }
+    same_tests(row, at + 5, longs, c)
+}
+
+// Whether a case of so many pairs and ranges answers so.
+fn same_case(row: &[u32; 128], pairs: usize, ranges: usize) -> bool
+    requires { ⌜ (39 + 2 * pairs + 2 * ranges ≤ 128) × (ranges ≤ 16) ⌝ }
+{
+    let mut longs = [0u32; 8192];
+    if !rows::store_pairs(row, pairs, &mut longs) {
+        return false;
+    }
+    if row[10] != 8192 {
+        return false;
+    }
+    let c = rows::case_of(row, pairs, ranges);
+    same_answers(row, 13 + 2 * pairs + 2 * ranges, &longs, c)
+}
+
+// Whether a row's case answers as the row says. A row of another length differs.
+fn is_same(row: &[u32; 128], count: usize) -> bool {
+    match rows::parts_of(row, count) {
+        Parts::Are { pairs, ranges } => same_case(row, pairs, ranges),
+        Parts::Malformed => false,
+    }
+}
+
+// One row more.
+fn one_row(p: Progress, buf: &mut [u8; 65536], row: &mut [u32; 128]) -> Progress {
+    let next = p.advance(libc::STDIN_FILENO, buf, row);
+    if !next.on {
+        return next;
+    }
+    let same = is_same(row, next.count);
+    next.judged(same)
+}
+
+// Every row. The loop counts its turns down, since nothing says that a file ends.
+fn every_row() -> Progress {
+    let mut buf = io::large_buffer();
+    let mut row = [0u32; 128];
+    let mut p = Progress::start();
+    let mut turns = u64::MAX;
+    while turns > 0 && p.on {
+        turns -= 1;
+        p = one_row(p, &mut buf, &mut row);
+    }
+    p
+}
+
+fn main() {
+    every_row().print(b"tables");
+}
