@@ -1,56 +1,40 @@
-//! Times the original's two caches alone: a million lookups, with an insert at each
-//! miss, over 16 and over 4,000 pages. One line each: the median of nine runs in
-//! nanoseconds per access, and a sum over all answers for comparison with other
-//! programs that do the same.
+//! Looks pages up in the original's two caches alone, with an insert at each miss.
+//! Each three arguments, FAMILY PAGES COUNT, are a run of COUNT look-ups over so many
+//! pages, from an empty cache. It is told in a line with a sum over all answers, by
+//! which another program of the same loop can be compared: crates/cache_bench.
 
 // The original's modules `mmu` and `core`, and the stand-in for its CPU: see
 // differential/build.rs.
 include!(concat!(env!("OUT_DIR"), "/original.rs"));
 
 use mmu::{Atc, Atc030};
-use std::hint::black_box;
-use std::time::Instant;
-
-const ACCESSES: u32 = 1_000_000;
-const RUNS: usize = 9;
 
 fn main() {
-    for pages in [16, 4000] {
-        tell("68030", pages, over_030);
-    }
-    for pages in [16, 4000] {
-        tell("68040", pages, over_040);
+    let numbers: Vec<u32> =
+        std::env::args().skip(1).map(|word| word.parse().expect("FAMILY PAGES COUNT ..")).collect();
+    for run in numbers.chunks_exact(3) {
+        let [family, pages, count] = [run[0], run[1], run[2]];
+        let sum = if family == 30 { over_030(pages, count) } else { over_040(pages, count) };
+        println!("680{family} cache, {pages} pages, {count} look-ups: sum {sum}");
     }
 }
 
-fn tell(name: &str, pages: u64, run: fn(u64) -> u64) {
-    let mut times = [0.0; RUNS];
-    let mut sum = 0;
-    for time in &mut times {
-        let started = Instant::now();
-        sum = black_box(run(black_box(pages)));
-        *time = started.elapsed().as_nanos() as f64 / f64::from(ACCESSES);
-    }
-    times.sort_by(f64::total_cmp);
-    println!("{name} cache, {pages} pages: {:.1} ns per access, sum {sum}", times[RUNS / 2]);
-}
-
-/// The sum over a million accesses: a hit adds the base, a miss 5. The pages come
+/// The sum over `count` accesses: a hit adds the base, a miss 5. The pages come
 /// from x = (x * 1103515245 + 12345) mod 2^31 from 12345, as x / 65536 mod pages;
 /// each page's base is its number.
-fn over(pages: u64, mut access: impl FnMut(u32) -> u64) -> u64 {
+fn over(pages: u32, count: u32, mut access: impl FnMut(u32) -> u64) -> u64 {
     let mut sum = 0;
-    let mut x = 12345;
-    for _ in 0..ACCESSES {
-        x = (x * 1_103_515_245 + 12_345) % (1 << 31);
-        sum = (sum + access((x / 65_536 % pages) as u32)) % 1_000_000_007;
+    let mut x: u32 = 12345;
+    for _ in 0..count {
+        x = ((u64::from(x) * 1_103_515_245 + 12_345) % (1 << 31)) as u32;
+        sum = (sum + access(x / 65_536 % pages)) % 1_000_000_007;
     }
     sum
 }
 
-fn over_030(pages: u64) -> u64 {
+fn over_030(pages: u32, count: u32) -> u64 {
     let mut cache = Atc030::default();
-    over(pages, |page| match cache.lookup(1, page, 12, false) {
+    over(pages, count, |page| match cache.lookup(1, page, 12, false) {
         Some(base) => base.into(),
         None => {
             cache.insert(1, page, 12, page, false);
@@ -59,9 +43,9 @@ fn over_030(pages: u64) -> u64 {
     })
 }
 
-fn over_040(pages: u64) -> u64 {
+fn over_040(pages: u32, count: u32) -> u64 {
     let mut cache = Atc::default();
-    over(pages, |page| match cache.lookup(page, false, false) {
+    over(pages, count, |page| match cache.lookup(page, false, false) {
         Some(base) => base.into(),
         None => {
             cache.insert(page, false, page, false, false);

@@ -1,0 +1,152 @@
+// Looks pages up in the proved caches, with an insert at each miss, as bench/cache does in the original's.
+// Each three arguments, FAMILY PAGES COUNT, are a run of COUNT look-ups over so many pages, from an empty cache. It is told in a
+// line with a sum over all answers, by which the two programs are compared.
+use cache::CachePair;
+use cache::atc030;
+use cache::atc040;
+use definition::Hit;
+use vectors::Cursor;
+use vectors::Number;
+ghost use Prim.Native.Nat.{_<_};
+
+// The numbers that the pages come from: x = (x * 1103515245 + 12345) mod 2^31.
+fn next_x(x: u32) -> u32 {
+    ((x as u64 * 1103515245 + 12345) % 2147483648) as u32
+}
+
+// The page of a number.
+fn page_of(x: u32, pages: u32) -> u32
+    requires { ⌜ 0 < pages ⌝ }
+{
+    x / 65536 % pages
+}
+
+// The sum with one more answer.
+fn with_answer(sum: u64, answer: u64) -> u64 {
+    std::num::wrapping_add_u64(sum, answer) % 1000000007
+}
+
+// One look-up in the 68030 cache: a hit's base, or 5 for a miss. Each page's base is its number.
+fn access_030(
+    page: u32,
+    tags: &mut [u64; 22],
+    pages: &mut [u64; 22],
+    stamps: &mut [u64; 22],
+    marks: &mut [u64; 3],
+) -> u64 {
+    match atc030::look(tags, pages, stamps, marks, 1, page, 12, false, true) {
+        Hit::At(base) => base,
+        Hit::Miss => {
+            atc030::insert(tags, pages, stamps, marks, 1, page, 12, page, false);
+            5
+        }
+    }
+}
+
+// A run over the 68030 cache.
+fn over_030(pages: u32, count: u32) -> u64
+    requires { ⌜ 0 < pages ⌝ }
+{
+    let empty = CachePair::empty();
+    let mut tags = empty.tags;
+    let mut bases = empty.pages;
+    let mut stamps = empty.stamps;
+    let mut marks = empty.marks;
+    let mut x = 12345;
+    let mut sum = 0;
+    for _ in 0..count {
+        x = next_x(x);
+        let page = page_of(x, pages);
+        let answer = access_030(page, &mut tags, &mut bases, &mut stamps, &mut marks);
+        sum = with_answer(sum, answer);
+    }
+    sum
+}
+
+// One look-up in the 68040 cache.
+fn access_040(page: u32, keys: &mut [u64; 64], bases: &mut [u64; 64]) -> u64 {
+    match atc040::look_040(keys, bases, page, false, false) {
+        Hit::At(base) => base,
+        Hit::Miss => {
+            atc040::insert_040(keys, bases, page, false, page, false, false);
+            5
+        }
+    }
+}
+
+// A run over the 68040 cache.
+fn over_040(pages: u32, count: u32) -> u64
+    requires { ⌜ 0 < pages ⌝ }
+{
+    let empty = CachePair::empty();
+    let mut keys = empty.keys;
+    let mut bases = empty.bases;
+    let mut x = 12345;
+    let mut sum = 0;
+    for _ in 0..count {
+        x = next_x(x);
+        let page = page_of(x, pages);
+        let answer = access_040(page, &mut keys, &mut bases);
+        sum = with_answer(sum, answer);
+    }
+    sum
+}
+
+// The sum of a run.
+fn sum_of(family: u32, pages: u32, count: u32) -> u64
+    requires { ⌜ 0 < pages ⌝ }
+{
+    if family == 30 {
+        return over_030(pages, count);
+    }
+    over_040(pages, count)
+}
+
+// Argument i as a number, and 0 where it is missing or none.
+fn argument(i: usize) -> u32 {
+    let mut text = [10u8; 16];
+    os::arg(i, &mut text);
+    match vectors::read_number(&text, Cursor { at: 0 }) {
+        Number::Is {
+            value,
+            last: _,
+            next: _,
+        } => value,
+        Number::End => 0,
+        Number::Malformed => 0,
+    }
+}
+
+// A run's line.
+fn tell(family: u32, pages: u32, count: u32, sum: u64) {
+    io::write_all(1, b"680");
+    io::print_decimal(1, family as u64);
+    io::write_all(1, b" cache, ");
+    io::print_decimal(1, pages as u64);
+    io::write_all(1, b" pages, ");
+    io::print_decimal(1, count as u64);
+    io::write_all(1, b" look-ups: sum ");
+    io::print_decimal(1, sum);
+    io::write_all(1, b"\n");
+}
+
+// The run of the three arguments from i on, and whether there are three.
+fn one_run(i: usize) -> bool
+    requires { ⌜ i < 1000 ⌝ }
+{
+    let family = argument(i);
+    let pages = argument(i + 1);
+    let count = argument(i + 2);
+    if pages == 0 {
+        return false;
+    }
+    tell(family, pages, count, sum_of(family, pages, count));
+    true
+}
+
+fn main() {
+    let mut i = 1;
+    while i < 100 && one_run(i) {
+        i += 3;
+    }
+}
