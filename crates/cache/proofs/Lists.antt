@@ -1,5 +1,5 @@
 -- Laws of lists of numbers: what a search, a minimum, a count and a change in place have shown at the end of their loops.
-use Prim.Native.Nat.{ℕ, zero, suc, _+_, _≤_, _<_, zero-le, suc-le-suc}
+use Prim.Native.Nat.{ℕ, zero, suc, _+_, _-_, _≤_, _<_, zero-le, suc-le-suc}
 use mathlib.Core.Path.{_≡_, refl, ap, sym, _∙_}
 use mathlib.Core.Bool.{Bool, true, false, and-false}
 use mathlib.Core.List.{List, [], _∷_, map}
@@ -54,6 +54,30 @@ module _ (p : ℕ → Bool) where
   -- none of n passes
   pub first-none : (l : List ℕ) (n i : ℕ) → length l ≡ n → n ≤ i → ((k : ℕ) → k < i → p (getD l k 0) ≡ false) → n ≡ firstOf p l
   first-none l n i e h f = sym (first-no l (λ k q. f k (le-trans (rw e at q) h)) ∙ e)
+
+  -- a search from the end: what the elements from i - 1 on say, by those from i on
+  pub down-none : (l : List ℕ) (n : ℕ) → length l ≡ n → n ≡ n + firstOf p (drop n l)
+  unfolding firstOf
+  down-none l n e = rw (drop-of-length-le l {i = n} (omega arith)) (omega arith)
+
+  module _ (l : List ℕ) (i : ℕ) (h : 0 < i) (k : i ≤ length l) where
+    down-cons : drop (i - 1) l ≡ getD l (i - 1) 0 ∷ drop i l
+    down-cons =
+        let e : suc (i - 1) ≡ i = omega arith in
+        rw (drop-cons l (i - 1) 0 (omega arith), e)
+
+    pub down-here : p (getD l (i - 1) 0) ≡ true → i - 1 ≡ i - 1 + firstOf p (drop (i - 1) l)
+    unfolding firstOf
+    down-here t = rw (down-cons, t) (omega arith)
+
+    pub down-past : (found : ℕ) → p (getD l (i - 1) 0) ≡ false → found ≡ i + firstOf p (drop i l) → found ≡ i - 1 + firstOf p (drop (i - 1) l)
+    unfolding firstOf
+    down-past found t e = rw (down-cons, t) (omega arith)
+
+  pub down-all : (l : List ℕ) (i found : ℕ) → i ≤ 0 → found ≡ i + firstOf p (drop i l) → found ≡ firstOf p l
+  down-all l i found h e =
+      let z : i ≡ 0 = omega arith in
+      (rw z at e) ∙ zero-add (firstOf p l)
 
   all-true : (l : List ℕ) → ((k : ℕ) → k < length l → p (getD l k 0) ≡ true) → allOf p l ≡ true
   unfolding allOf

@@ -17,19 +17,20 @@ ghost use Rattle.cache.specs.Atc030.{cacheOf, Sized, Stepped, Looked, ke
 
 // ---- searches
 
-// The lowest index that has this tag, or 22.
+// The lowest index that has this tag, or 22. It is sought from the end, so that no branch depends on where it stands.
 fn first_with(tags: &[u64; 22], key: u64) -> usize
     requires { ⌜ length (now tags) ≡ 22 ⌝ }
     ensures { λ r. ⌜ r ≡ firstOf (eqb key) (now (tags .entry)) ⌝ }
 {
-    let mut i: usize = 0;
-    while i < 22 {
+    let mut found: usize = 22;
+    let mut i: usize = 22;
+    while 0 < i {
+        i -= 1;
         if tags[i] == key {
-            return i;
+            found = i;
         }
-        i += 1;
     }
-    22
+    found
 }
 
 // The first invalid entry, or 22.

@@ -1,24 +1,26 @@
-use Prim.Native.Nat.{ℕ, _≤_, _<_, _-_}
+use Prim.Native.Nat.{_+_, _-_, _≤_}
 use mathlib.Core.Path.{_≡_, sym}
-use mathlib.Core.Bool.{false}
 use native.Mathlib.Omega.{arith}
-use borrow.Author.Count.{below-more, below-none}
 use borrow.Author.Tests.{eq-eqb, ne-eqb}
 use borrow.Author.Needs.{needs}
 use lib.Dec.{eqb}
-use lib.ListN.{getD}
-use Rattle.cache.proofs.Lists.{first-is, first-none}
+use lib.ListN.{drop}
+use Rattle.definition.specs.Words.{firstOf}
+use Rattle.cache.proofs.Lists.{down-none, down-here, down-past, down-all}
 use Rattle.cache.proofs.atc030.first_with.Statement.{statement}
 use Rattle.cache.proofs.atc030.first_with.Tie as tie
 
 abbrev Inv-loop : tie.InvT-loop
-Inv-loop tags key i₀ i = (i ≤ 22) × ((k : ℕ) → k < i → eqb key (getD tags k 0) ≡ false)
+Inv-loop tags key found₀ i₀ found i = (i ≤ 22) × (found ≡ i + firstOf (eqb key) (drop i tags))
 
 abbrev μ-loop : tie.MeasureT-loop
-μ-loop tags key i₀ i = 22 - i
+μ-loop tags key found₀ i₀ found i = i
 
 loop-holds : tie.Need-loop-holds Inv-loop μ-loop
-loop-holds c = (omega arith, below-none _)
+loop-holds c = (omega arith, down-none _ (c .args .tags .now) 22 (c .pre))
+
+sub-i : tie.Need-sub-i Inv-loop μ-loop
+sub-i c = search needs
 
 mul-if1 : tie.Need-mul-if1 Inv-loop μ-loop
 mul-if1 c = search needs
@@ -26,21 +28,20 @@ mul-if1 c = search needs
 element-copy-out-if1 : tie.Need-element-copy-out-if1 Inv-loop μ-loop
 element-copy-out-if1 c = search needs
 
-returns : tie.Need-returns Inv-loop μ-loop
-returns c =
-    first-is _ _ 22 _ (c .before .before .before .before .pre) (search needs) (eq-eqb _ _ (sym (c .if1 .taken))) (c .before .before .before .loop .inv .1)
-
-add-i : tie.Need-add-i Inv-loop μ-loop
-add-i c = search needs
-
 loop-less : tie.Need-loop-less Inv-loop μ-loop
 loop-less c = search needs
 
 loop-again : tie.Need-loop-again Inv-loop μ-loop
-loop-again c = (omega arith, below-more _ _ (c .before .before .before .loop .inv .1) (ne-eqb _ _ (λ e. c .if1 .left (sym e))))
+loop-again c = (omega arith, down-here _ (c .before .before .before .before .args .tags .now) (c .before .before .before .loop .i) (c .before .before .loop-test .taken) (omega (arith, c .before .before .before .before .pre)) (eq-eqb _ _ (sym (c .if1 .taken))))
 
-returns-2 : tie.Need-returns-2 Inv-loop μ-loop
-returns-2 c = first-none _ _ 22 _ (c .before .before .pre) (search needs) (c .before .loop .inv .1)
+loop-less-2 : tie.Need-loop-less-2 Inv-loop μ-loop
+loop-less-2 c = search needs
+
+loop-again-2 : tie.Need-loop-again-2 Inv-loop μ-loop
+loop-again-2 c = (omega arith, down-past _ (c .before .before .before .before .args .tags .now) (c .before .before .before .loop .i) (c .before .before .loop-test .taken) (omega (arith, c .before .before .before .before .pre)) _ (ne-eqb _ _ (λ e. c .if1 .left (sym e))) (c .before .before .before .loop .inv .1))
+
+returns : tie.Need-returns Inv-loop μ-loop
+returns c = down-all _ _ _ _ (c .loop-test .left) (c .before .loop .inv .1)
 
 pub first-with-spec : {M : Type 1} → statement M
 first-with-spec =
@@ -49,10 +50,11 @@ first-with-spec =
     Inv-loop
     μ-loop
     loop-holds
+    sub-i
     mul-if1
     element-copy-out-if1
-    returns
-    add-i
     loop-less
     loop-again
-    returns-2)
+    loop-less-2
+    loop-again-2
+    returns)
