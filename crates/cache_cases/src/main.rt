@@ -98,6 +98,7 @@ fn on_040(row: &[u32; 128], keys: &mut [u64; 64], bases: &mut [u64; 64]) -> Hit 
     }
 }
 
+// A number of the row as the caches have it.
 fn wide(x: u32) -> u64 {
     x as u64
 }

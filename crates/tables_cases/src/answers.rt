@@ -17,6 +17,7 @@ fn violation(cause: FaultCause, address: u32) -> Translation {
     }
 }
 
+// A long that a walk asked for failed.
 fn bus_error(at: u32) -> Translation {
     Translation::Fault {
         kind: FaultKind::BusError,
@@ -25,6 +26,7 @@ fn bus_error(at: u32) -> Translation {
     }
 }
 
+// There is nothing to walk.
 fn configuration(address: u32) -> Translation {
     Translation::Fault {
         kind: FaultKind::ConfigurationError,

@@ -24,6 +24,7 @@ fn way_of(family: u32, code: u32) -> Way {
     }
 }
 
+// The walk of a case.
 fn walked(longs: &[u32], c: Case, way: Way) -> Walks {
     let list = c.list;
     let g = c.registers;

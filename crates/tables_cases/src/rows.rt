@@ -130,6 +130,7 @@ fn registers_of(row: &[u32; 128]) -> Registers {
     }
 }
 
+// The case of a row.
 pub fn case_of(row: &[u32; 128], pairs: usize, ranges: usize) -> Case
     requires { ⌜ (13 + 2 * pairs + 2 * ranges ≤ 128) × (ranges ≤ 16) ⌝ }
 {

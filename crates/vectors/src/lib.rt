@@ -217,6 +217,7 @@ fn say_differs(row: u64) {
 }
 
 impl Progress {
+    // Before the first row.
     pub fn start() -> Self {
         Progress {
             on: true,
