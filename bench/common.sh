@@ -1,3 +1,4 @@
+# shellcheck shell=bash
 # For bench/run and bench/cache_run: finds the original's sources, builds the Rust side, and what both print with.
 export LC_ALL=C
 

@@ -5,6 +5,7 @@ use cache::CachePair;
 use cache::atc030;
 use cache::atc040;
 use definition::Hit;
+use libc::STDOUT_FILENO;
 use vectors::Cursor;
 use vectors::Number;
 ghost use Prim.Native.Nat.{_<_};
@@ -119,15 +120,15 @@ fn argument(i: usize) -> u32 {
 
 // A run's line.
 fn tell(family: u32, pages: u32, count: u32, sum: u64) {
-    io::write_all(1, b"680");
-    io::print_decimal(1, family as u64);
-    io::write_all(1, b" cache, ");
-    io::print_decimal(1, pages as u64);
-    io::write_all(1, b" pages, ");
-    io::print_decimal(1, count as u64);
-    io::write_all(1, b" look-ups: sum ");
-    io::print_decimal(1, sum);
-    io::write_all(1, b"\n");
+    io::write_all(STDOUT_FILENO, b"680");
+    io::print_decimal(STDOUT_FILENO, family as u64);
+    io::write_all(STDOUT_FILENO, b" cache, ");
+    io::print_decimal(STDOUT_FILENO, pages as u64);
+    io::write_all(STDOUT_FILENO, b" pages, ");
+    io::print_decimal(STDOUT_FILENO, count as u64);
+    io::write_all(STDOUT_FILENO, b" look-ups: sum ");
+    io::print_decimal(STDOUT_FILENO, sum);
+    io::write_all(STDOUT_FILENO, b"\n");
 }
 
 // The run of the three arguments from i on, and whether there are three.

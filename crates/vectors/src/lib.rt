@@ -1,5 +1,6 @@
 // Rows of decimal numbers out of a file, over a buffer that does not grow with the file, and a tally of rows that differ.
 // A row is numbers below 2^32, one space between two, and a line's end after the last.
+use libc::STDOUT_FILENO;
 ghost use mathlib.Core.Path.{_≡_};
 ghost use Prim.Native.Nat.{_+_, _≤_};
 ghost use lib.ListN.{length, take, drop};
@@ -211,9 +212,9 @@ fn one_more(n: u64) -> u64 {
 
 // Says of a row, by its number from 1, that it differs.
 fn say_differs(row: u64) {
-    io::write_all(1, b"row ");
-    io::print_decimal(1, row);
-    io::write_all(1, b" differs\n");
+    io::write_all(STDOUT_FILENO, b"row ");
+    io::print_decimal(STDOUT_FILENO, row);
+    io::write_all(STDOUT_FILENO, b" differs\n");
 }
 
 impl Progress {
@@ -267,11 +268,11 @@ impl Progress {
 
     // Writes the verdict, as `5000 operations, 0 differ`.
     pub fn print(self, what: &[u8]) {
-        io::print_decimal(1, self.rows);
-        io::write_all(1, b" ");
-        io::write_all(1, what);
-        io::write_all(1, b", ");
-        io::print_decimal(1, self.differ);
-        io::write_all(1, b" differ\n");
+        io::print_decimal(STDOUT_FILENO, self.rows);
+        io::write_all(STDOUT_FILENO, b" ");
+        io::write_all(STDOUT_FILENO, what);
+        io::write_all(STDOUT_FILENO, b", ");
+        io::print_decimal(STDOUT_FILENO, self.differ);
+        io::write_all(STDOUT_FILENO, b" differ\n");
     }
 }
