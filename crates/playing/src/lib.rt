@@ -1,0 +1,389 @@
+// The driver of the players: standard input through a buffer, the replay's lines through another, and with `states` also both
+// caches after each record. What it plays is the replay's, which is proved; this is input and output.
+mod states;
+
+ghost use Prim.Native.Nat.{_≤_};
+
+use definition::Range;
+use definition::Registers;
+use definition::Root;
+use libc::STDERR_FILENO;
+use libc::STDIN_FILENO;
+use libc::STDOUT_FILENO;
+use replay::Kept;
+use replay::run::Why;
+
+// Where the driver stands: what the replay keeps, how many bytes of the buffer wait, and whether it goes on.
+struct Waiting {
+    kept: Kept,
+    have: usize,
+    on: bool,
+}
+
+// Registers start as family 30, all else 0; no range.
+fn first() -> Kept {
+    let none = Root {
+        limit: 0,
+        address: 0,
+    };
+    let nowhere = Range { first: 0, last: 0 };
+    let registers = Registers {
+        family: 30,
+        present: false,
+        enabled: false,
+        tc: 0,
+        crp: none,
+        srp: none,
+        tt0: 0,
+        tt1: 0,
+        itt0: 0,
+        itt1: 0,
+        dtt0: 0,
+        dtt1: 0,
+    };
+    Kept {
+        registers,
+        list: [nowhere; 16],
+        n: 0,
+    }
+}
+
+// Writes all of it, or says on standard error that it could not.
+fn written(bytes: &[u8]) -> bool {
+    let done = io::write_all(STDOUT_FILENO, bytes);
+    if !done {
+        io::write_all(STDERR_FILENO, b"player: a write failed\n");
+    }
+    done
+}
+
+// Writes the first `n` bytes.
+fn shown(out: &[u8], n: usize) -> bool {
+    if n <= out.len() {
+        return written(&out[..n]);
+    }
+    false
+}
+
+// Refusal 7: the last line.
+fn malformed() {
+    written(b"R 7\n");
+}
+
+// At the end of the input: `end`, or refusal 7 where a part of a record is left.
+fn finish(have: usize) {
+    if have == 0 {
+        written(b"end\n");
+        return;
+    }
+    malformed();
+}
+
+// The bytes from `from` to `have` move to the front of the buffer: how many they are.
+fn shifted(buffer: &mut [u8], from: usize, have: usize) -> usize {
+    if buffer.len() < have || have < from {
+        return 0;
+    }
+    let left = have - from;
+    let mut i = 0;
+    while i < left {
+        buffer[i] = buffer[from + i];
+        i += 1;
+    }
+    left
+}
+
+// Where a run over the waiting bytes leaves off: there is more to run, more input is wanted, or it is over.
+enum Next {
+    More,
+    Input,
+    Over,
+}
+
+// What a run leaves: what is kept, how many bytes it read, and what is next.
+struct Played {
+    kept: Kept,
+    read: usize,
+    next: Next,
+}
+
+// Which comes after a run. A malformed record ends it.
+fn after(why: Why) -> Next {
+    match why {
+        Why::Input => Next::Input,
+        Why::Room => Next::More,
+        Why::Malformed => {
+            malformed();
+            Next::Over
+        }
+    }
+}
+
+// With `states`, both caches after a record that printed its line.
+fn caches_shown(
+    line: &mut [u8],
+    tags: &[u64; 22],
+    pages: &[u64; 22],
+    stamps: &[u64; 22],
+    marks: &[u64; 3],
+    keys: &[u64; 64],
+    bases: &[u64; 64],
+    states: bool,
+    wrote: usize,
+) -> bool {
+    if states && 0 < wrote {
+        let n = states::state_line(line, tags, pages, stamps, marks, keys, bases);
+        return shown(line, n);
+    }
+    true
+}
+
+// One run over waiting bytes, with its lines written. With `states` it plays one record, since `out` has room for one line, and
+// writes both caches after it.
+fn some(
+    tags: &mut [u64; 22],
+    pages: &mut [u64; 22],
+    stamps: &mut [u64; 22],
+    marks: &mut [u64; 3],
+    keys: &mut [u64; 64],
+    bases: &mut [u64; 64],
+    longs: &mut [u32],
+    kept: Kept,
+    input: &[u8],
+    out: &mut [u8],
+    line: &mut [u8],
+    states: bool,
+) -> Played {
+    let ran = replay::run::run(
+        tags, pages, stamps, marks, keys, bases, longs, kept, false, input, out,
+    );
+    let now = ran.kept;
+    let wrote = ran.wrote;
+    let why = ran.why;
+    let over = Played {
+        kept: now,
+        read: 0,
+        next: Next::Over,
+    };
+    if !shown(out, wrote) {
+        return over;
+    }
+    if !caches_shown(line, tags, pages, stamps, marks, keys, bases, states, wrote) {
+        return over;
+    }
+    Played {
+        kept: now,
+        read: ran.read,
+        next: after(why),
+    }
+}
+
+// It is over.
+fn over(kept: Kept) -> Waiting {
+    Waiting {
+        kept,
+        have: 0,
+        on: false,
+    }
+}
+
+// The bytes from `at` on wait at the front of the buffer for more input.
+fn resting(buffer: &mut [u8], kept: Kept, at: usize, have: usize) -> Waiting {
+    let left = shifted(buffer, at, have);
+    Waiting {
+        kept,
+        have: left,
+        on: true,
+    }
+}
+
+// Plays the waiting bytes as far as whole records stand there.
+fn drained(
+    tags: &mut [u64; 22],
+    pages: &mut [u64; 22],
+    stamps: &mut [u64; 22],
+    marks: &mut [u64; 3],
+    keys: &mut [u64; 64],
+    bases: &mut [u64; 64],
+    longs: &mut [u32],
+    kept: Kept,
+    buffer: &mut [u8],
+    have: usize,
+    out: &mut [u8],
+    line: &mut [u8],
+    states: bool,
+) -> Waiting {
+    let mut now = kept;
+    let mut at = 0;
+    let mut turns = u64::MAX;
+    while turns > 0 && at <= have && have <= buffer.len() {
+        let s = some(
+            tags, pages, stamps, marks, keys, bases, longs, now, &buffer[at..have], out, line, states,
+        );
+        now = s.kept;
+        let read = s.read;
+        let next = s.next;
+        if have - at < read {
+            return over(now);
+        }
+        at += read;
+        match next {
+            Next::More => {}
+            Next::Input => {
+                return resting(buffer, now, at, have);
+            }
+            Next::Over => {
+                return over(now);
+            }
+        }
+        turns -= 1;
+    }
+    over(now)
+}
+
+// What a read gave: bytes, the end of the input, or nothing because it failed.
+enum Got {
+    Bytes(usize),
+    Ended,
+    Failed,
+}
+
+// Reads once, into the buffer from `have` on.
+fn fill(buffer: &mut [u8], have: usize) -> Got {
+    if buffer.len() < have {
+        return Got::Failed;
+    }
+    let got = libc::read(STDIN_FILENO, &mut buffer[have..]);
+    if got < 0 {
+        return Got::Failed;
+    }
+    if got == 0 {
+        return Got::Ended;
+    }
+    Got::Bytes(io::count(got, &buffer[have..]))
+}
+
+// Says on standard error that a read failed.
+fn unread() {
+    io::write_all(STDERR_FILENO, b"player: a read failed\n");
+}
+
+// Reads once and plays what came. At the end of the input, or where a read fails, it is over.
+fn turn(
+    tags: &mut [u64; 22],
+    pages: &mut [u64; 22],
+    stamps: &mut [u64; 22],
+    marks: &mut [u64; 3],
+    keys: &mut [u64; 64],
+    bases: &mut [u64; 64],
+    longs: &mut [u32],
+    w: Waiting,
+    buffer: &mut [u8],
+    out: &mut [u8],
+    line: &mut [u8],
+    states: bool,
+) -> Waiting {
+    let kept = w.kept;
+    let have = w.have;
+    match fill(buffer, have) {
+        Got::Failed => {
+            unread();
+            over(kept)
+        }
+        Got::Ended => {
+            finish(have);
+            over(kept)
+        }
+        Got::Bytes(n) => drained(
+            tags,
+            pages,
+            stamps,
+            marks,
+            keys,
+            bases,
+            longs,
+            kept,
+            buffer,
+            sum(have, n),
+            out,
+            line,
+            states,
+        ),
+    }
+}
+
+// How many bytes wait now: a buffer's length bounds both.
+fn sum(have: usize, n: usize) -> usize {
+    if have < 1048576 {
+        if n < 1048576 {
+            return have + n;
+        }
+    }
+    0
+}
+
+// The version byte: `v1` follows a good one, and refusal 7 anything else.
+fn begins() -> bool {
+    let mut version = [0u8; 1];
+    let got = libc::read(STDIN_FILENO, &mut version);
+    if got < 0 {
+        unread();
+        return false;
+    }
+    if got == 1 && version[0] == 1 {
+        return written(b"v1\n");
+    }
+    malformed();
+    false
+}
+
+// How many bytes a run may write: with `states` one line.
+fn room_for(states: bool) -> usize
+    ensures { λ r. ⌜ r ≤ 65536 ⌝ }
+{
+    if states {
+        return 45;
+    }
+    65536
+}
+
+// Plays the trace on standard input.
+pub fn play(states: bool) {
+    if !begins() {
+        return;
+    }
+    let mut tags = [0u64; 22];
+    let mut pages = [0u64; 22];
+    let mut stamps = [0u64; 22];
+    let mut marks = [0u64; 3];
+    let mut keys = [0u64; 64];
+    let mut bases = [0u64; 64];
+    let mut longs = [0u32; 8192];
+    let mut buffer = [0u8; 131072];
+    let mut out = [0u8; 65536];
+    let mut line = [0u8; 16384];
+    let room = room_for(states);
+    let mut w = Waiting {
+        kept: first(),
+        have: 0,
+        on: true,
+    };
+    let mut turns = u64::MAX;
+    while turns > 0 && w.on {
+        w = turn(
+            &mut tags,
+            &mut pages,
+            &mut stamps,
+            &mut marks,
+            &mut keys,
+            &mut bases,
+            &mut longs,
+            w,
+            &mut buffer,
+            &mut out[..room],
+            &mut line,
+            states,
+        );
+        turns -= 1;
+    }
+}

@@ -1,0 +1,145 @@
+// The state line: S m=MRU c=CLOCK s=SHIFT eI=V,FC,PAGE,PHYS,WP,STAMP .. dI=V,TAG,PHYS,WP,SUP .., entries of zeros left out.
+
+// One byte, where there is room.
+fn put(out: &mut [u8], at: usize, b: u8) -> usize {
+    if at < out.len() {
+        out[at] = b;
+        return at + 1;
+    }
+    at
+}
+
+// A digit's byte: 0 to 9, A to F.
+fn digit(n: u64) -> u8 {
+    let d = (n % 16) as u8;
+    if d < 10 {
+        return 48 + d;
+    }
+    55 + d
+}
+
+// Eight hex digits.
+fn put_hex(out: &mut [u8], at: usize, x: u64) -> usize {
+    let mut to = at;
+    let mut k: u32 = 0;
+    while k < 8 {
+        to = put(out, to, digit(x >> (28 - 4 * k)));
+        k += 1;
+    }
+    to
+}
+
+// The bytes of a text.
+fn put_text(out: &mut [u8], at: usize, bytes: &[u8]) -> usize {
+    let mut to = at;
+    let mut i = 0;
+    while i < bytes.len() {
+        to = put(out, to, bytes[i]);
+        i += 1;
+    }
+    to
+}
+
+// A number in decimal.
+fn put_decimal(out: &mut [u8], at: usize, x: u64) -> usize {
+    let mut digits = [0u8; 20];
+    let n = io::decimal(x, &mut digits);
+    put_text(out, at, &digits[..n])
+}
+
+// A byte, and a number in decimal after it.
+fn put_number(out: &mut [u8], at: usize, before: u8, x: u64) -> usize {
+    let to = put(out, at, before);
+    put_decimal(out, to, x)
+}
+
+// A comma, and a number in eight hex digits.
+fn put_address(out: &mut [u8], at: usize, x: u64) -> usize {
+    let to = put(out, at, b',');
+    put_hex(out, to, x)
+}
+
+// The name of an entry, as ` e7=`.
+fn put_name(out: &mut [u8], at: usize, letter: u8, i: usize) -> usize {
+    let mut to = put(out, at, b' ');
+    to = put_number(out, to, letter, i as u64);
+    put(out, to, b'=')
+}
+
+// One entry of the 68030 cache: eI=V,FC,PAGE,PHYS,WP,STAMP.
+fn put_entry(out: &mut [u8], at: usize, i: usize, tag: u64, page: u64, stamp: u64) -> usize {
+    if tag == 0 && page == 0 && stamp == 0 {
+        return at;
+    }
+    let mut to = put_name(out, at, b'e', i);
+    to = put_decimal(out, to, tag % 2);
+    to = put_number(out, to, b',', tag / 2 % 8);
+    to = put_address(out, to, tag / 16);
+    to = put_address(out, to, page / 2);
+    to = put_number(out, to, b',', page % 2);
+    put_number(out, to, b',', stamp)
+}
+
+// One slot of the 68040 cache: dI=V,TAG,PHYS,WP,SUP.
+fn put_slot(out: &mut [u8], at: usize, i: usize, key: u64, base: u64) -> usize {
+    if key == 0 && base == 0 {
+        return at;
+    }
+    let mut to = put_name(out, at, b'd', i);
+    to = put_decimal(out, to, key % 2);
+    to = put_address(out, to, key / 2);
+    to = put_address(out, to, base / 4);
+    to = put_number(out, to, b',', base / 2 % 2);
+    put_number(out, to, b',', base % 2)
+}
+
+// The 22 entries.
+fn put_entries(out: &mut [u8], at: usize, tags: &[u64], pages: &[u64], stamps: &[u64]) -> usize {
+    let mut to = at;
+    let mut i = 0;
+    while i < tags.len() && i < pages.len() && i < stamps.len() {
+        to = put_entry(out, to, i, tags[i], pages[i], stamps[i]);
+        i += 1;
+    }
+    to
+}
+
+// The 64 slots.
+fn put_slots(out: &mut [u8], at: usize, keys: &[u64], bases: &[u64]) -> usize {
+    let mut to = at;
+    let mut i = 0;
+    while i < keys.len() && i < bases.len() {
+        to = put_slot(out, to, i, keys[i], bases[i]);
+        i += 1;
+    }
+    to
+}
+
+// The most recent index, the clock and the shift.
+fn put_marks(out: &mut [u8], at: usize, marks: &[u64]) -> usize {
+    if marks.len() < 3 {
+        return at;
+    }
+    let mut to = put_text(out, at, b"S m=");
+    to = put_decimal(out, to, marks[0]);
+    to = put_text(out, to, b" c=");
+    to = put_decimal(out, to, marks[1]);
+    to = put_text(out, to, b" s=");
+    put_decimal(out, to, marks[2])
+}
+
+// The whole line, from the start of `out`: how many bytes it has.
+pub fn state_line(
+    out: &mut [u8],
+    tags: &[u64],
+    pages: &[u64],
+    stamps: &[u64],
+    marks: &[u64],
+    keys: &[u64],
+    bases: &[u64],
+) -> usize {
+    let mut to = put_marks(out, 0, marks);
+    to = put_entries(out, to, tags, pages, stamps);
+    to = put_slots(out, to, keys, bases);
+    put(out, to, b'\n')
+}
