@@ -3,7 +3,6 @@
 mod states;
 
 ghost use Prim.Native.Nat.{_≤_};
-
 use definition::Range;
 use definition::Registers;
 use definition::Root;
@@ -155,7 +154,17 @@ fn some(
     states: bool,
 ) -> Played {
     let ran = replay::run::run(
-        tags, pages, stamps, marks, keys, bases, longs, kept, false, input, out,
+        tags,
+        pages,
+        stamps,
+        marks,
+        keys,
+        bases,
+        longs,
+        kept,
+        false,
+        input,
+        out,
     );
     let now = ran.kept;
     let wrote = ran.wrote;
@@ -218,7 +227,18 @@ fn drained(
     let mut turns = u64::MAX;
     while turns > 0 && at <= have && have <= buffer.len() {
         let s = some(
-            tags, pages, stamps, marks, keys, bases, longs, now, &buffer[at..have], out, line, states,
+            tags,
+            pages,
+            stamps,
+            marks,
+            keys,
+            bases,
+            longs,
+            now,
+            &buffer[at..have],
+            out,
+            line,
+            states,
         );
         now = s.kept;
         let read = s.read;
