@@ -1,7 +1,8 @@
-//! Looks pages up in the original's two caches alone, with an insert at each miss.
-//! Each three arguments, FAMILY PAGES COUNT, are a run of COUNT look-ups over so many
-//! pages, from an empty cache. It is told in a line with a sum over all answers, by
-//! which another program of the same loop can be compared: crates/cache_bench.
+//! Looks pages up in the original's two caches alone. Each three arguments, FAMILY
+//! PAGES COUNT, are a run of COUNT look-ups over so many pages. Pages that all fit are
+//! inserted first and then only looked up; others are inserted at each miss. A run is
+//! told in a line with a sum over all answers, by which another program of the same
+//! loops can be compared: crates/cache_bench.
 
 // The original's modules `mmu` and `core`, and the stand-in for its CPU: see
 // differential/build.rs.
@@ -10,11 +11,15 @@ include!(concat!(env!("OUT_DIR"), "/original.rs"));
 use mmu::{Atc, Atc030};
 
 fn main() {
-    let numbers: Vec<u32> =
-        std::env::args().skip(1).map(|word| word.parse().expect("FAMILY PAGES COUNT ..")).collect();
+    let numbers: Vec<u32> = std::env::args().skip(1).map(|word| word.parse().expect("FAMILY PAGES COUNT ..")).collect();
     for run in numbers.chunks_exact(3) {
         let [family, pages, count] = [run[0], run[1], run[2]];
-        let sum = if family == 30 { over_030(pages, count) } else { over_040(pages, count) };
+        let sum = match family {
+            30 if pages <= 22 => warm_030(pages, count),
+            30 => cold_030(pages, count),
+            _ if pages <= 64 => warm_040(pages, count),
+            _ => cold_040(pages, count),
+        };
         println!("680{family} cache, {pages} pages, {count} look-ups: sum {sum}");
     }
 }
@@ -32,7 +37,7 @@ fn over(pages: u32, count: u32, mut access: impl FnMut(u32) -> u64) -> u64 {
     sum
 }
 
-fn over_030(pages: u32, count: u32) -> u64 {
+fn cold_030(pages: u32, count: u32) -> u64 {
     let mut cache = Atc030::default();
     over(pages, count, |page| match cache.lookup(1, page, 12, false) {
         Some(base) => base.into(),
@@ -43,7 +48,15 @@ fn over_030(pages: u32, count: u32) -> u64 {
     })
 }
 
-fn over_040(pages: u32, count: u32) -> u64 {
+fn warm_030(pages: u32, count: u32) -> u64 {
+    let mut cache = Atc030::default();
+    for page in 0..pages {
+        cache.insert(1, page, 12, page, false);
+    }
+    over(pages, count, |page| cache.lookup(1, page, 12, false).map_or(5, u64::from))
+}
+
+fn cold_040(pages: u32, count: u32) -> u64 {
     let mut cache = Atc::default();
     over(pages, count, |page| match cache.lookup(page, false, false) {
         Some(base) => base.into(),
@@ -52,4 +65,12 @@ fn over_040(pages: u32, count: u32) -> u64 {
             5
         }
     })
+}
+
+fn warm_040(pages: u32, count: u32) -> u64 {
+    let mut cache = Atc::default();
+    for page in 0..pages {
+        cache.insert(page, false, page, false, false);
+    }
+    over(pages, count, |page| cache.lookup(page, false, false).map_or(5, u64::from))
 }

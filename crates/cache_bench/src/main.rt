@@ -1,6 +1,7 @@
-// Looks pages up in the proved caches, with an insert at each miss, as bench/cache does in the original's.
-// Each three arguments, FAMILY PAGES COUNT, are a run of COUNT look-ups over so many pages, from an empty cache. It is told in a
-// line with a sum over all answers, by which the two programs are compared.
+// Looks pages up in the proved caches, as bench/cache does in the original's.
+// Each three arguments, FAMILY PAGES COUNT, are a run of COUNT look-ups over so many pages. Pages that all fit are inserted first and
+// then only looked up, as a warm cache is; others are inserted at each miss. A run is told in a line with a sum over all answers,
+// by which the two programs are compared.
 use cache::CachePair;
 use cache::atc030;
 use cache::atc040;
@@ -27,7 +28,15 @@ fn with_answer(sum: u64, answer: u64) -> u64 {
     std::num::wrapping_add_u64(sum, answer) % 1000000007
 }
 
-// One look-up in the 68030 cache: a hit's base, or 5 for a miss. Each page's base is its number.
+// A hit's base, or 5 for a miss.
+fn answer_of(hit: Hit) -> u64 {
+    match hit {
+        Hit::At(base) => base,
+        Hit::Miss => 5,
+    }
+}
+
+// One look-up in the 68030 cache, with an insert at a miss. Each page's base is its number.
 fn access_030(
     page: u32,
     tags: &mut [u64; 22],
@@ -44,8 +53,8 @@ fn access_030(
     }
 }
 
-// A run over the 68030 cache.
-fn over_030(pages: u32, count: u32) -> u64
+// A run over a 68030 cache that is empty at first.
+fn cold_030(pages: u32, count: u32) -> u64
     requires { ⌜ 0 < pages ⌝ }
 {
     let empty = CachePair::empty();
@@ -64,7 +73,51 @@ fn over_030(pages: u32, count: u32) -> u64
     sum
 }
 
-// One look-up in the 68040 cache.
+// Inserts every page.
+fn fill_030(
+    pages: u32,
+    tags: &mut [u64; 22],
+    bases: &mut [u64; 22],
+    stamps: &mut [u64; 22],
+    marks: &mut [u64; 3],
+) {
+    for page in 0..pages {
+        atc030::insert(tags, bases, stamps, marks, 1, page, 12, page, false);
+    }
+}
+
+// A run over a 68030 cache that has every page.
+fn warm_030(pages: u32, count: u32) -> u64
+    requires { ⌜ 0 < pages ⌝ }
+{
+    let empty = CachePair::empty();
+    let mut tags = empty.tags;
+    let mut bases = empty.pages;
+    let mut stamps = empty.stamps;
+    let mut marks = empty.marks;
+    fill_030(pages, &mut tags, &mut bases, &mut stamps, &mut marks);
+    let mut x = 12345;
+    let mut sum = 0;
+    for _ in 0..count {
+        x = next_x(x);
+        let page = page_of(x, pages);
+        let hit = atc030::look(
+            &tags,
+            &bases,
+            &mut stamps,
+            &mut marks,
+            1,
+            page,
+            12,
+            false,
+            true,
+        );
+        sum = with_answer(sum, answer_of(hit));
+    }
+    sum
+}
+
+// One look-up in the 68040 cache, with an insert at a miss.
 fn access_040(page: u32, keys: &mut [u64; 64], bases: &mut [u64; 64]) -> u64 {
     match atc040::look_040(keys, bases, page, false, false) {
         Hit::At(base) => base,
@@ -75,8 +128,8 @@ fn access_040(page: u32, keys: &mut [u64; 64], bases: &mut [u64; 64]) -> u64 {
     }
 }
 
-// A run over the 68040 cache.
-fn over_040(pages: u32, count: u32) -> u64
+// A run over a 68040 cache that is empty at first.
+fn cold_040(pages: u32, count: u32) -> u64
     requires { ⌜ 0 < pages ⌝ }
 {
     let empty = CachePair::empty();
@@ -93,14 +146,46 @@ fn over_040(pages: u32, count: u32) -> u64
     sum
 }
 
+// Inserts every page.
+fn fill_040(pages: u32, keys: &mut [u64; 64], bases: &mut [u64; 64]) {
+    for page in 0..pages {
+        atc040::insert_040(keys, bases, page, false, page, false, false);
+    }
+}
+
+// A run over a 68040 cache that has every page.
+fn warm_040(pages: u32, count: u32) -> u64
+    requires { ⌜ 0 < pages ⌝ }
+{
+    let empty = CachePair::empty();
+    let mut keys = empty.keys;
+    let mut bases = empty.bases;
+    fill_040(pages, &mut keys, &mut bases);
+    let mut x = 12345;
+    let mut sum = 0;
+    for _ in 0..count {
+        x = next_x(x);
+        let page = page_of(x, pages);
+        let hit = atc040::look_040(&keys, &bases, page, false, false);
+        sum = with_answer(sum, answer_of(hit));
+    }
+    sum
+}
+
 // The sum of a run.
 fn sum_of(family: u32, pages: u32, count: u32) -> u64
     requires { ⌜ 0 < pages ⌝ }
 {
-    if family == 30 {
-        return over_030(pages, count);
+    if family == 30 && pages <= 22 {
+        return warm_030(pages, count);
     }
-    over_040(pages, count)
+    if family == 30 {
+        return cold_030(pages, count);
+    }
+    if pages <= 64 {
+        return warm_040(pages, count);
+    }
+    cold_040(pages, count)
 }
 
 // Argument i as a number, and 0 where it is missing or none.

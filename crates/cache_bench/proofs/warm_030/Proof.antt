@@ -1,16 +1,19 @@
 use borrow.Author.Needs.{needs}
 use Prim.Native.Nat.{_-_}
-use Rattle.cache_bench.proofs.over_030.Statement.{statement}
-use Rattle.cache_bench.proofs.over_030.Tie as tie
+use Rattle.cache_bench.proofs.warm_030.Statement.{statement}
+use Rattle.cache_bench.proofs.warm_030.Tie as tie
 
 abbrev Inv-loop : tie.InvT-loop
-Inv-loop pages count tags₀ bases₀ stamps₀ marks₀ x₀ sum₀ counter₀ tags bases stamps marks x sum counter = Unit {0}
+Inv-loop pages count tags bases stamps₀ marks₀ x₀ sum₀ counter₀ stamps marks x sum counter = Unit {0}
 
 abbrev μ-loop : tie.MeasureT-loop
-μ-loop pages count tags₀ bases₀ stamps₀ marks₀ x₀ sum₀ counter₀ tags bases stamps marks x sum counter = count - counter
+μ-loop pages count tags bases stamps₀ marks₀ x₀ sum₀ counter₀ stamps marks x sum counter = count - counter
 
 empty-requires : tie.Need-empty-requires Inv-loop μ-loop
 empty-requires c κs = search needs
+
+fill-030-requires : tie.Need-fill-030-requires Inv-loop μ-loop
+fill-030-requires c κs = search needs
 
 loop-holds : tie.Need-loop-holds Inv-loop μ-loop
 loop-holds c = search needs
@@ -21,8 +24,11 @@ next-x-requires c κs = search needs
 page-of-requires : tie.Need-page-of-requires Inv-loop μ-loop
 page-of-requires c κs = search needs
 
-access-030-requires : tie.Need-access-030-requires Inv-loop μ-loop
-access-030-requires c κs = search needs
+look-requires : tie.Need-look-requires Inv-loop μ-loop
+look-requires c κs = search needs
+
+answer-of-requires : tie.Need-answer-of-requires Inv-loop μ-loop
+answer-of-requires c κs = search needs
 
 with-answer-requires : tie.Need-with-answer-requires Inv-loop μ-loop
 with-answer-requires c κs = search needs
@@ -39,17 +45,19 @@ loop-again c = search needs
 returns : tie.Need-returns Inv-loop μ-loop
 returns c = search needs
 
-pub over-030-spec : {M : Type 1} → statement M
-over-030-spec =
+pub warm-030-spec : {M : Type 1} → statement M
+warm-030-spec =
     tie.close
     (tie.spec
     Inv-loop
     μ-loop
     empty-requires
+    fill-030-requires
     loop-holds
     next-x-requires
     page-of-requires
-    access-030-requires
+    look-requires
+    answer-of-requires
     with-answer-requires
     add-counter
     loop-less

@@ -1,7 +1,7 @@
 use borrow.Author.Needs.{needs}
 use Prim.Native.Nat.{_-_}
-use Rattle.cache_bench.proofs.over_040.Statement.{statement}
-use Rattle.cache_bench.proofs.over_040.Tie as tie
+use Rattle.cache_bench.proofs.cold_040.Statement.{statement}
+use Rattle.cache_bench.proofs.cold_040.Tie as tie
 
 abbrev Inv-loop : tie.InvT-loop
 Inv-loop pages count keys₀ bases₀ x₀ sum₀ counter₀ keys bases x sum counter = Unit {0}
@@ -39,8 +39,8 @@ loop-again c = search needs
 returns : tie.Need-returns Inv-loop μ-loop
 returns c = search needs
 
-pub over-040-spec : {M : Type 1} → statement M
-over-040-spec =
+pub cold-040-spec : {M : Type 1} → statement M
+cold-040-spec =
     tie.close
     (tie.spec
     Inv-loop

@@ -1,0 +1,57 @@
+use borrow.Author.Needs.{needs}
+use Prim.Native.Nat.{_-_}
+use Rattle.cache_bench.proofs.cold_030.Statement.{statement}
+use Rattle.cache_bench.proofs.cold_030.Tie as tie
+
+abbrev Inv-loop : tie.InvT-loop
+Inv-loop pages count tags₀ bases₀ stamps₀ marks₀ x₀ sum₀ counter₀ tags bases stamps marks x sum counter = Unit {0}
+
+abbrev μ-loop : tie.MeasureT-loop
+μ-loop pages count tags₀ bases₀ stamps₀ marks₀ x₀ sum₀ counter₀ tags bases stamps marks x sum counter = count - counter
+
+empty-requires : tie.Need-empty-requires Inv-loop μ-loop
+empty-requires c κs = search needs
+
+loop-holds : tie.Need-loop-holds Inv-loop μ-loop
+loop-holds c = search needs
+
+next-x-requires : tie.Need-next-x-requires Inv-loop μ-loop
+next-x-requires c κs = search needs
+
+page-of-requires : tie.Need-page-of-requires Inv-loop μ-loop
+page-of-requires c κs = search needs
+
+access-030-requires : tie.Need-access-030-requires Inv-loop μ-loop
+access-030-requires c κs = search needs
+
+with-answer-requires : tie.Need-with-answer-requires Inv-loop μ-loop
+with-answer-requires c κs = search needs
+
+add-counter : tie.Need-add-counter Inv-loop μ-loop
+add-counter c = search needs
+
+loop-less : tie.Need-loop-less Inv-loop μ-loop
+loop-less c = search needs
+
+loop-again : tie.Need-loop-again Inv-loop μ-loop
+loop-again c = search needs
+
+returns : tie.Need-returns Inv-loop μ-loop
+returns c = search needs
+
+pub cold-030-spec : {M : Type 1} → statement M
+cold-030-spec =
+    tie.close
+    (tie.spec
+    Inv-loop
+    μ-loop
+    empty-requires
+    loop-holds
+    next-x-requires
+    page-of-requires
+    access-030-requires
+    with-answer-requires
+    add-counter
+    loop-less
+    loop-again
+    returns)

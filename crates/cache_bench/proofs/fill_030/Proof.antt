@@ -1,0 +1,33 @@
+use borrow.Author.Needs.{needs}
+use Prim.Native.Nat.{_-_}
+use Rattle.cache_bench.proofs.fill_030.Statement.{statement}
+use Rattle.cache_bench.proofs.fill_030.Tie as tie
+
+abbrev Inv-loop : tie.InvT-loop
+Inv-loop pages tags₀ bases₀ stamps₀ marks₀ page₀ tags bases stamps marks page = Unit {0}
+
+abbrev μ-loop : tie.MeasureT-loop
+μ-loop pages tags₀ bases₀ stamps₀ marks₀ page₀ tags bases stamps marks page = pages - page
+
+loop-holds : tie.Need-loop-holds Inv-loop μ-loop
+loop-holds c = search needs
+
+insert-requires : tie.Need-insert-requires Inv-loop μ-loop
+insert-requires c κs = search needs
+
+add-page : tie.Need-add-page Inv-loop μ-loop
+add-page c = search needs
+
+loop-less : tie.Need-loop-less Inv-loop μ-loop
+loop-less c = search needs
+
+loop-again : tie.Need-loop-again Inv-loop μ-loop
+loop-again c = search needs
+
+returns : tie.Need-returns Inv-loop μ-loop
+returns c = search needs
+
+pub fill-030-spec : {M : Type 1} → statement M
+fill-030-spec =
+    tie.close
+    (tie.spec Inv-loop μ-loop loop-holds insert-requires add-page loop-less loop-again returns)
