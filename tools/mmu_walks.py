@@ -32,7 +32,7 @@ FUNCTIONS = {
         pre={'concluded_load': lambda facts: f'law.load-asks {planned_load(facts)}'},
         ends=loaded,
     ),
-    'by_value.test': dict(law='Testing', ends=tested),
+    'by_value.test': dict(law='ByValue', ends=tested),
     'pair.translate_pair': dict(law='ByValue', ends=lambda facts: f'law.translates-in {facts("translate", "translated_caches", "translated_outcome")}'),
     'pair.load_pair': dict(law='ByValue', ends=lambda facts: f'law.loads-in {facts("load", "loaded_caches", "loaded_outcome")}'),
     **{f'pair.{name}_pair': flushes(name) for name in ('flush_all', 'flush_code', 'flush_page', 'flush_frame')},

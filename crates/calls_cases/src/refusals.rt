@@ -56,7 +56,7 @@ fn load(t: Trial) -> Given {
     let longs = setting::tree();
     let list = setting::ranges(t.first, t.last);
     let g = setting::registers(t.family, t.enabled);
-    let r = mmu::load::load_in(
+    let r = inplace::load::load_in(
         &mut tags,
         &mut pages,
         &mut stamps,
@@ -102,7 +102,7 @@ fn translate(t: Trial) -> Given {
     let list = setting::ranges(t.first, t.last);
     let g = setting::registers(t.family, t.enabled);
     let a = setting::access(Override::Code(t.code), false, true);
-    let r = mmu::translate::translate_in(
+    let r = inplace::translate::translate_in(
         &mut tags,
         &mut pages,
         &mut stamps,
@@ -141,7 +141,7 @@ fn test(t: Trial, level: u32) -> Given {
     let longs = setting::tree();
     let list = setting::ranges(t.first, t.last);
     let g = setting::registers(t.family, t.enabled);
-    let r = mmu::test::test_in(
+    let r = inplace::test::test_in(
         &longs,
         t.base,
         list,
@@ -180,7 +180,7 @@ fn probe(t: Trial) -> Given {
     let keys = [3u64; 64];
     let bases = [3u64; 64];
     let g = setting::registers(t.family, t.enabled);
-    let answer = mmu::probe::probe_in(
+    let answer = inplace::probe::probe_in(
         &tags,
         &pages,
         &stamps,
@@ -217,7 +217,14 @@ fn flush_all(t: Trial) -> Given {
     let marks = [t.recent, 3, t.shift];
     let mut keys = [3u64; 64];
     let bases = [3u64; 64];
-    let answer = mmu::flush::flush_all_in(&mut tags, &pages, &stamps, &marks, &mut keys, &bases);
+    let answer = inplace::flush::flush_all_in(
+        &mut tags,
+        &pages,
+        &stamps,
+        &marks,
+        &mut keys,
+        &bases,
+    );
     let stays = stays_030(&tags, &pages, &stamps, &marks, t.recent, t.shift);
     let beside = stays_040(&keys, &bases);
     Given {
@@ -232,7 +239,7 @@ fn flush_code(t: Trial, mask: u32) -> Given {
     let pages = [3u64; 22];
     let stamps = [3u64; 22];
     let marks = [t.recent, 3, t.shift];
-    let answer = mmu::flush::flush_code_in(&mut tags, &pages, &stamps, &marks, t.code, mask);
+    let answer = inplace::flush::flush_code_in(&mut tags, &pages, &stamps, &marks, t.code, mask);
     let stays = stays_030(&tags, &pages, &stamps, &marks, t.recent, t.shift);
     Given {
         number: flush_number(answer),
@@ -246,7 +253,7 @@ fn flush_page(t: Trial, mask: u32) -> Given {
     let pages = [3u64; 22];
     let stamps = [3u64; 22];
     let marks = [t.recent, 3, t.shift];
-    let answer = mmu::flush::flush_page_in(&mut tags, &pages, &stamps, &marks, t.code, mask, 0);
+    let answer = inplace::flush::flush_page_in(&mut tags, &pages, &stamps, &marks, t.code, mask, 0);
     let stays = stays_030(&tags, &pages, &stamps, &marks, t.recent, t.shift);
     Given {
         number: flush_number(answer),
@@ -258,7 +265,7 @@ fn flush_page(t: Trial, mask: u32) -> Given {
 fn flush_frame(frame: u32) -> Given {
     let mut keys = [3u64; 64];
     let bases = [3u64; 64];
-    let answer = mmu::flush::flush_frame_in(&mut keys, &bases, frame);
+    let answer = inplace::flush::flush_frame_in(&mut keys, &bases, frame);
     let stays = stays_040(&keys, &bases);
     Given {
         number: flush_number(answer),

@@ -20,17 +20,18 @@ use Rattle.cache.specs.Atc030.{cacheOf, Sized}
 use Rattle.cache.specs.Atc040.{cache040Of, Sized040}
 use Rattle.cache.specs.Pair.{pairOf}
 use Rattle.cache.specs.declared.CachePair.{CachePair}
-use Rattle.mmu.specs.declared.translate.Outcome.{Outcome}
-use Rattle.mmu.specs.declared.load.LoadOutcome.{LoadOutcome}
+use Rattle.inplace.specs.declared.translate.Outcome.{Outcome}
+use Rattle.inplace.specs.declared.load.LoadOutcome.{LoadOutcome}
 use Rattle.mmu.specs.declared.by_value.PlannedPair.{PlannedPair}
 use Rattle.mmu.specs.declared.by_value.Translated.{Translated}
 use Rattle.mmu.specs.declared.by_value.Loaded.{Loaded}
 use Rattle.mmu.specs.declared.by_value.Flushed.{Flushed}
-use Rattle.mmu.specs.Stages.{Coded, wayOf, planAccess, shownTranslated, concludeAccess, planLoad, shownLoaded, concludeLoad}
-use Rattle.mmu.specs.InPlace.{PlannedIn, PlannedIn030, AnsweredIn, LoadedIn, FlushedIn030, FlushedIn040}
+use Rattle.inplace.specs.Stages.{Coded, wayOf, planAccess, shownTranslated, concludeAccess, planLoad, shownLoaded, concludeLoad}
+use Rattle.inplace.specs.InPlace.{PlannedIn, PlannedIn030, AnsweredIn, LoadedIn, FlushedIn030, FlushedIn040}
 use Rattle.mmu.specs.ByValue.{translatedWith, TranslatedBy, loadedWith, LoadedBy, flushedWith, FlushedBy, Beside}
-use Rattle.mmu.proofs.Staged.{translated-by, load-beside}
-use Rattle.mmu.proofs.Translating.{load-by, load-code}
+use Rattle.inplace.proofs.Staged.{translated-by, load-beside}
+use Rattle.inplace.proofs.Translating.{load-by, load-code}
+pub use Rattle.inplace.proofs.Testing.{test-by}
 
 -- a pair of arrays
 abbrev pub arrays : List ℕ → List ℕ → List ℕ → List ℕ → List ℕ → List ℕ → CachePair

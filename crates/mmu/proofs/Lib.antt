@@ -1,11 +1,3 @@
-pub mod Staged
-pub mod Searching
-pub mod Planning
-pub mod Concluding
-pub mod Translating
-pub mod Testing
-pub mod Probing
-pub mod Flushing
 pub mod ByValue
 pub mod Singles
 pub mod Refusing

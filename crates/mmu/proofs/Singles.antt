@@ -9,12 +9,12 @@ use Rattle.definition.specs.declared.Test.{Test}
 use Rattle.definition.specs.declared.Probe.{Probe}
 use Rattle.definition.specs.declared.Flush.{Flush}
 use Rattle.cache.proofs.Pairs.{pair-same}
-use Rattle.mmu.specs.declared.test.TestOutcome.{TestOutcome}
+use Rattle.inplace.specs.declared.test.TestOutcome.{TestOutcome}
 use Rattle.mmu.specs.declared.by_value.Translated.{Translated}
 use Rattle.mmu.specs.declared.by_value.Loaded.{Loaded}
 use Rattle.mmu.specs.declared.by_value.Flushed.{Flushed}
-use Rattle.mmu.specs.Stages.{TestAnswered}
-use Rattle.mmu.specs.InPlace.{TestedIn}
+use Rattle.inplace.specs.Stages.{TestAnswered}
+use Rattle.inplace.specs.InPlace.{TestedIn}
 use Rattle.mmu.specs.ByValue.{translatedWith, TranslatedBy, loadedWith, LoadedBy, flushedWith, FlushedBy}
 
 pub translate-single : (t : TranslatedOf) (r s : Translated) → TranslatedBy t r → TranslatedBy t s → r ≡ s

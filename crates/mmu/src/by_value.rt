@@ -1,13 +1,5 @@
 // The calls of document 01 by value: 'Two caches, by value first.' Each copies the pair's arrays, lends them to a function in place and builds the pair anew.
 // A call that is lent the ranges is thin: its proof is a walk by hand, which tools/ prints.
-use crate::Plan;
-use crate::checks;
-use crate::flush;
-use crate::load;
-use crate::probe;
-use crate::test;
-use crate::test::TestOutcome;
-use crate::translate;
 use cache::CachePair;
 use definition::Access;
 use definition::Flush;
@@ -16,6 +8,14 @@ use definition::Probe;
 use definition::Range;
 use definition::Registers;
 use definition::Translation;
+use inplace::Plan;
+use inplace::checks;
+use inplace::flush;
+use inplace::load;
+use inplace::probe;
+use inplace::test;
+use inplace::test::TestOutcome;
+use inplace::translate;
 use tables::Walks;
 use tables::Way;
 ghost use mathlib.Core.Path.{_≡_};
@@ -26,8 +26,8 @@ ghost use Rattle.definition.specs.Test.{test as testOf};
 ghost use Rattle.definition.specs.Probe.{probe as probeOf};
 ghost use Rattle.definition.specs.Flush.{flushAll, flushCode, flushPage, flushFrame};
 ghost use Rattle.cache.specs.Pair.{pairOf};
-ghost use Rattle.mmu.specs.Stages.{Coded, wayOf, planAccess, concludeAccess, planLoad, concludeLoad, shownTested};
-ghost use Rattle.mmu.specs.InPlace.{PlannedIn, PlannedIn030, AnsweredIn, LoadedIn, TestedIn};
+ghost use Rattle.inplace.specs.Stages.{Coded, wayOf, planAccess, concludeAccess, planLoad, concludeLoad, shownTested};
+ghost use Rattle.inplace.specs.InPlace.{PlannedIn, PlannedIn030, AnsweredIn, LoadedIn, TestedIn};
 ghost use Rattle.mmu.specs.ByValue.{TranslatedBy, LoadedBy, FlushedBy, Beside};
 
 // An answer, its count and the next caches.
@@ -61,7 +61,7 @@ fn wanted(p: PlannedPair) -> Way
     ensures { λ r. ⌜ r ≡ wayOf (p .plan) ⌝ }
 {
     let plan = p.plan;
-    crate::way_of(plan)
+    inplace::way_of(plan)
 }
 
 // ---- Translate.
@@ -296,7 +296,7 @@ pub fn test(
     let two = checks::bad_longs(longs, base);
     let three = tables::any_crossed(ranges);
     let plan = test::plan_test(two, three, g, code, level, address);
-    let way = crate::way_of(plan);
+    let way = inplace::way_of(plan);
     let walks = tables::walk_for(longs, base, ranges, g, address, way);
     test::conclude_test(code, plan, walks)
 }

@@ -24,9 +24,9 @@ use Rattle.trace.specs.Lines.{lineIn}
 use Rattle.trace.specs.declared.Line.{Line}
 use Rattle.cache.specs.Atc030.{cacheOf}
 use Rattle.cache.specs.Atc040.{cache040Of}
-use Rattle.mmu.specs.Stages.{shownTranslated, shownLoaded, shownTested}
-use Rattle.mmu.specs.InPlace.{cachesOf, pairWith, AnsweredIn, LoadedIn, TestedIn, FlushedIn, FlushedIn030, FlushedIn040}
-use Rattle.mmu.proofs.Staged.{load-beside}
+use Rattle.inplace.specs.Stages.{shownTranslated, shownLoaded, shownTested}
+use Rattle.inplace.specs.InPlace.{cachesOf, pairWith, AnsweredIn, LoadedIn, TestedIn, FlushedIn, FlushedIn030, FlushedIn040}
+use Rattle.inplace.proofs.Staged.{load-beside}
 use Rattle.replay.specs.Playing.{CalledIn, Tests}
 
 module _ (g : Registers) (m : Memory) {l : Line} where

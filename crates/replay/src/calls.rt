@@ -15,7 +15,7 @@ ghost use Rattle.definition.specs.Memory.{memory};
 ghost use Rattle.definition.specs.Refusal.{crossed};
 ghost use Rattle.definition.specs.Calls.{access, loading, testing, probing, flushingAll, flushingCode, flushingPage, flushingFrame, translationLine, loadLine, testLine, probeLine, flushLine, calling};
 ghost use Rattle.trace.specs.Lines.{lineIn};
-ghost use Rattle.mmu.specs.InPlace.{cachesOf};
+ghost use Rattle.inplace.specs.InPlace.{cachesOf};
 ghost use Rattle.replay.specs.Playing.{CalledIn, Tests};
 
 // A address count, or F kind cause address count.
@@ -100,7 +100,7 @@ pub fn access_line(
 ) -> Line
     ensures { λ r. ⌜ (three ≡ anyOf crossed (take n list) → CalledIn (calling g (memory (now (longs .entry)) 0 (take n list)) (cachesOf (now (tags .entry)) (now (pages .entry)) (now (stamps .entry)) (now (marks .entry)) (now (keys .entry)) (now (bases .entry))) (access a)) r (now (tags .exit)) (now (pages .exit)) (now (stamps .exit)) (now (marks .exit)) (now (keys .exit)) (now (bases .exit))) ⌝ }
 {
-    let o = mmu::translate::translate_in(
+    let o = inplace::translate::translate_in(
         tags,
         pages,
         stamps,
@@ -138,7 +138,7 @@ pub fn load_call(
 ) -> Line
     ensures { λ r. ⌜ (three ≡ anyOf crossed (take n list) → CalledIn (calling g (memory (now (longs .entry)) 0 (take n list)) (cachesOf (now (tags .entry)) (now (pages .entry)) (now (stamps .entry)) (now (marks .entry)) (now (keys .entry)) (now (bases .entry))) (loading code write address)) r (now (tags .exit)) (now (pages .exit)) (now (stamps .exit)) (now (marks .exit)) (now (keys .entry)) (now (bases .entry))) ⌝ }
 {
-    let o = mmu::load::load_in(
+    let o = inplace::load::load_in(
         tags,
         pages,
         stamps,
@@ -171,7 +171,7 @@ pub fn test_call(
 ) -> Line
     ensures { λ r. ⌜ (three ≡ anyOf crossed (take n list) → Tests g (memory (now (longs .entry)) 0 (take n list)) code write level address r) ⌝ }
 {
-    let o = mmu::test::test_in(longs, 0, list, n, three, g, code, write, level, address);
+    let o = inplace::test::test_in(longs, 0, list, n, three, g, code, write, level, address);
     let answer = o.answer;
     test_line(answer, o.count)
 }

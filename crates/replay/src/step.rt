@@ -25,7 +25,7 @@ pub struct Step {
 fn set_registers(kept: Kept, g: Registers) -> Step
     ensures { λ r. ⌜ ((longs ts ps ss ms ks bs : List ℕ) → PlayedIn (stepOf (stateOf kept longs ts ps ss ms ks bs) (Loads g)) (r .line) (r .kept) longs ts ps ss ms ks bs) × (rangesOf (r .kept) ≡ rangesOf kept) ⌝ }
 {
-    if mmu::checks::no_family(g.family) {
+    if inplace::checks::no_family(g.family) {
         return Step {
             line: Line::R { number: 1 },
             kept,
@@ -164,12 +164,12 @@ pub fn perform(
             Step { line, kept }
         }
         Record::FlushAll => {
-            let answer = mmu::flush::flush_all_in(tags, pages, stamps, marks, keys, bases);
+            let answer = inplace::flush::flush_all_in(tags, pages, stamps, marks, keys, bases);
             let line = calls::flush_line(answer);
             Step { line, kept }
         }
         Record::FlushCode { code, mask } => {
-            let answer = mmu::flush::flush_code_in(tags, pages, stamps, marks, code, mask);
+            let answer = inplace::flush::flush_code_in(tags, pages, stamps, marks, code, mask);
             let line = calls::flush_line(answer);
             Step { line, kept }
         }
@@ -178,12 +178,20 @@ pub fn perform(
             mask,
             address,
         } => {
-            let answer = mmu::flush::flush_page_in(tags, pages, stamps, marks, code, mask, address);
+            let answer = inplace::flush::flush_page_in(
+                tags,
+                pages,
+                stamps,
+                marks,
+                code,
+                mask,
+                address,
+            );
             let line = calls::flush_line(answer);
             Step { line, kept }
         }
         Record::FlushFrame { frame } => {
-            let answer = mmu::flush::flush_frame_in(keys, bases, frame);
+            let answer = inplace::flush::flush_frame_in(keys, bases, frame);
             let line = calls::flush_line(answer);
             Step { line, kept }
         }
@@ -198,7 +206,7 @@ pub fn perform(
             write,
             address,
         } => {
-            let answer = mmu::probe::probe_in(
+            let answer = inplace::probe::probe_in(
                 tags,
                 pages,
                 stamps,

@@ -58,12 +58,12 @@ use Rattle.definition.proofs.Range as row-Range
 use Rattle.definition.specs.declared.Registers.{Registers}
 use Rattle.definition.proofs.Registers as row-Registers
 use Rattle.definition.proofs.Registers.Laws as law-Registers
+use Rattle.inplace.specs.declared.load.LoadOutcome.{LoadOutcome}
+use Rattle.inplace.proofs.load.LoadOutcome as row-LoadOutcome
+use Rattle.inplace.proofs.load.LoadOutcome.Laws as law-LoadOutcome
 use Rattle.mmu.specs.declared.by_value.Loaded.{Loaded}
 use Rattle.mmu.proofs.by_value.Loaded as row-Loaded
 use Rattle.mmu.proofs.by_value.Loaded.Laws as law-Loaded
-use Rattle.mmu.specs.declared.load.LoadOutcome.{LoadOutcome}
-use Rattle.mmu.proofs.load.LoadOutcome as row-LoadOutcome
-use Rattle.mmu.proofs.load.LoadOutcome.Laws as law-LoadOutcome
 use Rattle.mmu.proofs.by_value.load as c0
 use Rattle.mmu.proofs.by_value.load.Symbol as c0-def
 use Rattle.mmu.proofs.by_value.load.Symbol.{name as #mmu·by-value·load}

@@ -1,0 +1,8 @@
+pub mod Staged
+pub mod Searching
+pub mod Planning
+pub mod Concluding
+pub mod Translating
+pub mod Testing
+pub mod Probing
+pub mod Flushing

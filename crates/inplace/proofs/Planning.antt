@@ -1,0 +1,89 @@
+-- What the parts of a translation's plan give together. Assumes nothing.
+use Prim.Native.Nat.{ℕ, _/_, _^_, _<_}
+use mathlib.Core.Path.{_≡_, refl, ap, sym, _∙_}
+use mathlib.Core.List.{List}
+use mathlib.Core.Bool.{Bool, true, false, not}
+use native.Mathlib.Omega.{arith}
+use borrow.Author.Tests.{eq-eqb, ne-eqb}
+use Rattle.definition.specs.Words.{if_then_else_, bitOf}
+use Rattle.definition.specs.Registers.{on, codeOf, asSupervisor, asInstruction, walkCode, comparedCode}
+use Rattle.definition.specs.Transparent.{transparent}
+use Rattle.definition.specs.Walk030.{shiftOf}
+use Rattle.definition.specs.Walk040.{pageBits}
+use Rattle.definition.specs.Cache040.{hit040}
+use Rattle.definition.specs.Refusal.{noFamily, badOverride, badCache, refusalOf}
+use Rattle.definition.specs.Translate.{Caches}
+use Rattle.definition.specs.declared.Registers.{Registers}
+use Rattle.definition.specs.declared.Access.{Access}
+use Rattle.cache.specs.Atc030.{cacheOf, Sized}
+use Rattle.cache.specs.Atc040.{cache040Of}
+use Rattle.inplace.specs.declared.Plan.{Plan}
+use Rattle.inplace.specs.Stages.{checksOf, lookPlan040, plan030, planInOrder, accessRefusal, planAccess}
+use Rattle.inplace.specs.InPlace.{cachesOf, SizedAll, PlannedIn030, PlannedIn}
+
+pub code-small : (supervisor instruction : Bool) → codeOf supervisor instruction < 8
+code-small false false = omega arith
+code-small false true = omega arith
+code-small true false = omega arith
+code-small true true = omega arith
+
+-- the walk's code is below 8
+pub walk-small : (a : Access) {code : ℕ} → code ≡ walkCode a → code < 8
+walk-small a e = rw e (code-small (asSupervisor a) (asInstruction a))
+
+-- a page's bits are below 32
+pub bits-small : (tc : ℕ) {bits : ℕ} → bits ≡ pageBits tc → bits < 32
+bits-small tc e = rw e (go (bitOf tc 14))
+  where
+    go : (b : Bool) → (if b then 13 else 12) < 32
+    go true = omega arith
+    go false = omega arith
+
+module _ (g : Registers) (a : Access) {ts ps ss ms ks bs : List ℕ} (z : SizedAll ts ps ss ms ks bs) where
+  module _ {x : Bool} (is-on : x ≡ on g) where
+    pub plan-off : not x ≡ true → PlannedIn (planInOrder g a (cachesOf ts ps ss ms ks bs)) (Plan.Settled (a .address)) ts ps ss ms ks bs
+    unfolding planInOrder
+    plan-off h = rw (ap not (sym is-on) ∙ h) (record { plans = refl; leaves = refl; whole = z })
+
+    module _ (h : not x ≡ false) {code : ℕ} {i t : Bool} (compared : code ≡ comparedCode a) (instruction : i ≡ asInstruction a)
+        (is-tt : t ≡ transparent g (a .address) code i) where
+      -- whether a transparent register matches
+      matched : {b : Bool} → t ≡ b → transparent g (a .address) (comparedCode a) (asInstruction a) ≡ b
+      matched e = rw (← compared, ← instruction) (sym is-tt ∙ e)
+
+      pub plan-transparent : t ≡ true → PlannedIn (planInOrder g a (cachesOf ts ps ss ms ks bs)) (Plan.Settled (a .address)) ts ps ss ms ks bs
+      unfolding planInOrder
+      plan-transparent k = rw (ap not (sym is-on) ∙ h, matched k) (record { plans = refl; leaves = refl; whole = z })
+
+      pub plan-by-030 : {own : ℕ} {r : Plan} {ss′ ms′ : List ℕ} → t ≡ false → g .family ≡ 30 → own ≡ walkCode a
+          → PlannedIn030 (plan030 (cacheOf ts ps ss ms) (a .recorded) own (a .address) (a .write) (shiftOf (g .tc))) r ts ps ss′ ms′
+          → PlannedIn (planInOrder g a (cachesOf ts ps ss ms ks bs)) r ts ps ss′ ms′ ks bs
+      unfolding planInOrder
+      plan-by-030 k f w p =
+          rw (ap not (sym is-on) ∙ h, matched k, eq-eqb (g .family) 30 f, ← w)
+          (record { plans = p .plans; leaves = rw (p .leaves) refl; whole = record { sized = p .sized; sized040 = z .sized040 } })
+
+      pub plan-by-040 : {s : Bool} {r : Plan} → t ≡ false → (g .family ≡ 30 → ⊥) → s ≡ asSupervisor a
+          → r ≡ lookPlan040 (g .tc) (a .address) s (hit040 (cache040Of ks bs) (a .address / 2 ^ pageBits (g .tc)) s (a .write))
+          → PlannedIn (planInOrder g a (cachesOf ts ps ss ms ks bs)) r ts ps ss ms ks bs
+      unfolding planInOrder
+      plan-by-040 k f w p =
+          rw (ap not (sym is-on) ∙ h, matched k, ne-eqb (g .family) 30 f, ← w) (record { plans = p; leaves = refl; whole = z })
+
+-- ---- the refusals
+pub refusal-is : (g : Registers) (a : Access) (two three : Bool) (ts ps ss ms : List ℕ) {n : ℕ} {one five four : Bool}
+    → one ≡ noFamily (g .family) → five ≡ badOverride (a .code) → four ≡ badCache (cacheOf ts ps ss ms)
+    → n ≡ refusalOf (checksOf one false five two three four) → n ≡ accessRefusal g a two three (cacheOf ts ps ss ms)
+unfolding accessRefusal
+refusal-is g a two three ts ps ss ms e f h n = rw (← e, ← f, ← h) n
+
+module _ (g : Registers) (a : Access) (two three : Bool) {n : ℕ} where
+  pub plan-accepted : (c : Caches) {r : Plan} {ts ps ss ms ks bs : List ℕ} → n ≡ accessRefusal g a two three (c .c030) → n ≡ 0
+      → PlannedIn (planInOrder g a c) r ts ps ss ms ks bs → PlannedIn (planAccess g a two three c) r ts ps ss ms ks bs
+  unfolding planAccess
+  plan-accepted c is e p = rw (sym is ∙ e) p
+
+  pub plan-refused : {ts ps ss ms ks bs : List ℕ} → n ≡ accessRefusal g a two three (cacheOf ts ps ss ms) → (n ≡ 0 → ⊥) → SizedAll ts ps ss ms ks bs
+      → PlannedIn (planAccess g a two three (cachesOf ts ps ss ms ks bs)) (Plan.Refused n) ts ps ss ms ks bs
+  unfolding planAccess
+  plan-refused is h z = rw (← is, ne-eqb n 0 h) (record { plans = refl; leaves = refl; whole = z })

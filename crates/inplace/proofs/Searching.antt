@@ -1,0 +1,113 @@
+-- What the parts of a 68030 search give together. Assumes nothing.
+use Prim.Native.Nat.{ℕ, _+_, _-_, _/_, _^_, _≤_, _<_}
+use mathlib.Core.Path.{_≡_, refl, ap, sym, _∙_}
+use mathlib.Core.List.{List, []}
+use mathlib.Core.Bool.{Bool, true, false, not, _&&_}
+use native.Mathlib.Omega.{arith}
+use borrow.Author.Tests.{leb-true}
+use lib.Dec.{leb}
+use Rattle.definition.specs.Words.{if_then_else_, bitOf}
+use Rattle.definition.specs.Walk030.{used, widthsOf, isOf, sumOf, shiftFrom, shiftOf, physicalOf}
+use Rattle.definition.specs.Cache030.{Cache030, inserted}
+use Rattle.definition.specs.Translate.{Searched, baseOf, violation, busError, configuration, cached, onPage030}
+use Rattle.definition.specs.declared.Shift.{Shift}
+use Rattle.definition.specs.declared.Shift.the-variants.{Bits, NoPage}
+use Rattle.definition.specs.declared.Hit.{Hit}
+use Rattle.definition.specs.declared.End.{End}
+use Rattle.definition.specs.declared.End.the-variants as end
+use Rattle.definition.specs.declared.FaultCause.{FaultCause}
+use Rattle.definition.specs.declared.FaultCause.the-variants as cause
+use Rattle.definition.specs.declared.Translation.{Translation}
+use Rattle.tables.specs.declared.Way.{Way}
+use Rattle.tables.specs.declared.Walked.{Walked}
+use Rattle.cache.specs.Atc030.{cacheOf, Sized, Stepped, Looked}
+use Rattle.inplace.specs.declared.Plan.{Plan}
+use Rattle.inplace.specs.Stages.{lookPlan, plan030, missingCause, permittedOf, page030, end030}
+use Rattle.inplace.specs.InPlace.{PlannedIn030, Ended}
+
+-- the page shift is below 32
+from-small : (sum s : ℕ) → shiftFrom sum ≡ Bits s → s < 32
+from-small sum s e = go (leb 1 sum) (leb sum 31) refl e
+  where
+    bits : (n : ℕ) → Bits n ≡ Bits s → n ≡ s
+    bits n e = cc
+
+    go : (b d : Bool) → leb 1 sum ≡ b → (if b && d then Bits (32 - sum) else NoPage) ≡ Bits s → s < 32
+    go true true h e = omega (arith, bits (32 - sum) e, leb-true 1 sum h)
+    go true false h e = let z : _≡_ {A = ℕ} 0 1 = cc in omega arith
+    go false true h e = let z : _≡_ {A = ℕ} 0 1 = cc in omega arith
+    go false false h e = let z : _≡_ {A = ℕ} 0 1 = cc in omega arith
+
+pub shift-small : (tc : ℕ) {r : Shift} {s : ℕ} → r ≡ shiftOf tc → r ≡ Bits s → s < 32
+shift-small tc {r} {s} e f = from-small (isOf tc + sumOf (used (widthsOf tc))) s (sym e ∙ f)
+
+module _ {ts ps ss ms : List ℕ} (code address : ℕ) {r s : Shift} (is : r ≡ s) where
+  -- ---- the plan
+  module _ (write recorded : Bool) where
+    pub plan-none : r ≡ NoPage → Sized ts ps ss ms
+        → PlannedIn030 (plan030 (cacheOf ts ps ss ms) recorded code address write s) (Plan.Walk (Way.By030 code 5)) ts ps ss ms
+    plan-none none z = rw (sym is ∙ none) (record { plans = refl; leaves = refl; sized = z })
+
+    pub plan-look : {shift : ℕ} {hit : Hit} {p : Plan} {ss′ ms′ : List ℕ} → r ≡ Bits shift
+        → Looked ts ps ss ms code (address / 2 ^ shift) shift write recorded hit ss′ ms′ → p ≡ lookPlan code address shift hit
+        → PlannedIn030 (plan030 (cacheOf ts ps ss ms) recorded code address write s) p ts ps ss′ ms′
+    plan-look {shift} some k q =
+        rw (sym is ∙ some)
+        (record { plans = q ∙ ap (lookPlan code address shift) (k .answers); leaves = k .steps .leaves; sized = k .steps .sized })
+
+  -- ---- what is cached
+  module _ (physical : ℕ) (wp : Bool) where
+    pub cache-none : r ≡ NoPage → Sized ts ps ss ms → Stepped (λ (c : Cache030). cached s c code address physical wp) ts ps ss ms ts ps ss ms
+    cache-none none z = rw (sym is ∙ none) (record { leaves = refl; sized = z })
+
+    pub cache-put : {shift base : ℕ} {ts′ ps′ ss′ ms′ : List ℕ} → r ≡ Bits shift → base ≡ baseOf physical address shift
+        → Stepped (λ (c : Cache030). inserted c code (address / 2 ^ shift) shift base wp) ts ps ss ms ts′ ps′ ss′ ms′
+        → Stepped (λ (c : Cache030). cached s c code address physical wp) ts ps ss ms ts′ ps′ ss′ ms′
+    cache-put {shift} some b k =
+        rw (sym is ∙ some)
+        (record {
+          leaves = k .leaves ∙ ap (λ (n : ℕ). inserted (cacheOf ts ps ss ms) code (address / 2 ^ shift) shift n wp) b;
+          sized = k .sized;
+        })
+
+-- ---- a page that was found, and the other ends
+module _ (tc : ℕ) {ts ps ss ms : List ℕ} (code address : ℕ) (write : Bool) {t : Translation} where
+  module _ (wp sup : Bool) (physical : ℕ) where
+    pub page-forbidden : (sup && not (bitOf code 2)) ≡ true → t ≡ violation cause.SupervisorProtect address → Sized ts ps ss ms
+        → Ended (page030 tc (cacheOf ts ps ss ms) code address write wp sup physical) t ts ps ss ms
+    unfolding page030
+    page-forbidden e f z = rw e (record { answers = f; leaves = refl; sized = z })
+
+    pub page-cached : {ts′ ps′ ss′ ms′ : List ℕ} → (sup && not (bitOf code 2)) ≡ false
+        → Stepped (λ (c : Cache030). cached (shiftOf tc) c code address physical wp) ts ps ss ms ts′ ps′ ss′ ms′
+        → t ≡ permittedOf write wp address physical
+        → Ended (page030 tc (cacheOf ts ps ss ms) code address write wp sup physical) t ts′ ps′ ss′ ms′
+    unfolding page030 permittedOf
+    page-cached e k f = rw e (record { answers = f; leaves = k .leaves; sized = k .sized })
+
+  module _ (w : Walked) where
+    pub end-invalid : {indirect : Bool} {x : FaultCause} → w .end ≡ end.Invalid indirect → x ≡ missingCause indirect → t ≡ violation x address
+        → Sized ts ps ss ms → Ended (end030 tc (cacheOf ts ps ss ms) code address write w) t ts ps ss ms
+    unfolding end030
+    end-invalid e f q z = rw e (record { answers = q ∙ ap (λ (x : FaultCause). violation x address) f; leaves = refl; sized = z })
+
+    pub end-bus : {at : ℕ} → w .end ≡ end.BusError at → t ≡ busError at → Sized ts ps ss ms
+        → Ended (end030 tc (cacheOf ts ps ss ms) code address write w) t ts ps ss ms
+    unfolding end030
+    end-bus e q z = rw e (record { answers = q; leaves = refl; sized = z })
+
+    pub end-stop : w .end ≡ end.LevelStop → t ≡ configuration address → Sized ts ps ss ms
+        → Ended (end030 tc (cacheOf ts ps ss ms) code address write w) t ts ps ss ms
+    unfolding end030
+    end-stop e q z = rw e (record { answers = q; leaves = refl; sized = z })
+
+    pub end-config : w .end ≡ end.Config → t ≡ configuration address → Sized ts ps ss ms
+        → Ended (end030 tc (cacheOf ts ps ss ms) code address write w) t ts ps ss ms
+    unfolding end030
+    end-config e q z = rw e (record { answers = q; leaves = refl; sized = z })
+
+pub end-page : (tc : ℕ) (c : Cache030) (code address : ℕ) (write : Bool) (w : Walked) {t : Translation} {field consumed to : ℕ} {ts ps ss ms : List ℕ}
+    → w .end ≡ end.Page field consumed → to ≡ physicalOf field consumed address
+    → Ended (page030 tc c code address write (w .wp) (w .sup) to) t ts ps ss ms → Ended (end030 tc c code address write w) t ts ps ss ms
+unfolding page030 end030
+end-page tc c code address write w e f k = rw (e, ← f) k

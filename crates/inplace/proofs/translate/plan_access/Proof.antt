@@ -1,0 +1,41 @@
+use Rattle.inplace.proofs.Planning as law
+use borrow.Author.Needs.{needs}
+use Rattle.inplace.proofs.translate.plan_access.Statement.{statement}
+use Rattle.inplace.proofs.translate.plan_access.Tie as tie
+
+lengths-requires : tie.Need-lengths-requires
+lengths-requires c κs = search needs
+
+bad-override-requires : tie.Need-bad-override-requires
+bad-override-requires c κs = search needs
+
+bad-cache-requires : tie.Need-bad-cache-requires
+bad-cache-requires c κs = search needs
+
+no-family-requires : tie.Need-no-family-requires
+no-family-requires c κs = search needs
+
+first-refusal-requires : tie.Need-first-refusal-requires
+first-refusal-requires c κs = search needs
+
+plan-in-order-requires : tie.Need-plan-in-order-requires
+plan-in-order-requires c κs = search needs
+
+returns : tie.Need-returns
+returns c = law.plan-accepted _ _ _ _ _ (law.refusal-is _ _ _ _ _ _ _ _ (c .before .before .before .before .before .no-family .ensures) (c .before .before .before .before .before .before .before .before .before .bad-override .ensures) (c .before .before .before .before .before .before .bad-cache .ensures) (c .before .before .before .before .first-refusal .ensures)) (c .before .before .before .if1 .taken) (c .plan-in-order .ensures)
+
+returns-2 : tie.Need-returns-2
+returns-2 c = law.plan-refused _ _ _ _ (law.refusal-is _ _ _ _ _ _ _ _ (c .before .before .no-family .ensures) (c .before .before .before .before .before .before .bad-override .ensures) (c .before .before .before .bad-cache .ensures) (c .before .first-refusal .ensures)) (c .if1 .left) (search needs)
+
+pub plan-access-spec : {M : Type 1} → statement M
+plan-access-spec =
+    tie.close
+    (tie.spec
+    lengths-requires
+    bad-override-requires
+    bad-cache-requires
+    no-family-requires
+    first-refusal-requires
+    plan-in-order-requires
+    returns
+    returns-2)

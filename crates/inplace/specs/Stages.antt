@@ -1,0 +1,257 @@
+-- A call that walks, in three stages: what is planned without the tables, the walk, and what is concluded from it.
+-- It serves the code alone: the meaning is the definition's, and proofs/Staged.antt ties the two.
+use Prim.Native.Nat.{ℕ, _+_, _/_, _^_, _<_}
+use mathlib.Core.Path.{_≡_}
+use mathlib.Core.List.{List, []}
+use mathlib.Core.Bool.{Bool, true, false, not, _&&_, _||_}
+use lib.Dec.{eqb}
+use lib.ListN.{length}
+use Rattle.definition.specs.Words.{if_then_else_}
+use Rattle.definition.specs.Registers.{on, asSupervisor, asInstruction, walkCode, comparedCode}
+use Rattle.definition.specs.Transparent.{transparent, transparent030}
+use Rattle.definition.specs.Walk030.{everyLevel, shiftOf}
+use Rattle.definition.specs.Walk040.{pageBits, frameOf, physical040}
+use Rattle.definition.specs.Cache030.{Cache030, hitOf, afterHit, flushedPage}
+use Rattle.definition.specs.Cache040.{Cache040, hit040, inserted040}
+use Rattle.definition.specs.Refusal.{Checks, noFamily, not030, aboveSeven, badCache, badOverride, refusalOf}
+use Rattle.definition.specs.Translate.{Caches, Translated, Searched, hitAddress, joined, violation, busError, onPage030, onEnd030}
+use Rattle.definition.specs.Load.{Loaded, stopped}
+use Rattle.definition.specs.Test.{Tested, flag, mmusrOf}
+use Rattle.definition.specs.declared.Registers.{Registers}
+use Rattle.definition.specs.declared.Access.{Access}
+use Rattle.definition.specs.declared.Shift.{Shift}
+use Rattle.definition.specs.declared.Shift.the-variants.{Bits, NoPage}
+use Rattle.definition.specs.declared.Hit.{Hit}
+use Rattle.definition.specs.declared.Hit.the-variants.{At, Miss}
+use Rattle.definition.specs.declared.End040.{End040}
+use Rattle.definition.specs.declared.End040.the-variants as ends
+use Rattle.definition.specs.declared.FaultCause.{FaultCause}
+use Rattle.definition.specs.declared.FaultCause.the-variants as cause
+use Rattle.definition.specs.declared.Translation.{Translation}
+use Rattle.definition.specs.declared.Load.{Load}
+use Rattle.definition.specs.declared.Test.{Test}
+use Rattle.tables.specs.declared.Way.{Way}
+use Rattle.tables.specs.declared.Way.the-variants as way
+use Rattle.tables.specs.declared.Walks.{Walks}
+use Rattle.tables.specs.declared.Walks.the-variants as walks
+use Rattle.tables.specs.declared.Walked.{Walked}
+use Rattle.inplace.specs.declared.Plan.{Plan}
+use Rattle.inplace.specs.declared.Plan.the-variants as plan
+
+-- the checks of a library call, in the order in which they are given
+abbrev pub checksOf : Bool → Bool → Bool → Bool → Bool → Bool → Checks
+checksOf one six five two three four =
+    record { one = one; two = two; three = three; four = four; five = five; six = six; eight = false }
+
+-- a plan, and the caches after it
+pub record Planned : Type 0 where
+  pub plan : Plan
+  pub caches : Caches
+
+abbrev pub planned : Plan → Caches → Planned
+planned p c = record { plan = p; caches = c }
+
+-- the same of the 68030 cache alone
+pub record Planned030 : Type 0 where
+  pub plan : Plan
+  pub cache : Cache030
+
+abbrev pub planned030 : Plan → Cache030 → Planned030
+planned030 p c = record { plan = p; cache = c }
+
+abbrev pub wayOf : Plan → Way
+wayOf (plan.Refused n) = way.Idle
+wayOf (plan.Settled x) = way.Idle
+wayOf (plan.Walk w) = w
+
+-- the 68030 cache of a pair replaced
+abbrev pub with030Of : Caches → Cache030 → Caches
+with030Of c x = record { c030 = x; c040 = c .c040 }
+
+-- and the 68040 cache
+abbrev pub with040Of : Caches → Cache040 → Caches
+with040Of c x = record { c030 = c .c030; c040 = x }
+
+abbrev pub besidePlan : Caches → Planned030 → Planned
+besidePlan c p = planned (p .plan) (with030Of c (p .cache))
+
+-- ---- translate
+abbrev pub lookPlan : ℕ → ℕ → ℕ → Hit → Plan
+lookPlan code address shift (At base) = Plan.Settled (hitAddress base address shift)
+lookPlan code address shift Miss = Plan.Walk (Way.By030 code everyLevel)
+
+abbrev pub plan030 : Cache030 → Bool → ℕ → ℕ → Bool → Shift → Planned030
+plan030 c recorded code address write NoPage = planned030 (Plan.Walk (Way.By030 code everyLevel)) c
+plan030 c recorded code address write (Bits shift) =
+    planned030 (lookPlan code address shift (hitOf c code (address / 2 ^ shift) shift write))
+    (afterHit c recorded code (address / 2 ^ shift) shift)
+
+abbrev pub lookPlan040 : ℕ → ℕ → Bool → Hit → Plan
+lookPlan040 tc address supervisor (At base) = Plan.Settled (joined tc base address)
+lookPlan040 tc address supervisor Miss = Plan.Walk (Way.By040 supervisor)
+
+abbrev pub plan040 : ℕ → Cache040 → ℕ → Bool → Bool → Plan
+plan040 tc c address supervisor write =
+    lookPlan040 tc address supervisor (hit040 c (address / 2 ^ pageBits tc) supervisor write)
+
+unfoldable pub planInOrder : Registers → Access → Caches → Planned
+planInOrder g a c =
+    if not (on g)
+    then planned (Plan.Settled (a .address)) c
+    else if transparent g (a .address) (comparedCode a) (asInstruction a)
+    then planned (Plan.Settled (a .address)) c
+    else if eqb (g .family) 30
+    then besidePlan c (plan030 (c .c030) (a .recorded) (walkCode a) (a .address) (a .write) (shiftOf (g .tc)))
+    else planned (plan040 (g .tc) (c .c040) (a .address) (asSupervisor a) (a .write)) c
+
+-- two: the base is bad; three: a range is crossed
+unfoldable pub accessRefusal : Registers → Access → Bool → Bool → Cache030 → ℕ
+accessRefusal g a two three c =
+    refusalOf (checksOf (noFamily (g .family)) false (badOverride (a .code)) two three (badCache c))
+
+unfoldable pub planAccess : Registers → Access → Bool → Bool → Caches → Planned
+planAccess g a two three c =
+    if eqb (accessRefusal g a two three (c .c030)) 0
+    then planInOrder g a c
+    else planned (Plan.Refused (accessRefusal g a two three (c .c030))) c
+
+-- an answer, its count and the next caches
+pub record Answered : Type 0 where
+  pub answer : Translation
+  pub count : ℕ
+  pub caches : Caches
+
+abbrev pub answered : Translation → ℕ → Caches → Answered
+answered t n c = record { answer = t; count = n; caches = c }
+
+abbrev pub shownTranslated : Translated → Answered
+shownTranslated t = answered (t .answer) (length (t .asked)) (t .caches)
+
+-- the cause of an invalid descriptor, and the answer of a page that S allows
+abbrev pub missingCause : Bool → FaultCause
+missingCause indirect = if indirect then cause.Indirect else cause.PageFault
+
+unfoldable pub permittedOf : Bool → Bool → ℕ → ℕ → Translation
+permittedOf write wp address physical =
+    if write && wp then violation cause.WriteProtect address else Translation.Address physical
+
+-- what a page that a 68030 walk found gives, and what any end of it gives, with the next 68030 cache
+unfoldable pub page030 : ℕ → Cache030 → ℕ → ℕ → Bool → Bool → Bool → ℕ → Searched
+page030 tc c code address write wp sup physical = onPage030 tc c code address write wp sup [] physical
+
+unfoldable pub end030 : ℕ → Cache030 → ℕ → ℕ → Bool → Walked → Searched
+end030 tc c code address write w = onEnd030 tc c code address write (w .wp) (w .sup) [] (w .end)
+
+-- what a resident 68040 page gives, and what any end of the walk gives, with the next 68040 cache
+pub record Searched040 : Type 0 where
+  pub answer : Translation
+  pub cache : Cache040
+
+abbrev pub searched040 : Translation → Cache040 → Searched040
+searched040 t c = record { answer = t; cache = c }
+
+unfoldable pub resident040 : ℕ → Cache040 → ℕ → Bool → Bool → ℕ → Bool → Bool → Searched040
+resident040 tc c address supervisor write field wp sup =
+    if write && wp
+    then searched040 (violation cause.WriteProtect address) c
+    else if not supervisor && sup
+    then searched040 (violation cause.SupervisorProtect address) c
+    else searched040 (Translation.Address (physical040 tc field address))
+    (inserted040 c (address / 2 ^ pageBits tc) supervisor (frameOf tc field) wp sup)
+
+unfoldable pub end040 : ℕ → Cache040 → ℕ → Bool → Bool → End040 → Searched040
+end040 tc c address supervisor write (ends.Resident field wp sup) = resident040 tc c address supervisor write field wp sup
+end040 tc c address supervisor write (ends.Absent missing) = searched040 (violation missing address) c
+end040 tc c address supervisor write (ends.Lost at) = searched040 (busError at) c
+
+unfoldable pub onWalks : Registers → Access → Caches → Walks → Answered
+onWalks g a c walks.Idle = answered (Translation.Address (a .address)) 0 c
+onWalks g a c (walks.By030 w) =
+    answered (end030 (g .tc) (c .c030) (walkCode a) (a .address) (a .write) w .answer) (w .asked)
+    (with030Of c (end030 (g .tc) (c .c030) (walkCode a) (a .address) (a .write) w .cache))
+onWalks g a c (walks.By040 w) =
+    answered (end040 (g .tc) (c .c040) (a .address) (asSupervisor a) (a .write) (w .end) .answer) (w .asked)
+    (with040Of c (end040 (g .tc) (c .c040) (a .address) (asSupervisor a) (a .write) (w .end) .cache))
+
+unfoldable pub concludeAccess : Registers → Access → Caches → Plan → Walks → Answered
+concludeAccess g a c (plan.Refused n) w = answered (Translation.Refused n) 0 c
+concludeAccess g a c (plan.Settled x) w = answered (Translation.Address x) 0 c
+concludeAccess g a c (plan.Walk x) w = onWalks g a c w
+
+-- ---- load
+-- a load that walks has a code below 8
+abbrev pub Coded : Plan → ℕ → Type 0
+Coded p code = (w : Way) → p ≡ Plan.Walk w → code < 8
+
+abbrev pub loadPlan : Bool → ℕ → Plan
+loadPlan stop code = if stop then Plan.Settled 0 else Plan.Walk (Way.By030 code everyLevel)
+
+unfoldable pub loadRefusal : Registers → ℕ → Bool → Bool → Cache030 → ℕ
+loadRefusal g code two three c =
+    refusalOf (checksOf (noFamily (g .family)) (not030 (g .family)) (aboveSeven code) two three (badCache c))
+
+unfoldable pub planLoad : Registers → ℕ → ℕ → Bool → Bool → Cache030 → Planned030
+planLoad g code address two three c =
+    if eqb (loadRefusal g code two three c) 0
+    then if not (on g)
+    then planned030 (Plan.Settled 0) c
+    else planned030 (loadPlan (stopped (shiftOf (g .tc)) (transparent030 g address code)) code) (flushedPage c code 7 address)
+    else planned030 (Plan.Refused (loadRefusal g code two three c)) c
+
+-- an answer, its count and the next 68030 cache
+pub record LoadEnded : Type 0 where
+  pub answer : Load
+  pub count : ℕ
+  pub cache : Cache030
+
+abbrev pub loadEnded : Load → ℕ → Cache030 → LoadEnded
+loadEnded l n c = record { answer = l; count = n; cache = c }
+
+-- the definition's, with the 68030 cache alone: the other one stays
+abbrev pub shownLoaded : Loaded → LoadEnded
+shownLoaded l = loadEnded (l .answer) (length (l .asked)) (l .caches .c030)
+
+unfoldable pub loadWalks : ℕ → ℕ → ℕ → Bool → Cache030 → Walks → LoadEnded
+loadWalks tc code address write c walks.Idle = loadEnded Load.Loaded 0 c
+loadWalks tc code address write c (walks.By030 w) =
+    loadEnded Load.Loaded (w .asked) (end030 tc c code address write w .cache)
+loadWalks tc code address write c (walks.By040 w) = loadEnded Load.Loaded 0 c
+
+unfoldable pub concludeLoad : ℕ → ℕ → ℕ → Bool → Cache030 → Plan → Walks → LoadEnded
+concludeLoad tc code address write c (plan.Refused n) w = loadEnded (Load.Refused n) 0 c
+concludeLoad tc code address write c (plan.Settled x) w = loadEnded Load.Loaded 0 c
+concludeLoad tc code address write c (plan.Walk x) w = loadWalks tc code address write c w
+
+-- ---- test
+unfoldable pub testRefusal : Registers → ℕ → ℕ → Bool → Bool → ℕ
+testRefusal g code level two three =
+    refusalOf (checksOf (noFamily (g .family)) (not030 (g .family)) (aboveSeven code || aboveSeven level) two three false)
+
+unfoldable pub planTest : Registers → ℕ → ℕ → ℕ → Bool → Bool → Plan
+planTest g code level address two three =
+    if eqb (testRefusal g code level two three) 0
+    then if eqb level 0
+    then Plan.Settled (flag (transparent030 g address code) 0x0040)
+    else Plan.Walk (Way.By030 code level)
+    else Plan.Refused (testRefusal g code level two three)
+
+pub record TestAnswered : Type 0 where
+  pub answer : Test
+  pub count : ℕ
+
+abbrev pub testAnswered : Test → ℕ → TestAnswered
+testAnswered t n = record { answer = t; count = n }
+
+abbrev pub shownTested : Tested → TestAnswered
+shownTested t = testAnswered (t .answer) (length (t .asked))
+
+unfoldable pub testWalks : ℕ → Walks → TestAnswered
+testWalks code walks.Idle = testAnswered (Test.Status 0 0) 0
+testWalks code (walks.By030 w) =
+    testAnswered (Test.Status (mmusrOf code (w .wp) (w .sup) (w .levels) (w .end)) (w .last)) (w .asked)
+testWalks code (walks.By040 w) = testAnswered (Test.Status 0 0) 0
+
+unfoldable pub concludeTest : ℕ → Plan → Walks → TestAnswered
+concludeTest code (plan.Refused n) w = testAnswered (Test.Refused n) 0
+concludeTest code (plan.Settled x) w = testAnswered (Test.Status x 0) 0
+concludeTest code (plan.Walk x) w = testWalks code w

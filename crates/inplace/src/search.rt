@@ -1,0 +1,207 @@
+// A 68030 search: what is planned before the walk, and what the walk's end gives. Translate and load share it.
+use crate::Plan;
+use cache::atc030::insert;
+use cache::atc030::look;
+use definition::End;
+use definition::FaultCause;
+use definition::FaultKind;
+use definition::Hit;
+use definition::Shift;
+use definition::Translation;
+use tables::Walked;
+use tables::Way;
+ghost use mathlib.Core.Path.{_≡_};
+ghost use Prim.Native.Nat.{_<_};
+ghost use Rattle.definition.specs.Walk030.{shiftOf};
+ghost use Rattle.definition.specs.Cache030.{Cache030};
+ghost use Rattle.definition.specs.Translate.{violation, busError, configuration, cached};
+ghost use Rattle.cache.specs.Atc030.{cacheOf, Sized, Stepped};
+ghost use Rattle.inplace.specs.Stages.{lookPlan, plan030, missingCause, permittedOf, page030, end030};
+ghost use Rattle.inplace.specs.InPlace.{PlannedIn030, Ended};
+
+// By what the look gave: a hit adds the address's low page-shift bits.
+fn looked(hit: Hit, code: u32, address: u32, shift: u32) -> Plan
+    ensures { λ r. ⌜ r ≡ lookPlan code address shift hit ⌝ }
+{
+    match hit {
+        Hit::At(base) => Plan::Settled(tables::hit_address(base, address, shift)),
+        Hit::Miss => Plan::Walk(Way::By030 { code, limit: 5 }),
+    }
+}
+
+// The cache, where there is a page shift; else the walk.
+pub fn plan_030(
+    tags: &[u64; 22],
+    pages: &[u64; 22],
+    stamps: &mut [u64; 22],
+    marks: &mut [u64; 3],
+    tc: u32,
+    code: u32,
+    address: u32,
+    write: bool,
+    recorded: bool,
+) -> Plan
+    requires { ⌜ (code < 8) × Sized (now tags) (now pages) (now stamps) (now marks) ⌝ }
+    ensures { λ r. ⌜ PlannedIn030 (plan030 (cacheOf (now (tags .entry)) (now (pages .entry)) (now (stamps .entry)) (now (marks .entry))) recorded code address write (shiftOf tc)) r (now (tags .entry)) (now (pages .entry)) (now (stamps .exit)) (now (marks .exit)) ⌝ }
+{
+    match tables::page_shift(tc) {
+        Shift::NoPage => Plan::Walk(Way::By030 { code, limit: 5 }),
+        Shift::Bits(shift) => {
+            let page = address >> shift;
+            let hit = look(
+                tags,
+                pages,
+                stamps,
+                marks,
+                code,
+                page,
+                shift,
+                write,
+                recorded,
+            );
+            looked(hit, code, address, shift)
+        }
+    }
+}
+
+// A fault of an access: AccessLevelViolation, which reports the logical address.
+pub fn fault(cause: FaultCause, address: u32) -> Translation
+    ensures { λ r. ⌜ r ≡ violation cause address ⌝ }
+{
+    Translation::Fault {
+        kind: FaultKind::AccessLevelViolation,
+        cause,
+        address,
+    }
+}
+
+// Bus error: kind BusError, cause TableWalkBusError, at the long that failed.
+pub fn bus_fault(at: u32) -> Translation
+    ensures { λ r. ⌜ r ≡ busError at ⌝ }
+{
+    Translation::Fault {
+        kind: FaultKind::BusError,
+        cause: FaultCause::TableWalkBusError,
+        address: at,
+    }
+}
+
+// Configuration: kind ConfigurationError, cause PageFault.
+fn configuration_fault(address: u32) -> Translation
+    ensures { λ r. ⌜ r ≡ configuration address ⌝ }
+{
+    Translation::Fault {
+        kind: FaultKind::ConfigurationError,
+        cause: FaultCause::PageFault,
+        address,
+    }
+}
+
+// Invalid: PageFault, or Indirect for a bad target.
+fn missing_cause(indirect: bool) -> FaultCause
+    ensures { λ r. ⌜ r ≡ missingCause indirect ⌝ }
+{
+    if indirect {
+        return FaultCause::Indirect;
+    }
+    FaultCause::PageFault
+}
+
+// The page's base is cached, where there is a page shift.
+fn cache_page(
+    tags: &mut [u64; 22],
+    pages: &mut [u64; 22],
+    stamps: &mut [u64; 22],
+    marks: &mut [u64; 3],
+    tc: u32,
+    code: u32,
+    address: u32,
+    physical: u32,
+    wp: bool,
+)
+    requires { ⌜ (code < 8) × Sized (now tags) (now pages) (now stamps) (now marks) ⌝ }
+    ensures { λ _. ⌜ Stepped (λ (c : Cache030). cached (shiftOf tc) c code address physical wp) (now (tags .entry)) (now (pages .entry)) (now (stamps .entry)) (now (marks .entry)) (now (tags .exit)) (now (pages .exit)) (now (stamps .exit)) (now (marks .exit)) ⌝ }
+{
+    match tables::page_shift(tc) {
+        Shift::NoPage => {}
+        Shift::Bits(shift) => {
+            let page = address >> shift;
+            let base = tables::page_base(physical, address, shift);
+            insert(tags, pages, stamps, marks, code, page, shift, base, wp);
+        }
+    }
+}
+
+// A write with WP gives WriteProtect.
+fn permitted(write: bool, wp: bool, address: u32, physical: u32) -> Translation
+    ensures { λ r. ⌜ r ≡ permittedOf write wp address physical ⌝ }
+{
+    if write & wp {
+        return fault(FaultCause::WriteProtect, address);
+    }
+    Translation::Address(physical)
+}
+
+// S set and a user access: SupervisorProtect, nothing cached. Otherwise the page's base is cached, and then WP is looked at.
+fn page_found(
+    tags: &mut [u64; 22],
+    pages: &mut [u64; 22],
+    stamps: &mut [u64; 22],
+    marks: &mut [u64; 3],
+    tc: u32,
+    code: u32,
+    address: u32,
+    write: bool,
+    wp: bool,
+    sup: bool,
+    physical: u32,
+) -> Translation
+    requires { ⌜ (code < 8) × Sized (now tags) (now pages) (now stamps) (now marks) ⌝ }
+    ensures { λ r. ⌜ Ended (page030 tc (cacheOf (now (tags .entry)) (now (pages .entry)) (now (stamps .entry)) (now (marks .entry))) code address write wp sup physical) r (now (tags .exit)) (now (pages .exit)) (now (stamps .exit)) (now (marks .exit)) ⌝ }
+{
+    if sup & !((code >> 2) % 2 == 1) {
+        return fault(FaultCause::SupervisorProtect, address);
+    }
+    cache_page(tags, pages, stamps, marks, tc, code, address, physical, wp);
+    permitted(write, wp, address, physical)
+}
+
+// What a walk's end gives.
+pub fn end_030(
+    tags: &mut [u64; 22],
+    pages: &mut [u64; 22],
+    stamps: &mut [u64; 22],
+    marks: &mut [u64; 3],
+    tc: u32,
+    code: u32,
+    address: u32,
+    write: bool,
+    w: Walked,
+) -> Translation
+    requires { ⌜ (code < 8) × Sized (now tags) (now pages) (now stamps) (now marks) ⌝ }
+    ensures { λ r. ⌜ Ended (end030 tc (cacheOf (now (tags .entry)) (now (pages .entry)) (now (stamps .entry)) (now (marks .entry))) code address write w) r (now (tags .exit)) (now (pages .exit)) (now (stamps .exit)) (now (marks .exit)) ⌝ }
+{
+    let end = w.end;
+    match end {
+        End::Page { field, consumed } => {
+            let to = tables::physical(field, consumed, address);
+            page_found(
+                tags,
+                pages,
+                stamps,
+                marks,
+                tc,
+                code,
+                address,
+                write,
+                w.wp,
+                w.sup,
+                to,
+            )
+        }
+        End::Invalid { indirect } => fault(missing_cause(indirect), address),
+        End::BusError { at } => bus_fault(at),
+        End::LevelStop => configuration_fault(address),
+        End::Config => configuration_fault(address),
+    }
+}
