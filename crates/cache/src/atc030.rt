@@ -200,7 +200,7 @@ fn permitted(p: u64, write: bool) -> Hit
     Hit::At(p / 2)
 }
 
-// A look: the base of the page's entry, and a recorded hit is a use.
+// A look: the base of the page's entry, and a recorded hit is a use. A code has three bits, here and below.
 pub fn look(
     tags: &[u64; 22],
     pages: &[u64; 22],
@@ -212,12 +212,11 @@ pub fn look(
     write: bool,
     recorded: bool,
 ) -> Hit
-    requires { ⌜ code < 8 ⌝ }
-    ensures { λ r. ⌜ Looked (now (tags .entry)) (now (pages .entry)) (now (stamps .entry)) (now (marks .entry)) code page shift write recorded r (now (stamps .exit)) (now (marks .exit)) ⌝ }
+    ensures { λ r. ⌜ Looked (now (tags .entry)) (now (pages .entry)) (now (stamps .entry)) (now (marks .entry)) (code % 8) page shift write recorded r (now (stamps .exit)) (now (marks .exit)) ⌝ }
 {
     lengths(tags, pages);
     lengths(stamps, marks);
-    let i = held(tags, marks, key_of(code, page), shift);
+    let i = held(tags, marks, key_of(code % 8, page), shift);
     if 22 <= i {
         return Hit::Miss;
     }
@@ -236,12 +235,11 @@ pub fn probe(
     shift: u32,
     write: bool,
 ) -> Hit
-    requires { ⌜ code < 8 ⌝ }
-    ensures { λ r. ⌜ r ≡ hitOf (cacheOf (now (tags .entry)) (now (pages .entry)) (now (stamps .entry)) (now (marks .entry))) code page shift write ⌝ }
+    ensures { λ r. ⌜ r ≡ hitOf (cacheOf (now (tags .entry)) (now (pages .entry)) (now (stamps .entry)) (now (marks .entry))) (code % 8) page shift write ⌝ }
 {
     lengths(tags, pages);
     lengths(stamps, marks);
-    let i = held(tags, marks, key_of(code, page), shift);
+    let i = held(tags, marks, key_of(code % 8, page), shift);
     if 22 <= i {
         return Hit::Miss;
     }
@@ -378,13 +376,12 @@ pub fn insert(
     base: u32,
     wp: bool,
 )
-    requires { ⌜ code < 8 ⌝ }
-    ensures { λ _. ⌜ Stepped (λ (c : Cache030). inserted c code page shift base wp) (now (tags .entry)) (now (pages .entry)) (now (stamps .entry)) (now (marks .entry)) (now (tags .exit)) (now (pages .exit)) (now (stamps .exit)) (now (marks .exit)) ⌝ }
+    ensures { λ _. ⌜ Stepped (λ (c : Cache030). inserted c (code % 8) page shift base wp) (now (tags .entry)) (now (pages .entry)) (now (stamps .entry)) (now (marks .entry)) (now (tags .exit)) (now (pages .exit)) (now (stamps .exit)) (now (marks .exit)) ⌝ }
 {
     lengths(tags, pages);
     lengths(stamps, marks);
     fit(tags, pages, stamps, marks, shift);
-    let key = key_of(code, page);
+    let key = key_of(code % 8, page);
     let i = place(tags, stamps, key);
     tags[i] = key;
     pages[i] = (base as u64) * 2 + flag(wp);

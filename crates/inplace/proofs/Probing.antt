@@ -1,5 +1,5 @@
 -- What the parts of a probe give together. Assumes nothing.
-use Prim.Native.Nat.{ℕ, _/_, _^_, _<_}
+use Prim.Native.Nat.{ℕ, _/_, _%_, _^_, _<_}
 use mathlib.Core.Path.{_≡_, refl, ap, sym, _∙_}
 use mathlib.Core.Bool.{Bool, true, false, not}
 use borrow.Author.Tests.{eq-eqb, ne-eqb}
@@ -21,6 +21,7 @@ use Rattle.definition.specs.declared.Hit.{Hit}
 use Rattle.definition.specs.declared.Hit.the-variants.{At, Miss}
 use Rattle.definition.specs.declared.Probe.{Probe}
 use Rattle.inplace.specs.Stages.{checksOf}
+use Rattle.inplace.proofs.Searching.{in-three-bits}
 use Rattle.inplace.proofs.Planning.{code-small}
 
 -- ---- the 68030 cache
@@ -28,12 +29,15 @@ module _ (c : Cache030) (code : ℕ) (write : Bool) (address : ℕ) {r s : Shift
   pub none-030 : r ≡ NoPage → Probe.Nothing ≡ probe030 c code write address s
   none-030 e = rw (sym is ∙ e)
 
-  module _ {shift : ℕ} {h : Hit} (e : r ≡ Bits shift) (look : h ≡ hitOf c code (address / 2 ^ shift) shift write) where
+  module _ {shift : ℕ} {h : Hit} (small : code < 8) (e : r ≡ Bits shift) (look : h ≡ hitOf c (code % 8) (address / 2 ^ shift) shift write) where
+    held : {x : Hit} → h ≡ x → hitOf c code (address / 2 ^ shift) shift write ≡ x
+    held f = rw (← in-three-bits small) (sym look ∙ f)
+
     pub at-030 : {base to : ℕ} → h ≡ At base → to ≡ hitAddress base address shift → Probe.Address to ≡ probe030 c code write address s
-    at-030 f t = rw (sym is ∙ e, sym look ∙ f, t)
+    at-030 f t = rw (sym is ∙ e, held f, t)
 
     pub miss-030 : h ≡ Miss → Probe.Nothing ≡ probe030 c code write address s
-    miss-030 f = rw (sym is ∙ e, sym look ∙ f)
+    miss-030 f = rw (sym is ∙ e, held f)
 
 -- ---- the 68040 cache
 module _ (g : Registers) (c : Cache040) (own write : Bool) (address : ℕ) {bits : ℕ} {h : Hit} (is : bits ≡ pageBits (g .tc))

@@ -1,9 +1,10 @@
 -- What the parts of a 68030 search give together. Assumes nothing.
-use Prim.Native.Nat.{ℕ, _+_, _-_, _/_, _^_, _≤_, _<_}
+use Prim.Native.Nat.{ℕ, _+_, _-_, _/_, _%_, _^_, _≤_, _<_}
 use mathlib.Core.Path.{_≡_, refl, ap, sym, _∙_}
 use mathlib.Core.List.{List, []}
 use mathlib.Core.Bool.{Bool, true, false, not, _&&_}
 use native.Mathlib.Omega.{arith}
+use native.Mathlib.Nat.{mod-eq-of-lt}
 use borrow.Author.Tests.{leb-true}
 use lib.Dec.{leb}
 use Rattle.definition.specs.Words.{if_then_else_, bitOf}
@@ -41,6 +42,10 @@ from-small sum s e = go (leb 1 sum) (leb sum 31) refl e
 pub shift-small : (tc : ℕ) {r : Shift} {s : ℕ} → r ≡ shiftOf tc → r ≡ Bits s → s < 32
 shift-small tc {r} {s} e f = from-small (isOf tc + sumOf (used (widthsOf tc))) s (sym e ∙ f)
 
+-- a code below 8 is the code that a look or an insert takes
+pub in-three-bits : {code : ℕ} → code < 8 → code % 8 ≡ code
+in-three-bits h = mod-eq-of-lt h
+
 module _ {ts ps ss ms : List ℕ} (code address : ℕ) {r s : Shift} (is : r ≡ s) where
   -- ---- the plan
   module _ (write recorded : Bool) where
@@ -48,25 +53,26 @@ module _ {ts ps ss ms : List ℕ} (code address : ℕ) {r s : Shift} (is : r ≡
         → PlannedIn030 (plan030 (cacheOf ts ps ss ms) recorded code address write s) (Plan.Walk (Way.By030 code 5)) ts ps ss ms
     plan-none none z = rw (sym is ∙ none) (record { plans = refl; leaves = refl; sized = z })
 
-    pub plan-look : {shift : ℕ} {hit : Hit} {p : Plan} {ss′ ms′ : List ℕ} → r ≡ Bits shift
-        → Looked ts ps ss ms code (address / 2 ^ shift) shift write recorded hit ss′ ms′ → p ≡ lookPlan code address shift hit
+    pub plan-look : {shift : ℕ} {hit : Hit} {p : Plan} {ss′ ms′ : List ℕ} → code < 8 → r ≡ Bits shift
+        → Looked ts ps ss ms (code % 8) (address / 2 ^ shift) shift write recorded hit ss′ ms′ → p ≡ lookPlan code address shift hit
         → PlannedIn030 (plan030 (cacheOf ts ps ss ms) recorded code address write s) p ts ps ss′ ms′
-    plan-look {shift} some k q =
+    plan-look {shift} {hit} {p} {ss′} {ms′} small some k q =
+        let looked : Looked ts ps ss ms code (address / 2 ^ shift) shift write recorded hit ss′ ms′ = rw (← in-three-bits small) k in
         rw (sym is ∙ some)
-        (record { plans = q ∙ ap (lookPlan code address shift) (k .answers); leaves = k .steps .leaves; sized = k .steps .sized })
+        (record { plans = q ∙ ap (lookPlan code address shift) (looked .answers); leaves = looked .steps .leaves; sized = k .steps .sized })
 
   -- ---- what is cached
   module _ (physical : ℕ) (wp : Bool) where
     pub cache-none : r ≡ NoPage → Sized ts ps ss ms → Stepped (λ (c : Cache030). cached s c code address physical wp) ts ps ss ms ts ps ss ms
     cache-none none z = rw (sym is ∙ none) (record { leaves = refl; sized = z })
 
-    pub cache-put : {shift base : ℕ} {ts′ ps′ ss′ ms′ : List ℕ} → r ≡ Bits shift → base ≡ baseOf physical address shift
-        → Stepped (λ (c : Cache030). inserted c code (address / 2 ^ shift) shift base wp) ts ps ss ms ts′ ps′ ss′ ms′
+    pub cache-put : {shift base : ℕ} {ts′ ps′ ss′ ms′ : List ℕ} → code < 8 → r ≡ Bits shift → base ≡ baseOf physical address shift
+        → Stepped (λ (c : Cache030). inserted c (code % 8) (address / 2 ^ shift) shift base wp) ts ps ss ms ts′ ps′ ss′ ms′
         → Stepped (λ (c : Cache030). cached s c code address physical wp) ts ps ss ms ts′ ps′ ss′ ms′
-    cache-put {shift} some b k =
+    cache-put {shift} small some b k =
         rw (sym is ∙ some)
         (record {
-          leaves = k .leaves ∙ ap (λ (n : ℕ). inserted (cacheOf ts ps ss ms) code (address / 2 ^ shift) shift n wp) b;
+          leaves = k .leaves ∙ rw (in-three-bits small, b) refl;
           sized = k .sized;
         })
 

@@ -1,3 +1,5 @@
+use native.Mathlib.Omega.{arith}
+use native.Mathlib.Nat.{mod-lt}
 use borrow.Author.Needs.{needs}
 use Rattle.cache.proofs.Laws030.{inserted-put}
 use Rattle.cache.proofs.atc030.insert.Statement.{statement}
@@ -44,7 +46,7 @@ stamp-requires c κs = search needs
 
 returns : tie.Need-returns
 returns c =
-    inserted-put _ _ _ _ _ _ _ (c .before .before .before .before .before .before .before .before .fit .ensures) _ _ _ _ _ _ _ _ _ (search needs) (c .before .before .before .before .before .before .before .key-of .ensures) (c .before .before .before .before .place .ensures .0)
+    inserted-put _ _ _ _ _ _ _ (c .before .before .before .before .before .before .before .before .fit .ensures) _ _ _ _ _ _ _ _ _ (mod-lt _ (omega arith)) (c .before .before .before .before .before .before .before .key-of .ensures) (c .before .before .before .before .place .ensures .0)
     (c .before .before .before .flag .ensures .0) (c .stamp .ensures .0) (c .stamp .ensures .1)
 
 pub insert-spec : {M : Type 1} → statement M

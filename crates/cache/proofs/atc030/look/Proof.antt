@@ -1,3 +1,5 @@
+use native.Mathlib.Omega.{arith}
+use native.Mathlib.Nat.{mod-lt}
 use borrow.Author.Needs.{needs}
 use Rattle.cache.proofs.Laws030.{missed, looked}
 use Rattle.cache.proofs.atc030.look.Statement.{statement}
@@ -16,7 +18,7 @@ held-requires : tie.Need-held-requires
 held-requires c κs = search needs
 
 returns : tie.Need-returns
-returns c = missed _ _ _ _ (search needs) _ _ _ _ _ (search needs) (c .before .before .key-of .ensures) (c .before .held .ensures) _ _ (c .if1 .taken)
+returns c = missed _ _ _ _ (search needs) _ _ _ _ _ (mod-lt _ (omega arith)) (c .before .before .key-of .ensures) (c .before .held .ensures) _ _ (c .if1 .taken)
 
 touch-requires : tie.Need-touch-requires
 touch-requires c κs = search needs
@@ -32,7 +34,7 @@ permitted-requires c κs = search needs
 
 returns-2 : tie.Need-returns-2
 returns-2 c =
-    looked _ _ _ _ (search needs) _ _ _ _ _ (search needs) (c .before .before .before .before .before .before .before .key-of .ensures) (c .before .before .before .before .before .before .held .ensures) _ _ _ _ _ (search needs)
+    looked _ _ _ _ (search needs) _ _ _ _ _ (mod-lt _ (omega arith)) (c .before .before .before .before .before .before .before .key-of .ensures) (c .before .before .before .before .before .before .held .ensures) _ _ _ _ _ (search needs)
     (c .permitted .ensures) (c .before .before .touch .ensures)
 
 pub look-spec : {M : Type 1} → statement M

@@ -1,3 +1,5 @@
+use native.Mathlib.Omega.{arith}
+use native.Mathlib.Nat.{mod-lt}
 use borrow.Author.Needs.{needs}
 use Rattle.cache.proofs.Laws030.{miss-at, hit-at}
 use Rattle.cache.proofs.atc030.probe.Statement.{statement}
@@ -16,7 +18,7 @@ held-requires : tie.Need-held-requires
 held-requires c κs = search needs
 
 returns : tie.Need-returns
-returns c = miss-at _ _ _ _ (search needs) _ _ _ _ _ (search needs) (c .before .before .key-of .ensures) (c .before .held .ensures) _ (c .if1 .taken)
+returns c = miss-at _ _ _ _ (search needs) _ _ _ _ _ (mod-lt _ (omega arith)) (c .before .before .key-of .ensures) (c .before .held .ensures) _ (c .if1 .taken)
 
 mul-permitted : tie.Need-mul-permitted
 mul-permitted c = search needs
@@ -29,7 +31,7 @@ permitted-requires c κs = search needs
 
 returns-2 : tie.Need-returns-2
 returns-2 c =
-    hit-at _ _ _ _ (search needs) _ _ _ _ _ (search needs) (c .before .before .before .before .key-of .ensures) (c .before .before .before .held .ensures) _ _ (search needs) (c .permitted .ensures)
+    hit-at _ _ _ _ (search needs) _ _ _ _ _ (mod-lt _ (omega arith)) (c .before .before .before .before .key-of .ensures) (c .before .before .before .held .ensures) _ _ (search needs) (c .permitted .ensures)
 
 pub probe-spec : {M : Type 1} → statement M
 probe-spec =
