@@ -8,12 +8,8 @@ def translated(facts):
 
 
 # x4 are the registers, x5 the code, x6 whether it is a write, x7 the address, x8 the caches
-def planned_load(facts):
-    return f'x4 x5 x7 x8 _ _ {facts("planned_load")}'
-
-
 def loaded(facts):
-    return f'law.loads {planned_load(facts)} x6 {MEMORY} {facts("bad_longs", "any_crossed", "wanted", "walk_for", "concluded_load")}'
+    return f'law.loads x4 x5 x7 x8 _ _ {facts("planned_load")} x6 {MEMORY} {facts("bad_longs", "any_crossed", "wanted", "walk_for", "concluded_load")}'
 
 
 # x4 are the registers, x5 the code, x6 whether it is a write, x7 the level, x8 the address
@@ -27,11 +23,7 @@ def flushes(name):
 
 FUNCTIONS = {
     'by_value.translate': dict(law='ByValue', ends=translated),
-    'by_value.load': dict(
-        law='ByValue',
-        pre={'concluded_load': lambda facts: f'law.load-asks {planned_load(facts)}'},
-        ends=loaded,
-    ),
+    'by_value.load': dict(law='ByValue', ends=loaded),
     'by_value.test': dict(law='ByValue', ends=tested),
     'pair.translate_pair': dict(law='ByValue', ends=lambda facts: f'law.translates-in {facts("translate", "translated_caches", "translated_outcome")}'),
     'pair.load_pair': dict(law='ByValue', ends=lambda facts: f'law.loads-in {facts("load", "loaded_caches", "loaded_outcome")}'),

@@ -1,5 +1,5 @@
 -- From a plan and its walk to the call: translate, load. Assumes nothing.
-use Prim.Native.Nat.{ℕ, _<_}
+use Prim.Native.Nat.{ℕ, _%_, _<_}
 use mathlib.Core.Path.{_≡_, refl, ap, sym, _∙_}
 use mathlib.Core.List.{List}
 use mathlib.Core.Bool.{Bool, true, false, not}
@@ -32,6 +32,7 @@ use Rattle.inplace.specs.declared.Plan.the-variants as plan
 use Rattle.inplace.specs.Stages.{checksOf, Planned030, planned030, wayOf, planAccess, shownTranslated, onWalks, concludeAccess, end030, loadPlan, loadRefusal, planLoad, shownLoaded, loadWalks, concludeLoad}
 use Rattle.inplace.specs.InPlace.{cachesOf, pairWith, PlannedIn, PlannedIn030, Ended, AnsweredIn, LoadedIn}
 use Rattle.inplace.proofs.Staged.{translated-by, load-staged}
+use Rattle.inplace.proofs.Searching.{in-three-bits}
 use Rattle.inplace.proofs.Concluding.{concluded-refused, concluded-settled, concluded-walk}
 
 -- ---- translate
@@ -95,7 +96,7 @@ below-eight false false false two three four e = refl
 walk-not-refused : {n : ℕ} {way : Way} → Plan.Refused n ≡ plan.Walk way → ⊥
 walk-not-refused e = let z : _≡_ {A = ℕ} 0 1 = cc in omega arith
 
-pub load-code : (g : Registers) (code address : ℕ) (two three : Bool) (c : Cache030) {p : Plan} {way : Way}
+load-code : (g : Registers) (code address : ℕ) (two three : Bool) (c : Cache030) {p : Plan} {way : Way}
     → p ≡ planLoad g code address two three c .plan → p ≡ plan.Walk way → code < 8
 unfolding planLoad loadRefusal
 load-code g code address two three c {p} {way} e f =
@@ -107,6 +108,17 @@ load-code g code address two three c {p} {way} e f =
     go false h x q = absurd (walk-not-refused q)
 
 -- ---- load: the conclusion
+-- it needs three bits of the code: where it walks, the code is below 8
+conclude-in-three-bits : (g : Registers) (code address : ℕ) (write two three : Bool) (c d : Cache030) (w : Walks) {p : Plan} → p ≡ planLoad g code address two three c .plan
+    → concludeLoad (g .tc) (code % 8) address write d p w ≡ concludeLoad (g .tc) code address write d p w
+unfolding concludeLoad
+conclude-in-three-bits g code address write two three c d w {p} e = go p refl
+  where
+    go : (q : Plan) → p ≡ q → concludeLoad (g .tc) (code % 8) address write d q w ≡ concludeLoad (g .tc) code address write d q w
+    go (plan.Refused n) f = refl
+    go (plan.Settled x) f = refl
+    go (plan.Walk way) f = rw (in-three-bits (load-code g code address two three c e f)) refl
+
 module _ (tc code address : ℕ) (write : Bool) {ts ps ss ms : List ℕ} {w : Walks} where
   pub load-idle : w ≡ walks.Idle → Sized ts ps ss ms → LoadedIn (loadWalks tc code address write (cacheOf ts ps ss ms) w) Load.Loaded 0 ts ps ss ms
   unfolding loadWalks
@@ -147,6 +159,7 @@ module _ (g : Registers) (code : ℕ) (write : Bool) (address : ℕ) (m : Memory
   load-planned = rw (← is-two, ← is-three) k
 
   pub load-by : {way : Way} {w : Walks} {l : Load} {n : ℕ} {ts′ ps′ ss′ ms′ : List ℕ} → way ≡ wayOf p → w ≡ walksOf m g address way
-      → LoadedIn (concludeLoad (g .tc) code address write (cacheOf ts ps ss ms) p w) l n ts′ ps′ ss′ ms′
+      → LoadedIn (concludeLoad (g .tc) (code % 8) address write (cacheOf ts ps ss ms) p w) l n ts′ ps′ ss′ ms′
       → LoadedIn (shownLoaded (load g code write address m c)) l n ts′ ps′ ss′ ms′
-  load-by e f q = rw (← load-staged g code write address m c, ← load-planned .plans, ← load-planned .leaves, ← e, ← f) q
+  load-by {way} {w} e f q =
+      rw (← load-staged g code write address m c, ← load-planned .plans, ← load-planned .leaves, ← e, ← f, ← conclude-in-three-bits g code address write two three (c .c030) (cacheOf ts ps ss ms) w (k .plans)) q

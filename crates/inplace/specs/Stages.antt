@@ -1,6 +1,6 @@
 -- A call that walks, in three stages: what is planned without the tables, the walk, and what is concluded from it.
 -- It serves the code alone: the meaning is the definition's, and proofs/Staged.antt ties the two.
-use Prim.Native.Nat.{ℕ, _+_, _/_, _^_, _<_}
+use Prim.Native.Nat.{ℕ, _+_, _/_, _^_}
 use mathlib.Core.Path.{_≡_}
 use mathlib.Core.List.{List, []}
 use mathlib.Core.Bool.{Bool, true, false, not, _&&_, _||_}
@@ -179,10 +179,6 @@ concludeAccess g a c (plan.Settled x) w = answered (Translation.Address x) 0 c
 concludeAccess g a c (plan.Walk x) w = onWalks g a c w
 
 -- ---- load
--- a load that walks has a code below 8
-abbrev pub Coded : Plan → ℕ → Type 0
-Coded p code = (w : Way) → p ≡ Plan.Walk w → code < 8
-
 abbrev pub loadPlan : Bool → ℕ → Plan
 loadPlan stop code = if stop then Plan.Settled 0 else Plan.Walk (Way.By030 code everyLevel)
 

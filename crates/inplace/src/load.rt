@@ -11,7 +11,7 @@ use definition::Shift;
 use tables::Walks;
 use tables::Way;
 ghost use mathlib.Core.Path.{_≡_};
-ghost use Prim.Native.Nat.{_<_};
+ghost use Prim.Native.Nat.{_%_, _<_};
 ghost use lib.ListN.{take};
 ghost use Rattle.definition.specs.Words.{anyOf};
 ghost use Rattle.definition.specs.Memory.{memory};
@@ -21,7 +21,7 @@ ghost use Rattle.definition.specs.Walk030.{shiftOf};
 ghost use Rattle.definition.specs.Cache040.{Cache040};
 ghost use Rattle.definition.specs.Load.{stopped, load};
 ghost use Rattle.cache.specs.Atc030.{cacheOf, Sized};
-ghost use Rattle.inplace.specs.Stages.{Coded, loadPlan, planLoad, loadWalks, concludeLoad, shownLoaded};
+ghost use Rattle.inplace.specs.Stages.{loadPlan, planLoad, loadWalks, concludeLoad, shownLoaded};
 ghost use Rattle.inplace.specs.InPlace.{pairWith, PlannedIn030, LoadedIn};
 
 // An answer with its count.
@@ -115,7 +115,7 @@ fn loaded(
     }
 }
 
-// The answer, its count and the next 68030 cache, from the plan and the walk that it asked for.
+// The answer, its count and the next 68030 cache, from the plan and the walk that it asked for. A code has three bits.
 pub fn conclude_load(
     tags: &mut [u64; 22],
     pages: &mut [u64; 22],
@@ -128,8 +128,7 @@ pub fn conclude_load(
     plan: Plan,
     walks: Walks,
 ) -> LoadOutcome
-    requires { ⌜ Coded plan code ⌝ }
-    ensures { λ r. ⌜ LoadedIn (concludeLoad tc code address write (cacheOf (now (tags .entry)) (now (pages .entry)) (now (stamps .entry)) (now (marks .entry))) plan walks) (r .answer) (r .count) (now (tags .exit)) (now (pages .exit)) (now (stamps .exit)) (now (marks .exit)) ⌝ }
+    ensures { λ r. ⌜ LoadedIn (concludeLoad tc (code % 8) address write (cacheOf (now (tags .entry)) (now (pages .entry)) (now (stamps .entry)) (now (marks .entry))) plan walks) (r .answer) (r .count) (now (tags .exit)) (now (pages .exit)) (now (stamps .exit)) (now (marks .exit)) ⌝ }
 {
     checks::lengths_030(tags, pages, stamps, marks);
     match plan {
@@ -141,7 +140,17 @@ pub fn conclude_load(
             answer: Load::Loaded,
             count: 0,
         },
-        Plan::Walk(_) => loaded(tags, pages, stamps, marks, tc, code, address, write, walks),
+        Plan::Walk(_) => loaded(
+            tags,
+            pages,
+            stamps,
+            marks,
+            tc,
+            code % 8,
+            address,
+            write,
+            walks,
+        ),
     }
 }
 

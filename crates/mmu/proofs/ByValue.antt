@@ -1,5 +1,5 @@
 -- From the stages of a call by value to what it promises. Assumes nothing.
-use Prim.Native.Nat.{ℕ}
+use Prim.Native.Nat.{ℕ, _%_}
 use mathlib.Core.Path.{_≡_, sym, subst, _∙_}
 use mathlib.Core.List.{List}
 use mathlib.Core.Bool.{Bool}
@@ -26,11 +26,11 @@ use Rattle.mmu.specs.declared.by_value.PlannedPair.{PlannedPair}
 use Rattle.mmu.specs.declared.by_value.Translated.{Translated}
 use Rattle.mmu.specs.declared.by_value.Loaded.{Loaded}
 use Rattle.mmu.specs.declared.by_value.Flushed.{Flushed}
-use Rattle.inplace.specs.Stages.{Coded, wayOf, planAccess, shownTranslated, concludeAccess, planLoad, shownLoaded, concludeLoad}
+use Rattle.inplace.specs.Stages.{wayOf, planAccess, shownTranslated, concludeAccess, planLoad, shownLoaded, concludeLoad}
 use Rattle.inplace.specs.InPlace.{PlannedIn, PlannedIn030, AnsweredIn, LoadedIn, FlushedIn030, FlushedIn040}
 use Rattle.mmu.specs.ByValue.{translatedWith, TranslatedBy, loadedWith, LoadedBy, flushedWith, FlushedBy, Beside}
 use Rattle.inplace.proofs.Staged.{translated-by, load-beside}
-use Rattle.inplace.proofs.Translating.{load-by, load-code}
+use Rattle.inplace.proofs.Translating.{load-by}
 pub use Rattle.inplace.proofs.Testing.{test-by}
 
 -- a pair of arrays
@@ -62,11 +62,8 @@ both {c} {d} e f = go e f
 
 module _ (g : Registers) (code address : ℕ) (caches : CachePair) (two three : Bool) {p : PlannedPair}
     (k : PlannedIn030 (planLoad g code address two three (pairOf caches .c030)) (p .plan) (p .caches .tags) (p .caches .pages) (p .caches .stamps) (p .caches .marks) × Beside caches (p .caches)) where
-  pub load-asks : Coded (p .plan) code
-  load-asks way e = load-code g code address two three (pairOf caches .c030) (k .0 .plans) e
-
   pub loads : (write : Bool) (m : Memory) {way : Way} {w : Walks} {r : Loaded} → two ≡ badBase m → three ≡ badRange m → way ≡ wayOf (p .plan) → w ≡ walksOf m g address way
-      → LoadedIn (concludeLoad (g .tc) code address write (pairOf (p .caches) .c030) (p .plan) w) (r .answer) (r .count) (r .caches .tags) (r .caches .pages) (r .caches .stamps) (r .caches .marks) × Beside (p .caches) (r .caches)
+      → LoadedIn (concludeLoad (g .tc) (code % 8) address write (pairOf (p .caches) .c030) (p .plan) w) (r .answer) (r .count) (r .caches .tags) (r .caches .pages) (r .caches .stamps) (r .caches .marks) × Beside (p .caches) (r .caches)
       → LoadedBy (load g code write address m (pairOf caches)) r
   loads write m {way} {w} {r} is-two is-three is-way walked q =
       let s : LoadedIn (shownLoaded (load g code write address m (pairOf caches))) (r .answer) (r .count) (r .caches .tags) (r .caches .pages) (r .caches .stamps) (r .caches .marks) = load-by g code write address m (pairOf caches) is-two is-three (k .0) is-way walked (q .0) in

@@ -19,6 +19,7 @@ use inplace::translate;
 use tables::Walks;
 use tables::Way;
 ghost use mathlib.Core.Path.{_≡_};
+ghost use Prim.Native.Nat.{_%_};
 ghost use Rattle.definition.specs.Memory.{memory};
 ghost use Rattle.definition.specs.Translate.{translate as translateOf};
 ghost use Rattle.definition.specs.Load.{load as loadOf};
@@ -26,7 +27,7 @@ ghost use Rattle.definition.specs.Test.{test as testOf};
 ghost use Rattle.definition.specs.Probe.{probe as probeOf};
 ghost use Rattle.definition.specs.Flush.{flushAll, flushCode, flushPage, flushFrame};
 ghost use Rattle.cache.specs.Pair.{pairOf};
-ghost use Rattle.inplace.specs.Stages.{Coded, wayOf, planAccess, concludeAccess, planLoad, concludeLoad, shownTested};
+ghost use Rattle.inplace.specs.Stages.{wayOf, planAccess, concludeAccess, planLoad, concludeLoad, shownTested};
 ghost use Rattle.inplace.specs.InPlace.{PlannedIn, PlannedIn030, AnsweredIn, LoadedIn, TestedIn};
 ghost use Rattle.mmu.specs.ByValue.{TranslatedBy, LoadedBy, FlushedBy, Beside};
 
@@ -219,8 +220,7 @@ fn concluded_load(
     p: PlannedPair,
     walks: Walks,
 ) -> Loaded
-    requires { ⌜ Coded (p .plan) code ⌝ }
-    ensures { λ r. ⌜ LoadedIn (concludeLoad (g .tc) code address write (pairOf (p .caches) .c030) (p .plan) walks) (r .answer) (r .count) (r .caches .tags) (r .caches .pages) (r .caches .stamps) (r .caches .marks) × Beside (p .caches) (r .caches) ⌝ }
+    ensures { λ r. ⌜ LoadedIn (concludeLoad (g .tc) (code % 8) address write (pairOf (p .caches) .c030) (p .plan) walks) (r .answer) (r .count) (r .caches .tags) (r .caches .pages) (r .caches .stamps) (r .caches .marks) × Beside (p .caches) (r .caches) ⌝ }
 {
     let plan = p.plan;
     let caches = p.caches;

@@ -1,4 +1,6 @@
 use Rattle.inplace.proofs.Translating as law
+use native.Mathlib.Omega.{arith}
+use native.Mathlib.Nat.{mod-lt}
 use borrow.Author.Needs.{needs}
 use Rattle.inplace.proofs.load.conclude_load.Statement.{statement}
 use Rattle.inplace.proofs.load.conclude_load.Tie as tie
@@ -16,7 +18,7 @@ enum-told-2 : tie.Need-enum-told-2
 enum-told-2 c = search needs
 
 loaded-requires : tie.Need-loaded-requires
-loaded-requires c κs = (c .before .before .before .before .before .before .before .before .before .before .before .before .before .before .before .pre _ (c .before .before .before .before .enum-told2 .given .1), search needs)
+loaded-requires c κs = (mod-lt _ (omega arith), search needs)
 
 returns : tie.Need-returns
 returns c = law.load-refuses _ _ _ _ _ (c .before .plan .given .1) (search needs)

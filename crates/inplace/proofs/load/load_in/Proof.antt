@@ -16,7 +16,7 @@ walk-kept-requires : tie.Need-walk-kept-requires
 walk-kept-requires c κs = search needs
 
 conclude-load-requires : tie.Need-conclude-load-requires
-conclude-load-requires c κs = λ way e. law.load-code _ _ _ _ _ _ (c .before .before .before .before .before .before .plan-load .ensures .plans) e
+conclude-load-requires c κs = search needs
 
 returns : tie.Need-returns
 returns c = λ k h. law.load-by _ _ _ _ _ _ (c .before .before .before .before .before .before .before .before .before .before .before .before .bad-base .ensures) h (c .before .before .before .before .before .before .before .plan-load .ensures) (c .before .before .before .before .before .before .way-of .ensures) (c .before .before .before .before .before .walk-kept .ensures) (c .conclude-load .ensures)
