@@ -227,13 +227,13 @@ fn walked(
                 count: w.asked,
             }
         }
-        Walks::By040(w) => {
+        Walks::By040(walk) => {
             let supervisor = checks::as_supervisor(a);
-            let end = w.end;
+            let end = walk.end;
             let answer = end_040(keys, bases, g.tc, a.address, supervisor, a.write, end);
             Outcome {
                 answer,
-                count: w.asked,
+                count: walk.asked,
             }
         }
     }
