@@ -76,20 +76,31 @@ module _ {ts ps ss ms : List ℕ} (code address : ℕ) {r s : Shift} (is : r ≡
           sized = k .sized;
         })
 
+-- a step f that is taken unless b
+module _ {ts ps ss ms : List ℕ} (f : Cache030 → Cache030) {b : Bool} where
+  pub left-out : b ≡ true → Sized ts ps ss ms → Stepped (λ (c : Cache030). if b then c else f c) ts ps ss ms ts ps ss ms
+  left-out e z = rw e (record { leaves = refl; sized = z })
+
+  pub taken : {ts′ ps′ ss′ ms′ : List ℕ} → b ≡ false → Stepped f ts ps ss ms ts′ ps′ ss′ ms′
+      → Stepped (λ (c : Cache030). if b then c else f c) ts ps ss ms ts′ ps′ ss′ ms′
+  taken e k = rw e (record { leaves = k .leaves; sized = k .sized })
+
 -- ---- a page that was found, and the other ends
 module _ (tc : ℕ) {ts ps ss ms : List ℕ} (code address : ℕ) (write : Bool) {t : Translation} where
   module _ (wp sup : Bool) (physical : ℕ) where
-    pub page-forbidden : (sup && not (bitOf code 2)) ≡ true → t ≡ violation cause.SupervisorProtect address → Sized ts ps ss ms
-        → Ended (page030 tc (cacheOf ts ps ss ms) code address write wp sup physical) t ts ps ss ms
-    unfolding page030
-    page-forbidden e f z = rw e (record { answers = f; leaves = refl; sized = z })
-
-    pub page-cached : {ts′ ps′ ss′ ms′ : List ℕ} → (sup && not (bitOf code 2)) ≡ false
-        → Stepped (λ (c : Cache030). cached (shiftOf tc) c code address physical wp) ts ps ss ms ts′ ps′ ss′ ms′
-        → t ≡ permittedOf write wp address physical
+    page-by : (forbidden : Bool) {ts′ ps′ ss′ ms′ : List ℕ} → (sup && not (bitOf code 2)) ≡ forbidden
+        → Stepped (λ (c : Cache030). if forbidden then c else cached (shiftOf tc) c code address physical wp) ts ps ss ms ts′ ps′ ss′ ms′
+        → t ≡ permittedOf forbidden write wp address physical
         → Ended (page030 tc (cacheOf ts ps ss ms) code address write wp sup physical) t ts′ ps′ ss′ ms′
     unfolding page030 permittedOf
-    page-cached e k f = rw e (record { answers = f; leaves = k .leaves; sized = k .sized })
+    page-by true e k f = rw e (record { answers = f; leaves = k .leaves; sized = k .sized })
+    page-by false e k f = rw e (record { answers = f; leaves = k .leaves; sized = k .sized })
+
+    pub page-is : {ts′ ps′ ss′ ms′ : List ℕ}
+        → Stepped (λ (c : Cache030). if sup && not (bitOf code 2) then c else cached (shiftOf tc) c code address physical wp) ts ps ss ms ts′ ps′ ss′ ms′
+        → t ≡ permittedOf (sup && not (bitOf code 2)) write wp address physical
+        → Ended (page030 tc (cacheOf ts ps ss ms) code address write wp sup physical) t ts′ ps′ ss′ ms′
+    page-is k f = page-by (sup && not (bitOf code 2)) refl k f
 
   module _ (w : Walked) where
     pub end-invalid : {indirect : Bool} {x : FaultCause} → w .end ≡ end.Invalid indirect → x ≡ missingCause indirect → t ≡ violation x address

@@ -127,13 +127,17 @@ answered t n c = record { answer = t; count = n; caches = c }
 abbrev pub shownTranslated : Translated → Answered
 shownTranslated t = answered (t .answer) (length (t .asked)) (t .caches)
 
--- the cause of an invalid descriptor, and the answer of a page that S allows
+-- the cause of an invalid descriptor, and the answer of a page that S may forbid
 abbrev pub missingCause : Bool → FaultCause
 missingCause indirect = if indirect then cause.Indirect else cause.PageFault
 
-unfoldable pub permittedOf : Bool → Bool → ℕ → ℕ → Translation
-permittedOf write wp address physical =
-    if write && wp then violation cause.WriteProtect address else Translation.Address physical
+unfoldable pub permittedOf : Bool → Bool → Bool → ℕ → ℕ → Translation
+permittedOf forbidden write wp address physical =
+    if forbidden
+    then violation cause.SupervisorProtect address
+    else if write && wp
+    then violation cause.WriteProtect address
+    else Translation.Address physical
 
 -- what a page that a 68030 walk found gives, and what any end of it gives, with the next 68030 cache
 unfoldable pub page030 : ℕ → Cache030 → ℕ → ℕ → Bool → Bool → Bool → ℕ → Searched

@@ -12,6 +12,7 @@ use tables::Walked;
 use tables::Way;
 ghost use mathlib.Core.Path.{_≡_};
 ghost use Prim.Native.Nat.{_<_};
+ghost use Rattle.definition.specs.Words.{if_then_else_};
 ghost use Rattle.definition.specs.Walk030.{shiftOf};
 ghost use Rattle.definition.specs.Cache030.{Cache030};
 ghost use Rattle.definition.specs.Translate.{violation, busError, configuration, cached};
@@ -132,17 +133,42 @@ fn cache_page(
     }
 }
 
-// A write with WP gives WriteProtect.
-fn permitted(write: bool, wp: bool, address: u32, physical: u32) -> Translation
-    ensures { λ r. ⌜ r ≡ permittedOf write wp address physical ⌝ }
+// Nothing is cached of a page that S forbids.
+fn cache_unless(
+    tags: &mut [u64; 22],
+    pages: &mut [u64; 22],
+    stamps: &mut [u64; 22],
+    marks: &mut [u64; 3],
+    forbidden: bool,
+    tc: u32,
+    code: u32,
+    address: u32,
+    physical: u32,
+    wp: bool,
+)
+    requires { ⌜ (code < 8) × Sized (now tags) (now pages) (now stamps) (now marks) ⌝ }
+    ensures { λ _. ⌜ Stepped (λ (c : Cache030). if forbidden then c else cached (shiftOf tc) c code address physical wp) (now (tags .entry)) (now (pages .entry)) (now (stamps .entry)) (now (marks .entry)) (now (tags .exit)) (now (pages .exit)) (now (stamps .exit)) (now (marks .exit)) ⌝ }
 {
+    if forbidden {
+        return;
+    }
+    cache_page(tags, pages, stamps, marks, tc, code, address, physical, wp);
+}
+
+// A page that S forbids gives SupervisorProtect, and then a write with WP gives WriteProtect.
+fn permitted(forbidden: bool, write: bool, wp: bool, address: u32, physical: u32) -> Translation
+    ensures { λ r. ⌜ r ≡ permittedOf forbidden write wp address physical ⌝ }
+{
+    if forbidden {
+        return fault(FaultCause::SupervisorProtect, address);
+    }
     if write & wp {
         return fault(FaultCause::WriteProtect, address);
     }
     Translation::Address(physical)
 }
 
-// S set and a user access: SupervisorProtect, nothing cached. Otherwise the page's base is cached, and then WP is looked at.
+// S set and a user access: SupervisorProtect, nothing cached. Otherwise the page's base is cached, also where WP then forbids a write.
 fn page_found(
     tags: &mut [u64; 22],
     pages: &mut [u64; 22],
@@ -159,11 +185,20 @@ fn page_found(
     requires { ⌜ (code < 8) × Sized (now tags) (now pages) (now stamps) (now marks) ⌝ }
     ensures { λ r. ⌜ Ended (page030 tc (cacheOf (now (tags .entry)) (now (pages .entry)) (now (stamps .entry)) (now (marks .entry))) code address write wp sup physical) r (now (tags .exit)) (now (pages .exit)) (now (stamps .exit)) (now (marks .exit)) ⌝ }
 {
-    if sup & !((code >> 2) % 2 == 1) {
-        return fault(FaultCause::SupervisorProtect, address);
-    }
-    cache_page(tags, pages, stamps, marks, tc, code, address, physical, wp);
-    permitted(write, wp, address, physical)
+    let forbidden = sup & !((code >> 2) % 2 == 1);
+    cache_unless(
+        tags,
+        pages,
+        stamps,
+        marks,
+        forbidden,
+        tc,
+        code,
+        address,
+        physical,
+        wp,
+    );
+    permitted(forbidden, write, wp, address, physical)
 }
 
 // What a walk's end gives.
