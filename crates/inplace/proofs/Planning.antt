@@ -18,7 +18,7 @@ use Rattle.definition.specs.declared.Access.{Access}
 use Rattle.cache.specs.Atc030.{cacheOf, Sized}
 use Rattle.cache.specs.Atc040.{cache040Of}
 use Rattle.inplace.specs.declared.Plan.{Plan}
-use Rattle.inplace.specs.Stages.{checksOf, lookPlan040, plan030, planInOrder, accessRefusal, planAccess}
+use Rattle.inplace.specs.Stages.{checksOf, lookPlan040, plan030, planOn, accessRefusal, planAccess}
 use Rattle.inplace.specs.InPlace.{cachesOf, SizedAll, PlannedIn030, PlannedIn}
 
 pub code-small : (supervisor instruction : Bool) → codeOf supervisor instruction < 8
@@ -39,36 +39,30 @@ bits-small tc e = rw e (go (bitOf tc 14))
     go true = omega arith
     go false = omega arith
 
-module _ (g : Registers) (a : Access) {ts ps ss ms ks bs : List ℕ} (z : SizedAll ts ps ss ms ks bs) where
-  module _ {x : Bool} (is-on : x ≡ on g) where
-    pub plan-off : not x ≡ true → PlannedIn (planInOrder g a (cachesOf ts ps ss ms ks bs)) (Plan.Settled (a .address)) ts ps ss ms ks bs
-    unfolding planInOrder
-    plan-off h = rw (ap not (sym is-on) ∙ h) (record { plans = refl; leaves = refl; whole = z })
+module _ (g : Registers) (a : Access) {ts ps ss ms ks bs : List ℕ} (z : SizedAll ts ps ss ms ks bs) {code : ℕ} {i t : Bool}
+    (compared : code ≡ comparedCode a) (instruction : i ≡ asInstruction a) (is-tt : t ≡ transparent g (a .address) code i) where
+  -- whether a transparent register matches
+  matched : {b : Bool} → t ≡ b → transparent g (a .address) (comparedCode a) (asInstruction a) ≡ b
+  matched e = rw (← compared, ← instruction) (sym is-tt ∙ e)
 
-    module _ (h : not x ≡ false) {code : ℕ} {i t : Bool} (compared : code ≡ comparedCode a) (instruction : i ≡ asInstruction a)
-        (is-tt : t ≡ transparent g (a .address) code i) where
-      -- whether a transparent register matches
-      matched : {b : Bool} → t ≡ b → transparent g (a .address) (comparedCode a) (asInstruction a) ≡ b
-      matched e = rw (← compared, ← instruction) (sym is-tt ∙ e)
+  pub plan-transparent : t ≡ true → PlannedIn (planOn g a (cachesOf ts ps ss ms ks bs)) (Plan.Settled (a .address)) ts ps ss ms ks bs
+  unfolding planOn
+  plan-transparent k = rw (matched k) (record { plans = refl; leaves = refl; whole = z })
 
-      pub plan-transparent : t ≡ true → PlannedIn (planInOrder g a (cachesOf ts ps ss ms ks bs)) (Plan.Settled (a .address)) ts ps ss ms ks bs
-      unfolding planInOrder
-      plan-transparent k = rw (ap not (sym is-on) ∙ h, matched k) (record { plans = refl; leaves = refl; whole = z })
+  pub plan-by-030 : {own : ℕ} {r : Plan} {ss′ ms′ : List ℕ} → t ≡ false → g .family ≡ 30 → own ≡ walkCode a
+      → PlannedIn030 (plan030 (cacheOf ts ps ss ms) (a .recorded) own (a .address) (a .write) (shiftOf (g .tc))) r ts ps ss′ ms′
+      → PlannedIn (planOn g a (cachesOf ts ps ss ms ks bs)) r ts ps ss′ ms′ ks bs
+  unfolding planOn
+  plan-by-030 k f w p =
+      rw (matched k, eq-eqb (g .family) 30 f, ← w)
+      (record { plans = p .plans; leaves = rw (p .leaves) refl; whole = record { sized = p .sized; sized040 = z .sized040 } })
 
-      pub plan-by-030 : {own : ℕ} {r : Plan} {ss′ ms′ : List ℕ} → t ≡ false → g .family ≡ 30 → own ≡ walkCode a
-          → PlannedIn030 (plan030 (cacheOf ts ps ss ms) (a .recorded) own (a .address) (a .write) (shiftOf (g .tc))) r ts ps ss′ ms′
-          → PlannedIn (planInOrder g a (cachesOf ts ps ss ms ks bs)) r ts ps ss′ ms′ ks bs
-      unfolding planInOrder
-      plan-by-030 k f w p =
-          rw (ap not (sym is-on) ∙ h, matched k, eq-eqb (g .family) 30 f, ← w)
-          (record { plans = p .plans; leaves = rw (p .leaves) refl; whole = record { sized = p .sized; sized040 = z .sized040 } })
-
-      pub plan-by-040 : {s : Bool} {r : Plan} → t ≡ false → (g .family ≡ 30 → ⊥) → s ≡ asSupervisor a
-          → r ≡ lookPlan040 (g .tc) (a .address) s (hit040 (cache040Of ks bs) (a .address / 2 ^ pageBits (g .tc)) s (a .write))
-          → PlannedIn (planInOrder g a (cachesOf ts ps ss ms ks bs)) r ts ps ss ms ks bs
-      unfolding planInOrder
-      plan-by-040 k f w p =
-          rw (ap not (sym is-on) ∙ h, matched k, ne-eqb (g .family) 30 f, ← w) (record { plans = p; leaves = refl; whole = z })
+  pub plan-by-040 : {s : Bool} {r : Plan} → t ≡ false → (g .family ≡ 30 → ⊥) → s ≡ asSupervisor a
+      → r ≡ lookPlan040 (g .tc) (a .address) s (hit040 (cache040Of ks bs) (a .address / 2 ^ pageBits (g .tc)) s (a .write))
+      → PlannedIn (planOn g a (cachesOf ts ps ss ms ks bs)) r ts ps ss ms ks bs
+  unfolding planOn
+  plan-by-040 k f w p =
+      rw (matched k, ne-eqb (g .family) 30 f, ← w) (record { plans = p; leaves = refl; whole = z })
 
 -- ---- the refusals
 pub refusal-is : (g : Registers) (a : Access) (two three : Bool) (ts ps ss ms : List ℕ) {n : ℕ} {one five four : Bool}
@@ -78,12 +72,17 @@ unfolding accessRefusal
 refusal-is g a two three ts ps ss ms e f h n = rw (← e, ← f, ← h) n
 
 module _ (g : Registers) (a : Access) (two three : Bool) {n : ℕ} where
-  pub plan-accepted : (c : Caches) {r : Plan} {ts ps ss ms ks bs : List ℕ} → n ≡ accessRefusal g a two three (c .c030) → n ≡ 0
-      → PlannedIn (planInOrder g a c) r ts ps ss ms ks bs → PlannedIn (planAccess g a two three c) r ts ps ss ms ks bs
-  unfolding planAccess
-  plan-accepted c is e p = rw (sym is ∙ e) p
-
   pub plan-refused : {ts ps ss ms ks bs : List ℕ} → n ≡ accessRefusal g a two three (cacheOf ts ps ss ms) → (n ≡ 0 → ⊥) → SizedAll ts ps ss ms ks bs
       → PlannedIn (planAccess g a two three (cachesOf ts ps ss ms ks bs)) (Plan.Refused n) ts ps ss ms ks bs
   unfolding planAccess
   plan-refused is h z = rw (← is, ne-eqb n 0 h) (record { plans = refl; leaves = refl; whole = z })
+
+  pub plan-off : {x : Bool} {ts ps ss ms ks bs : List ℕ} → n ≡ accessRefusal g a two three (cacheOf ts ps ss ms) → n ≡ 0 → x ≡ on g → not x ≡ true
+      → SizedAll ts ps ss ms ks bs → PlannedIn (planAccess g a two three (cachesOf ts ps ss ms ks bs)) (Plan.Settled (a .address)) ts ps ss ms ks bs
+  unfolding planAccess
+  plan-off is e is-on h z = rw (sym is ∙ e, ap not (sym is-on) ∙ h) (record { plans = refl; leaves = refl; whole = z })
+
+  pub plan-goes-on : (c : Caches) {x : Bool} {r : Plan} {ts ps ss ms ks bs : List ℕ} → n ≡ accessRefusal g a two three (c .c030) → n ≡ 0 → x ≡ on g → not x ≡ false
+      → PlannedIn (planOn g a c) r ts ps ss ms ks bs → PlannedIn (planAccess g a two three c) r ts ps ss ms ks bs
+  unfolding planAccess
+  plan-goes-on c is e is-on h p = rw (sym is ∙ e, ap not (sym is-on) ∙ h) p

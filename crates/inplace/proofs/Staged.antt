@@ -35,7 +35,7 @@ use Rattle.tables.specs.Walked.{shown, shown040, walksOf}
 use Rattle.tables.specs.declared.Way.{Way}
 use Rattle.inplace.specs.declared.Plan.{Plan}
 use Rattle.inplace.specs.InPlace.{AnsweredIn}
-use Rattle.inplace.specs.Stages.{Planned, planned, Planned030, planned030, wayOf, with030Of, with040Of, besidePlan, lookPlan, plan030, lookPlan040, plan040, planInOrder, accessRefusal, planAccess, Answered, answered, shownTranslated, end030, Searched040, searched040, resident040, end040, onWalks, concludeAccess, loadPlan, loadRefusal, planLoad, LoadEnded, shownLoaded, loadWalks, concludeLoad, testRefusal, planTest, TestAnswered, shownTested, testWalks, concludeTest}
+use Rattle.inplace.specs.Stages.{Planned, planned, Planned030, planned030, wayOf, with030Of, with040Of, besidePlan, lookPlan, plan030, lookPlan040, plan040, planOn, accessRefusal, planAccess, Answered, answered, shownTranslated, end030, Searched040, searched040, resident040, end040, onWalks, concludeAccess, loadPlan, loadRefusal, planLoad, LoadEnded, shownLoaded, loadWalks, concludeLoad, testRefusal, planTest, TestAnswered, shownTested, testWalks, concludeTest}
 
 -- ---- an end's answer and cache don't depend on what was asked for
 module _ (tc : ℕ) (c : Cache030) (code address : ℕ) (write wp sup : Bool) (asked : List ℕ) where
@@ -112,7 +112,7 @@ module _ (g : Registers) (a : Access) (m : Memory) where
   translate040-staged c = hit040-staged c (hit040 (c .c040) (a .address / 2 ^ pageBits (g .tc)) (asSupervisor a) (a .write))
 
   pub translate-staged : (c : Caches) → finish (planAccess g a (badBase m) (badRange m) c) ≡ shownTranslated (translate g a m c)
-  unfolding translate inOrder planAccess planInOrder accessRefusal concludeAccess
+  unfolding translate inOrder planAccess planOn accessRefusal concludeAccess
   translate-staged c =
       finish-if (eqb (refusalOf (translateChecks g a m c)) 0) _ _ _ _
       (finish-if (not (on g)) _ _ _ _ refl

@@ -94,15 +94,16 @@ abbrev pub plan040 : ℕ → Cache040 → ℕ → Bool → Bool → Plan
 plan040 tc c address supervisor write =
     lookPlan040 tc address supervisor (hit040 c (address / 2 ^ pageBits tc) supervisor write)
 
-unfoldable pub planInOrder : Registers → Access → Caches → Planned
-planInOrder g a c =
-    if not (on g)
-    then planned (Plan.Settled (a .address)) c
-    else if transparent g (a .address) (comparedCode a) (asInstruction a)
+unfoldable pub planOn : Registers → Access → Caches → Planned
+planOn g a c =
+    if transparent g (a .address) (comparedCode a) (asInstruction a)
     then planned (Plan.Settled (a .address)) c
     else if eqb (g .family) 30
     then besidePlan c (plan030 (c .c030) (a .recorded) (walkCode a) (a .address) (a .write) (shiftOf (g .tc)))
     else planned (plan040 (g .tc) (c .c040) (a .address) (asSupervisor a) (a .write)) c
+
+abbrev pub planInOrder : Registers → Access → Caches → Planned
+planInOrder g a c = if not (on g) then planned (Plan.Settled (a .address)) c else planOn g a c
 
 -- two: the base is bad; three: a range is crossed
 unfoldable pub accessRefusal : Registers → Access → Bool → Bool → Cache030 → ℕ

@@ -24,7 +24,7 @@ ghost use Prim.Native.Nat.{_/_, _^_};
 ghost use Rattle.definition.specs.Walk040.{pageBits};
 ghost use Rattle.definition.specs.Cache040.{hit040};
 ghost use Rattle.cache.specs.Atc040.{cache040Of, Sized040};
-ghost use Rattle.inplace.specs.Stages.{lookPlan040, planInOrder, planAccess, resident040, end040, onWalks, concludeAccess, shownTranslated};
+ghost use Rattle.inplace.specs.Stages.{lookPlan040, planOn, planAccess, resident040, end040, onWalks, concludeAccess, shownTranslated};
 ghost use Rattle.inplace.specs.InPlace.{cachesOf, SizedAll, PlannedIn, Ended040, AnsweredIn};
 
 // An answer with its count: how many longs were asked for.
@@ -63,7 +63,7 @@ fn plan_040(
 }
 
 // The transparent registers before either cache.
-fn plan_in_order(
+fn plan_on(
     tags: &[u64; 22],
     pages: &[u64; 22],
     stamps: &mut [u64; 22],
@@ -74,11 +74,8 @@ fn plan_in_order(
     a: Access,
 ) -> Plan
     requires { ⌜ SizedAll (now tags) (now pages) (now stamps) (now marks) (now keys) (now bases) ⌝ }
-    ensures { λ r. ⌜ PlannedIn (planInOrder g a (cachesOf (now (tags .entry)) (now (pages .entry)) (now (stamps .entry)) (now (marks .entry)) (now (keys .entry)) (now (bases .entry)))) r (now (tags .entry)) (now (pages .entry)) (now (stamps .exit)) (now (marks .exit)) (now (keys .entry)) (now (bases .entry)) ⌝ }
+    ensures { λ r. ⌜ PlannedIn (planOn g a (cachesOf (now (tags .entry)) (now (pages .entry)) (now (stamps .entry)) (now (marks .entry)) (now (keys .entry)) (now (bases .entry)))) r (now (tags .entry)) (now (pages .entry)) (now (stamps .exit)) (now (marks .exit)) (now (keys .entry)) (now (bases .entry)) ⌝ }
 {
-    if !checks::is_on(g) {
-        return Plan::Settled(a.address);
-    }
     let compared = checks::compared_code(a);
     let instruction = checks::as_instruction(a);
     if transparent::is_transparent(g, a.address, compared, instruction) {
@@ -122,11 +119,15 @@ pub fn plan_access(
     let five = checks::bad_override(code);
     let four = bad_cache(tags, pages, stamps, marks);
     let one = checks::no_family(g.family);
+    let enabled = checks::is_on(g);
     let n = checks::first_refusal(one, false, five, two, three, four);
-    if n == 0 {
-        return plan_in_order(tags, pages, stamps, marks, keys, bases, g, a);
+    if n != 0 {
+        return Plan::Refused(n);
     }
-    Plan::Refused(n)
+    if !enabled {
+        return Plan::Settled(a.address);
+    }
+    plan_on(tags, pages, stamps, marks, keys, bases, g, a)
 }
 
 // ---- The conclusion.
