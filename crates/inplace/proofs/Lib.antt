@@ -6,3 +6,4 @@ pub mod Translating
 pub mod Testing
 pub mod Probing
 pub mod Flushing
+pub mod Watched
