@@ -1,7 +1,10 @@
 //! Traces with lines written by hand: document 01's twelve examples, and what it
 //! says of refusals and the file.
 
+mod differences;
+
 use crate::trace::{INSTRUCTION, NONE, RECORD, Record, Registers, SUPERVISOR, WRITE};
+pub use differences::differences;
 
 /// A trace with the lines that it must give, `v1` and `end` left out. The lines of
 /// records that only prepare (K) are left out as well.

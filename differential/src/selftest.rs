@@ -1,7 +1,7 @@
 //! The bed's own tests: lines written by hand, and the second reading of document
 //! 01 with and without slips.
 
-use crate::examples::{Example, FILES, refusals, twelve, with_states};
+use crate::examples::{Example, FILES, differences, refusals, twelve, with_states};
 use crate::generate;
 use crate::original::Original;
 use crate::paper::{Paper, Slip};
@@ -23,6 +23,7 @@ pub fn selftest(traces: u64) -> bool {
 fn examples_hold() -> bool {
     let mut all = twelve();
     all.extend(refusals());
+    all.extend(differences());
     let failed = all.iter().filter(|example| !example_holds(example)).count();
     println!("selftest: {} hand-written examples, {failed} failed", all.len());
     failed == 0
