@@ -6,7 +6,7 @@ use mathlib.Core.Bool.{Bool, true, false, not, _&&_, _||_, or-true}
 use native.Mathlib.Omega.{arith}
 use native.Mathlib.Numerals.{add-one}
 use native.Mathlib.Decide.{decLe}
-use native.Mathlib.Nat.{mod-eq-of-lt, lt-of-lt-of-le}
+use native.Mathlib.Nat.{mod-eq-of-lt, div-eq-of-lt, lt-of-lt-of-le}
 use borrow.Author.Tests.{eq-eqb, ne-eqb, eqb-false, le-leb, leb-true, leb-false}
 use lib.Dec.{T, eqb, leb}
 use lib.ListN.{length, getD, drop}
@@ -107,6 +107,10 @@ low-shift a c h =
 -- a shift of 32 and more keeps the whole address
 pub whole-address : (a s : ℕ) → a < 2 ^ 32 → 32 ≤ s → a ≡ a % 2 ^ s
 whole-address a s h l = sym (mod-eq-of-lt (lt-of-lt-of-le h (pow-mono {i = 32} {j = s} l)))
+
+-- and nothing has a bit there
+pub no-bit : (x k : ℕ) → 32 ≤ k → x < 2 ^ 32 → false ≡ bitOf x k
+no-bit x k l h = rw (div-eq-of-lt (lt-of-lt-of-le h (pow-mono {i = 32} {j = k} l))) refl
 
 -- a 68040 page's frame, and what the address's low bits make of it
 pub frame-is : (page s : ℕ) → page - page % 2 ^ s ≡ page / 2 ^ s * 2 ^ s

@@ -125,12 +125,14 @@ pub fn fetch(longs: &[u32], base: u32, ranges: &[Range], at: u32) -> Fetched
 
 // ---- One 68030 descriptor.
 
-// Bit `k` of `x`.
+// Bit `k` of `x`; there is none from 32 on.
 pub fn bit(x: u32, k: u32) -> bool
-    requires { ⌜ k < 32 ⌝ }
     ensures { λ r. ⌜ r ≡ bitOf x k ⌝ }
 {
-    (x >> k) % 2 == 1
+    if k < 32 {
+        return (x >> k) % 2 == 1;
+    }
+    false
 }
 
 // Entry i of the table at `table` is 4i or 8i after it, wrapping.
