@@ -3,65 +3,19 @@
 mod states;
 
 ghost use Prim.Native.Nat.{_≤_};
-use definition::Range;
-use definition::Registers;
-use definition::Root;
 use libc::STDERR_FILENO;
 use libc::STDIN_FILENO;
-use libc::STDOUT_FILENO;
 use replay::Kept;
 use replay::run::Why;
+use streams::Got;
+use streams::shown;
+use streams::written;
 
 // Where the driver stands: what the replay keeps, how many bytes of the buffer wait, and whether it goes on.
 struct Waiting {
     kept: Kept,
     have: usize,
     on: bool,
-}
-
-// Registers start as family 30, all else 0; no range.
-fn first() -> Kept {
-    let none = Root {
-        limit: 0,
-        address: 0,
-    };
-    let nowhere = Range { first: 0, last: 0 };
-    let registers = Registers {
-        family: 30,
-        present: false,
-        enabled: false,
-        tc: 0,
-        crp: none,
-        srp: none,
-        tt0: 0,
-        tt1: 0,
-        itt0: 0,
-        itt1: 0,
-        dtt0: 0,
-        dtt1: 0,
-    };
-    Kept {
-        registers,
-        list: [nowhere; 16],
-        n: 0,
-    }
-}
-
-// Writes all of it, or says on standard error that it could not.
-fn written(bytes: &[u8]) -> bool {
-    let done = io::write_all(STDOUT_FILENO, bytes);
-    if !done {
-        io::write_all(STDERR_FILENO, b"player: a write failed\n");
-    }
-    done
-}
-
-// Writes the first `n` bytes.
-fn shown(out: &[u8], n: usize) -> bool {
-    if n <= out.len() {
-        return written(&out[..n]);
-    }
-    false
 }
 
 // Refusal 7: the last line.
@@ -261,28 +215,6 @@ fn drained(
     over(now)
 }
 
-// What a read gave: bytes, the end of the input, or nothing because it failed.
-enum Got {
-    Bytes(usize),
-    Ended,
-    Failed,
-}
-
-// Reads once, into the buffer from `have` on.
-fn fill(buffer: &mut [u8], have: usize) -> Got {
-    if buffer.len() < have {
-        return Got::Failed;
-    }
-    let got = libc::read(STDIN_FILENO, &mut buffer[have..]);
-    if got < 0 {
-        return Got::Failed;
-    }
-    if got == 0 {
-        return Got::Ended;
-    }
-    Got::Bytes(io::count(got, &buffer[have..]))
-}
-
 // Says on standard error that a read failed.
 fn unread() {
     io::write_all(STDERR_FILENO, b"player: a read failed\n");
@@ -305,7 +237,7 @@ fn turn(
 ) -> Waiting {
     let kept = w.kept;
     let have = w.have;
-    match fill(buffer, have) {
+    match streams::fill(STDIN_FILENO, buffer, have) {
         Got::Failed => {
             unread();
             over(kept)
@@ -324,22 +256,12 @@ fn turn(
             longs,
             kept,
             buffer,
-            sum(have, n),
+            streams::sum(have, n),
             out,
             line,
             states,
         ),
     }
-}
-
-// How many bytes wait now: a buffer's length bounds both.
-fn sum(have: usize, n: usize) -> usize {
-    if have < 1048576 {
-        if n < 1048576 {
-            return have + n;
-        }
-    }
-    0
 }
 
 // The version byte: `v1` follows a good one, and refusal 7 anything else.
@@ -384,7 +306,7 @@ pub fn play(states: bool) {
     let mut line = [0u8; 16384];
     let room = room_for(states);
     let mut w = Waiting {
-        kept: first(),
+        kept: replay::first(),
         have: 0,
         on: true,
     };

@@ -1,13 +1,7 @@
 // The state line: S m=MRU c=CLOCK s=SHIFT eI=V,FC,PAGE,PHYS,WP,STAMP .. dI=V,TAG,PHYS,WP,SUP .., entries of zeros left out.
-
-// One byte, where there is room.
-fn put(out: &mut [u8], at: usize, b: u8) -> usize {
-    if at < out.len() {
-        out[at] = b;
-        return at + 1;
-    }
-    at
-}
+use streams::put;
+use streams::put_decimal;
+use streams::put_text;
 
 // A digit's byte: 0 to 9, A to F.
 fn digit(n: u64) -> u8 {
@@ -27,24 +21,6 @@ fn put_hex(out: &mut [u8], at: usize, x: u64) -> usize {
         k += 1;
     }
     to
-}
-
-// The bytes of a text.
-fn put_text(out: &mut [u8], at: usize, bytes: &[u8]) -> usize {
-    let mut to = at;
-    let mut i = 0;
-    while i < bytes.len() {
-        to = put(out, to, bytes[i]);
-        i += 1;
-    }
-    to
-}
-
-// A number in decimal.
-fn put_decimal(out: &mut [u8], at: usize, x: u64) -> usize {
-    let mut digits = [0u8; 20];
-    let n = io::decimal(x, &mut digits);
-    put_text(out, at, &digits[..n])
 }
 
 // A byte, and a number in decimal after it.

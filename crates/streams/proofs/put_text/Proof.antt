@@ -2,8 +2,8 @@ use Prim.Native.Nat.{_≤_, _<_, _-_}
 use mathlib.Core.Path.{_≡_}
 use lib.ListN.{length}
 use borrow.Author.Needs.{needs}
-use Rattle.playing.proofs.states.put_text.Statement.{statement}
-use Rattle.playing.proofs.states.put_text.Tie as tie
+use Rattle.streams.proofs.put_text.Statement.{statement}
+use Rattle.streams.proofs.put_text.Tie as tie
 
 abbrev Inv-loop : tie.InvT-loop
 Inv-loop out₀ at bytes to₀ i₀ out to i = (i ≤ length bytes) × (length out ≡ length out₀)

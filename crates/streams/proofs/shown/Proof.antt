@@ -1,8 +1,8 @@
 use mathlib.Core.Path.{sym}
 use lib.Seq.{length-take-le}
 use borrow.Author.Needs.{needs}
-use Rattle.playing.proofs.shown.Statement.{statement}
-use Rattle.playing.proofs.shown.Tie as tie
+use Rattle.streams.proofs.shown.Statement.{statement}
+use Rattle.streams.proofs.shown.Tie as tie
 
 slice-aggregate-written : tie.Need-slice-aggregate-written
 slice-aggregate-written c = sym (length-take-le _ _ (c .before .if1 .taken))
