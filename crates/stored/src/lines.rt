@@ -1,0 +1,45 @@
+// The lines of a text, each with its line's end.
+
+// Where the line that starts at `from` ends: after its line's end, or where the text ends.
+pub fn line_end(bytes: &[u8], from: usize) -> usize {
+    let mut i = from;
+    while i < bytes.len() {
+        if bytes[i] == 10 {
+            return i + 1;
+        }
+        i += 1;
+    }
+    i
+}
+
+// Whether the bytes from `i` up to `a` of the first are those from `j` up to `b` of the second.
+pub fn same_part(first: &[u8], i: usize, a: usize, second: &[u8], j: usize, b: usize) -> bool {
+    if i <= a && a <= first.len() {
+        if j <= b && b <= second.len() {
+            return check::same(&first[i..a], &second[j..b]);
+        }
+    }
+    false
+}
+
+// A byte that is no line's end.
+fn put_within(out: &mut [u8], at: usize, b: u8) -> usize {
+    if b == 10 {
+        return at;
+    }
+    streams::put(out, at, b)
+}
+
+// The bytes from `from` up to `to` without a line's end; a dash where there are none.
+pub fn put_part(out: &mut [u8], at: usize, bytes: &[u8], from: usize, to: usize) -> usize {
+    if to <= from {
+        return streams::put(out, at, b'-');
+    }
+    let mut place = at;
+    let mut i = from;
+    while i < to && i < bytes.len() {
+        place = put_within(out, place, bytes[i]);
+        i += 1;
+    }
+    place
+}
