@@ -14,7 +14,7 @@ pub struct Example {
     pub lines: Vec<String>,
 }
 
-const LOGICAL: u32 = 0x0204_1ABC;
+pub const LOGICAL: u32 = 0x0204_1ABC;
 
 /// The examples' registers: family 30, enabled, TC 80C07760, CRP 80000002, 1000.
 fn base() -> Registers {
@@ -31,7 +31,7 @@ fn with(change: impl FnOnce(&mut Registers)) -> Record {
     Record::Registers(registers)
 }
 
-fn store(address: u32, value: u32) -> Record {
+pub fn store(address: u32, value: u32) -> Record {
     Record::Store { address, value }
 }
 
@@ -40,7 +40,7 @@ fn tables() -> Vec<Record> {
     vec![store(0x1004, 0x2002), store(0x2004, 0x3002), store(0x3004, 0x55001)]
 }
 
-fn read(address: u32) -> Record {
+pub fn read(address: u32) -> Record {
     Record::Access { flags: RECORD, override_code: NONE, address }
 }
 
@@ -53,7 +53,7 @@ fn test(level: u8) -> Record {
 }
 
 /// The base, then these stores, then these records.
-fn on_base(stores: &[(u32, u32)], then: &[Record]) -> Vec<Record> {
+pub fn on_base(stores: &[(u32, u32)], then: &[Record]) -> Vec<Record> {
     let mut records = vec![with(|_| ())];
     records.extend(tables());
     records.extend(stores.iter().map(|&(address, value)| store(address, value)));

@@ -13,6 +13,7 @@ mod generate;
 mod malformed;
 mod memory;
 mod original;
+mod pairs;
 mod paper;
 mod random;
 mod replay;
@@ -35,6 +36,7 @@ const USAGE: &str = "usage:
   differential compare lines|states PLAYER SEED RECORDS FOLDER
                                                compare until so many records were compared
   differential cases FOLDER COUNT SEED         write stored cases
+  differential pairs FOLDER COUNT SEED         write pairs of replays with the same watched accesses
   differential cacheops SEED COUNT             operations on the original's caches
   differential walks SEED COUNT                walks of the original
   differential slips COUNT                     how many of so many traces show each slip";
@@ -83,6 +85,9 @@ fn run(words: &[&str]) -> Result<bool, String> {
         }
         ["cases", folder, count, seed] => {
             return cases::cases(Path::new(folder), number(count)? as usize, number(seed)?).map_err(told);
+        }
+        ["pairs", folder, count, seed] => {
+            return pairs::pairs(Path::new(folder), number(count)? as usize, number(seed)?).map_err(told);
         }
         ["cacheops", seed, count] => {
             let mut out = BufWriter::new(io::stdout().lock());

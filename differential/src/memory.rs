@@ -10,13 +10,13 @@ pub struct TableMemory {
     pub longs: Vec<u32>,
     /// First and last address of each range, both inside.
     pub ranges: Vec<(u32, u32)>,
-    /// Longs asked for, failing ones included.
-    pub count: u32,
+    /// The longs that a call asked for, failing ones included.
+    pub asked: Vec<u32>,
 }
 
 impl TableMemory {
     pub fn new(base: u32, longs: Vec<u32>, ranges: Vec<(u32, u32)>) -> Self {
-        TableMemory { base, longs, ranges, count: 0 }
+        TableMemory { base, longs, ranges, asked: Vec::new() }
     }
 
     pub fn of_program() -> Self {
@@ -38,7 +38,7 @@ impl TableMemory {
 
     /// Asks for one long.
     pub fn fetch(&mut self, address: u32) -> Option<u32> {
-        self.count += 1;
+        self.asked.push(address);
         let place = self.place(address)?;
         (!self.in_range(address)).then(|| self.longs[place])
     }
@@ -52,9 +52,9 @@ impl TableMemory {
 
     /// What `call` gives, with the number of longs that it asked for.
     pub fn counted<T>(&mut self, call: impl FnOnce(&mut Self) -> T) -> (T, u32) {
-        self.count = 0;
+        self.asked.clear();
         let answer = call(self);
-        (answer, self.count)
+        (answer, self.asked.len() as u32)
     }
 }
 

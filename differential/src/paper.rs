@@ -224,7 +224,7 @@ impl Paper {
     fn fetch(&self, memory: &mut TableMemory, address: u32) -> Option<u32> {
         let fetched = memory.fetch(address);
         if fetched.is_none() && self.is(Slip::FailingFetchIsNotCounted) {
-            memory.count -= 1;
+            memory.asked.pop();
         }
         if fetched.is_none() && (address / 4) < memory.longs.len() as u32 {
             let covered = |byte: u32| memory.ranges.iter().any(|&(first, last)| (first..=last).contains(&byte));

@@ -43,6 +43,12 @@ impl Random {
         from[self.below(from.len() as u64) as usize].clone()
     }
 
+    pub fn shuffle<T>(&mut self, list: &mut [T]) {
+        for end in (1..list.len()).rev() {
+            list.swap(end, self.below(end as u64 + 1) as usize);
+        }
+    }
+
     /// An index into `weights`, by weight.
     pub fn weighted(&mut self, weights: &[u64]) -> usize {
         let mut left = self.below(weights.iter().sum());

@@ -5,6 +5,7 @@
 use crate::memory::TableMemory;
 use crate::state::State;
 use crate::trace::{CPU_STATE, INSTRUCTION, NONE, Next, RECORD, Record, Registers, SUPERVISOR, WRITE, next_body};
+use std::fmt::{self, Display, Formatter};
 
 /// One access of kind 02.
 pub struct Access {
@@ -18,11 +19,37 @@ pub struct Access {
     pub record: bool,
 }
 
+impl Access {
+    /// What the record says, whose override has passed its refusal.
+    pub fn of(flags: u8, override_code: u8, address: u32) -> Self {
+        let set = |bit: u8| flags & bit != 0;
+        Access {
+            address,
+            write: set(WRITE),
+            supervisor: set(SUPERVISOR),
+            instruction: set(INSTRUCTION),
+            cpu_supervisor: set(CPU_STATE),
+            override_code: (override_code != NONE).then_some(override_code),
+            record: set(RECORD),
+        }
+    }
+}
+
 /// Kind and cause as numbers that count from 0 in `mod.rs` order.
 #[derive(Clone, Copy, Debug, PartialEq, Eq)]
 pub enum Answer {
     Address(u32),
     Fault { kind: u8, cause: u8, address: u32 },
+}
+
+/// An access's line without its count.
+impl Display for Answer {
+    fn fmt(&self, f: &mut Formatter) -> fmt::Result {
+        match *self {
+            Answer::Address(physical) => write!(f, "A {physical:08X}"),
+            Answer::Fault { kind, cause, address } => write!(f, "F {kind} {cause} {address:08X}"),
+        }
+    }
 }
 
 /// A pair of caches and the calls on it. Arguments have passed their refusals.
@@ -178,22 +205,10 @@ impl<M: Machine> Replay<'_, M> {
 
     fn access(&mut self, flags: u8, override_code: u8, address: u32) -> Result<String, u8> {
         refuse(5, override_code > 7 && override_code != NONE)?;
-        let set = |bit: u8| flags & bit != 0;
-        let access = Access {
-            address,
-            write: set(WRITE),
-            supervisor: set(SUPERVISOR),
-            instruction: set(INSTRUCTION),
-            cpu_supervisor: set(CPU_STATE),
-            override_code: (override_code != NONE).then_some(override_code),
-            record: set(RECORD),
-        };
+        let access = Access::of(flags, override_code, address);
         let Self { machine, registers, memory } = self;
         let (answer, count) = memory.counted(|memory| machine.translate(registers, &access, memory));
-        Ok(match answer {
-            Answer::Address(physical) => format!("A {physical:08X} {count}"),
-            Answer::Fault { kind, cause, address } => format!("F {kind} {cause} {address:08X} {count}"),
-        })
+        Ok(format!("{answer} {count}"))
     }
 }
 
