@@ -12,6 +12,43 @@ pub fn line_end(bytes: &[u8], from: usize) -> usize {
     i
 }
 
+// Where line `n` starts, from 0; the text's end where it has fewer lines.
+pub fn nth_line(bytes: &[u8], n: u32) -> usize {
+    let mut at = 0;
+    let mut left = n;
+    while left > 0 {
+        at = line_end(bytes, at);
+        left -= 1;
+    }
+    at
+}
+
+// How many lines there are.
+pub fn line_count(bytes: &[u8]) -> u64 {
+    let mut n: u64 = 0;
+    let mut at = 0;
+    let mut turns = u64::MAX;
+    while turns > 0 && at < bytes.len() {
+        at = line_end(bytes, at);
+        n = std::num::wrapping_add_u64(n, 1);
+        turns -= 1;
+    }
+    n
+}
+
+// The last space from `from` up to `to`, and `from` where there is none.
+pub fn last_space(bytes: &[u8], from: usize, to: usize) -> usize {
+    let mut space = from;
+    let mut i = from;
+    while i < to && i < bytes.len() {
+        if bytes[i] == 32 {
+            space = i;
+        }
+        i += 1;
+    }
+    space
+}
+
 // Whether the bytes from `i` up to `a` of the first are those from `j` up to `b` of the second.
 pub fn same_part(first: &[u8], i: usize, a: usize, second: &[u8], j: usize, b: usize) -> bool {
     if i <= a && a <= first.len() {
@@ -42,4 +79,18 @@ pub fn put_part(out: &mut [u8], at: usize, bytes: &[u8], from: usize, to: usize)
         i += 1;
     }
     place
+}
+
+// Where the text of a line that ends at `to` ends: before its line's end.
+pub fn text_end(bytes: &[u8], to: usize) -> usize {
+    if to == 0 {
+        return to;
+    }
+    if bytes.len() < to {
+        return to;
+    }
+    if bytes[to - 1] == 10 {
+        return to - 1;
+    }
+    to
 }
