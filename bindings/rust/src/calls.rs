@@ -1,0 +1,184 @@
+//! The calls.
+
+use crate::answers::{cause_of, kind_of, Error, Fault, Refusal, Status, Translated};
+use crate::caches::{Caches, ENTRIES, SLOTS};
+use crate::door;
+use crate::given::{Access, Registers, Tables};
+
+/// A pair of translation caches, and the calls on it. A clone is a warm copy: give one to
+/// each worker.
+#[derive(Clone, Debug, PartialEq, Eq)]
+pub struct Pmmu {
+    caches: Caches,
+}
+
+impl Default for Pmmu {
+    fn default() -> Self {
+        Pmmu::new()
+    }
+}
+
+impl From<Caches> for Pmmu {
+    fn from(caches: Caches) -> Self {
+        Pmmu { caches }
+    }
+}
+
+impl Pmmu {
+    /// Both caches empty, every number 0.
+    #[must_use]
+    pub fn new() -> Self {
+        let mut caches = Caches {
+            tags: [0; ENTRIES],
+            pages: [0; ENTRIES],
+            stamps: [0; ENTRIES],
+            marks: [0; 3],
+            keys: [0; SLOTS],
+            bases: [0; SLOTS],
+        };
+        door::empty(&mut caches);
+        Pmmu { caches }
+    }
+
+    /// Both caches, to compare or to save.
+    #[must_use]
+    pub fn caches(&self) -> &Caches {
+        &self.caches
+    }
+
+    /// The physical address of an access, from the transparent registers, the caches or a
+    /// walk; the page that a walk finds is cached.
+    ///
+    /// # Errors
+    /// The fault, or a refusal (1, 5, 2, 3 or 4).
+    #[inline]
+    pub fn translate(
+        &mut self,
+        registers: &Registers,
+        access: &Access,
+        tables: Tables<'_>,
+    ) -> Result<Translated, Error> {
+        let answer = lend(tables, |memory| door::translate(&mut self.caches, memory, registers, access))?;
+        match answer {
+            [0, address, _, _, count] => Ok(Translated { address, count }),
+            [1, address, kind, cause, count] => {
+                Err(Error::Fault(Fault { kind: kind_of(kind), cause: cause_of(cause), address, count }))
+            }
+            [_, number, ..] => Err(Error::Refused(Refusal::of(number))),
+        }
+    }
+
+    /// PLOAD: drops the page, searches, and caches what it finds. Gives the count.
+    ///
+    /// # Errors
+    /// A refusal (1, 6, 5, 2, 3 or 4).
+    pub fn load(
+        &mut self,
+        registers: &Registers,
+        code: u8,
+        write: bool,
+        address: u32,
+        tables: Tables<'_>,
+    ) -> Result<u32, Refusal> {
+        match lend(tables, |memory| door::load(&mut self.caches, memory, registers, code, write, address))? {
+            [0, _, _, _, count] => Ok(count),
+            [_, number, ..] => Err(Refusal::of(number)),
+        }
+    }
+
+    /// PTEST: at most so many levels, whether the PMMU is enabled or not. It touches no
+    /// cache, so it takes none.
+    ///
+    /// # Errors
+    /// A refusal (1, 6, 5, 2 or 3).
+    pub fn test(
+        registers: &Registers,
+        code: u8,
+        write: bool,
+        level: u8,
+        address: u32,
+        tables: Tables<'_>,
+    ) -> Result<Status, Refusal> {
+        match lend(tables, |memory| door::test(memory, registers, code, write, level, address))? {
+            [0, mmusr, address, _, count] => Ok(Status { mmusr: mmusr as u16, address, count }),
+            [_, number, ..] => Err(Refusal::of(number)),
+        }
+    }
+
+    /// The address from a transparent match or an unrecorded hit, else nothing. The CPU's
+    /// own state is the privilege, and there is no override.
+    ///
+    /// # Errors
+    /// A refusal (1 or 4).
+    #[inline]
+    pub fn probe(
+        &self,
+        registers: &Registers,
+        own: bool,
+        instruction: bool,
+        write: bool,
+        address: u32,
+    ) -> Result<Option<u32>, Refusal> {
+        let flags = u32::from(own) << 3 | u32::from(instruction) << 2 | u32::from(write);
+        match door::probe(&self.caches, registers, flags, address) {
+            [0, address, ..] => Ok(Some(address)),
+            [3, ..] => Ok(None),
+            [_, number, ..] => Err(Refusal::of(number)),
+        }
+    }
+
+    /// Empties both caches.
+    ///
+    /// # Errors
+    /// Refusal 4.
+    pub fn flush_all(&mut self) -> Result<(), Refusal> {
+        flushed(door::flush_all(&mut self.caches))
+    }
+
+    /// Drops the 68030 entries whose code agrees on the mask's bits.
+    ///
+    /// # Errors
+    /// A refusal (5 or 4).
+    pub fn flush_code(&mut self, code: u8, mask: u8) -> Result<(), Refusal> {
+        flushed(door::flush_code(&mut self.caches, code, mask))
+    }
+
+    /// Drops those of them whose page is the address's.
+    ///
+    /// # Errors
+    /// A refusal (5 or 4).
+    pub fn flush_page(&mut self, code: u8, mask: u8, address: u32) -> Result<(), Refusal> {
+        flushed(door::flush_page(&mut self.caches, code, mask, address))
+    }
+
+    /// Drops a 68040 frame for either privilege.
+    ///
+    /// # Errors
+    /// Refusal 5.
+    pub fn flush_frame(&mut self, frame: u32) -> Result<(), Refusal> {
+        flushed(door::flush_frame(&mut self.caches, frame))
+    }
+}
+
+/// What the call gives on these tables, with the ranges as the library takes them: sixteen
+/// at most.
+#[inline]
+fn lend(tables: Tables<'_>, call: impl FnOnce(&door::Memory<'_>) -> door::Answer) -> Result<door::Answer, Refusal> {
+    let n = tables.ranges.len();
+    if n > 16 {
+        return Err(Refusal::Ranges);
+    }
+    let mut ranges = [0; 32];
+    for (numbers, range) in ranges.chunks_exact_mut(2).zip(tables.ranges) {
+        numbers.copy_from_slice(&[range.first, range.last]);
+    }
+    Ok(call(&door::Memory { longs: tables.longs, base: tables.base, ranges: &ranges, n }))
+}
+
+/// A flush's answer from its number.
+fn flushed(number: u32) -> Result<(), Refusal> {
+    match number {
+        0 => Ok(()),
+        number => Err(Refusal::of(number)),
+    }
+}

@@ -1,0 +1,250 @@
+//! The static library's functions, and one safe function over each. Nothing else of this
+//! crate is unsafe.
+//!
+//! Each call is sound for the same reasons. The library's functions are
+//! `pub extern "C"` over references, proved to keep to what they are lent for every
+//! input: none has a condition that a caller would have to meet. A `&[u64; N]` is a
+//! pointer to N numbers, a `&[T]` a pointer and a length. What is lent here are Rust's
+//! own references, so it is aligned, initialised and alive during the call, and what is
+//! lent as `&mut` is lent once. The numbers have no padding, and any bits are a number.
+
+use crate::caches::{Caches, ENTRIES, SLOTS};
+use crate::given::{Access, Registers};
+
+/// Ranges that a call takes: the first and the last address of each of sixteen.
+pub(crate) type Ranges = [u32; 32];
+
+/// The five numbers of an answer: what it is (0 an address, a status or done, 1 a fault,
+/// 2 a refusal, 3 nothing), its number, two numbers more, and the count.
+pub(crate) type Answer = [u32; 5];
+
+mod library {
+    use super::{Answer, Ranges, ENTRIES, SLOTS};
+
+    extern "C" {
+        pub fn mmu_empty(
+            tags: &mut [u64; ENTRIES],
+            pages: &mut [u64; ENTRIES],
+            stamps: &mut [u64; ENTRIES],
+            marks: &mut [u64; 3],
+            keys: &mut [u64; SLOTS],
+            bases: &mut [u64; SLOTS],
+        );
+        pub fn mmu_translate(
+            tags: &mut [u64; ENTRIES],
+            pages: &mut [u64; ENTRIES],
+            stamps: &mut [u64; ENTRIES],
+            marks: &mut [u64; 3],
+            keys: &mut [u64; SLOTS],
+            bases: &mut [u64; SLOTS],
+            longs: *const u32,
+            longs_len: usize,
+            base: u32,
+            ranges: &Ranges,
+            n: usize,
+            registers: &[u32; 13],
+            flags: u32,
+            code: u32,
+            address: u32,
+            out: &mut Answer,
+        );
+        pub fn mmu_load(
+            tags: &mut [u64; ENTRIES],
+            pages: &mut [u64; ENTRIES],
+            stamps: &mut [u64; ENTRIES],
+            marks: &mut [u64; 3],
+            longs: *const u32,
+            longs_len: usize,
+            base: u32,
+            ranges: &Ranges,
+            n: usize,
+            registers: &[u32; 13],
+            code: u32,
+            write: bool,
+            address: u32,
+            out: &mut Answer,
+        );
+        pub fn mmu_test(
+            longs: *const u32,
+            longs_len: usize,
+            base: u32,
+            ranges: &Ranges,
+            n: usize,
+            registers: &[u32; 13],
+            code: u32,
+            write: bool,
+            level: u32,
+            address: u32,
+            out: &mut Answer,
+        );
+        pub fn mmu_probe(
+            tags: &[u64; ENTRIES],
+            pages: &[u64; ENTRIES],
+            stamps: &[u64; ENTRIES],
+            marks: &[u64; 3],
+            keys: &[u64; SLOTS],
+            bases: &[u64; SLOTS],
+            registers: &[u32; 13],
+            flags: u32,
+            address: u32,
+            out: &mut Answer,
+        );
+        pub fn mmu_flush_all(
+            tags: &mut [u64; ENTRIES],
+            pages: &[u64; ENTRIES],
+            stamps: &[u64; ENTRIES],
+            marks: &[u64; 3],
+            keys: &mut [u64; SLOTS],
+            bases: &[u64; SLOTS],
+        ) -> u32;
+        pub fn mmu_flush_code(
+            tags: &mut [u64; ENTRIES],
+            pages: &[u64; ENTRIES],
+            stamps: &[u64; ENTRIES],
+            marks: &[u64; 3],
+            code: u32,
+            mask: u32,
+        ) -> u32;
+        pub fn mmu_flush_page(
+            tags: &mut [u64; ENTRIES],
+            pages: &[u64; ENTRIES],
+            stamps: &[u64; ENTRIES],
+            marks: &[u64; 3],
+            code: u32,
+            mask: u32,
+            address: u32,
+        ) -> u32;
+        pub fn mmu_flush_frame(keys: &mut [u64; SLOTS], bases: &[u64; SLOTS], frame: u32) -> u32;
+    }
+}
+
+/// Table memory as a call takes it: the longs, their base, and the first `n` ranges.
+pub(crate) struct Memory<'a> {
+    pub longs: &'a [u32],
+    pub base: u32,
+    pub ranges: &'a Ranges,
+    pub n: usize,
+}
+
+/// Makes both caches empty.
+pub(crate) fn empty(c: &mut Caches) {
+    let Caches { tags, pages, stamps, marks, keys, bases } = c;
+    // SAFETY: six arrays of the sizes that the library names, each lent once.
+    unsafe { library::mmu_empty(tags, pages, stamps, marks, keys, bases) }
+}
+
+#[inline]
+pub(crate) fn translate(c: &mut Caches, m: &Memory<'_>, registers: &Registers, access: &Access) -> Answer {
+    let Caches { tags, pages, stamps, marks, keys, bases } = c;
+    let mut out = [0; 5];
+    // SAFETY: arrays of the sizes that the library names, each lent once; a slice's pointer with its own length.
+    unsafe {
+        library::mmu_translate(
+            tags,
+            pages,
+            stamps,
+            marks,
+            keys,
+            bases,
+            m.longs.as_ptr(),
+            m.longs.len(),
+            m.base,
+            m.ranges,
+            m.n,
+            &registers.numbers(),
+            access.flags(),
+            access.override_number(),
+            access.address,
+            &mut out,
+        );
+    }
+    out
+}
+
+pub(crate) fn load(
+    c: &mut Caches,
+    m: &Memory<'_>,
+    registers: &Registers,
+    code: u8,
+    write: bool,
+    address: u32,
+) -> Answer {
+    let Caches { tags, pages, stamps, marks, .. } = c;
+    let mut out = [0; 5];
+    // SAFETY: as for `translate`; a `bool` is 0 or 1 on both sides.
+    unsafe {
+        library::mmu_load(
+            tags,
+            pages,
+            stamps,
+            marks,
+            m.longs.as_ptr(),
+            m.longs.len(),
+            m.base,
+            m.ranges,
+            m.n,
+            &registers.numbers(),
+            code.into(),
+            write,
+            address,
+            &mut out,
+        );
+    }
+    out
+}
+
+pub(crate) fn test(m: &Memory<'_>, registers: &Registers, code: u8, write: bool, level: u8, address: u32) -> Answer {
+    let mut out = [0; 5];
+    // SAFETY: as for `load`; no cache is lent.
+    unsafe {
+        library::mmu_test(
+            m.longs.as_ptr(),
+            m.longs.len(),
+            m.base,
+            m.ranges,
+            m.n,
+            &registers.numbers(),
+            code.into(),
+            write,
+            level.into(),
+            address,
+            &mut out,
+        );
+    }
+    out
+}
+
+#[inline]
+pub(crate) fn probe(c: &Caches, registers: &Registers, flags: u32, address: u32) -> Answer {
+    let Caches { tags, pages, stamps, marks, keys, bases } = c;
+    let mut out = [0; 5];
+    // SAFETY: arrays of the sizes that the library names; it only reads what is lent as `&`.
+    unsafe {
+        library::mmu_probe(tags, pages, stamps, marks, keys, bases, &registers.numbers(), flags, address, &mut out)
+    }
+    out
+}
+
+pub(crate) fn flush_all(c: &mut Caches) -> u32 {
+    let Caches { tags, pages, stamps, marks, keys, bases } = c;
+    // SAFETY: arrays of the sizes that the library names, each lent once.
+    unsafe { library::mmu_flush_all(tags, pages, stamps, marks, keys, bases) }
+}
+
+pub(crate) fn flush_code(c: &mut Caches, code: u8, mask: u8) -> u32 {
+    let Caches { tags, pages, stamps, marks, .. } = c;
+    // SAFETY: as for `flush_all`.
+    unsafe { library::mmu_flush_code(tags, pages, stamps, marks, code.into(), mask.into()) }
+}
+
+pub(crate) fn flush_page(c: &mut Caches, code: u8, mask: u8, address: u32) -> u32 {
+    let Caches { tags, pages, stamps, marks, .. } = c;
+    // SAFETY: as for `flush_all`.
+    unsafe { library::mmu_flush_page(tags, pages, stamps, marks, code.into(), mask.into(), address) }
+}
+
+pub(crate) fn flush_frame(c: &mut Caches, frame: u32) -> u32 {
+    let Caches { keys, bases, .. } = c;
+    // SAFETY: as for `flush_all`.
+    unsafe { library::mmu_flush_frame(keys, bases, frame) }
+}
