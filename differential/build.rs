@@ -3,17 +3,20 @@
 //! files of `src/core` that it needs) where they stand.
 //!
 //! The folder that has `src/mmu` is `M68K_SRC`, else `../shared/docs/src` beside
-//! the project. `bench/` uses this build script too.
+//! the project. `bench/` and `bindings/beside/` use this build script too.
 
 use std::path::{Path, PathBuf};
 use std::{env, fs};
+
+/// The stand-in for the original's CPU core, from the project's folder.
+const STAND_IN: &str = "differential/stand_in/cpu.rs";
 
 fn main() {
     println!("cargo::rerun-if-env-changed=M68K_SRC");
     // The original's feature, which stays off.
     println!("cargo::rustc-check-cfg=cfg(feature, values(\"serde\"))");
     let package = PathBuf::from(env::var("CARGO_MANIFEST_DIR").expect("set by cargo"));
-    let project = package.parent().expect("a package folder has a parent").to_path_buf();
+    let project = package.ancestors().find(|folder| folder.join(STAND_IN).is_file()).expect("a package of the project");
     let sources = env::var_os("M68K_SRC").map_or_else(|| project.join("../shared/docs/src"), PathBuf::from);
     let original = sources.join("src");
     assert!(
@@ -22,7 +25,7 @@ fn main() {
         sources.display()
     );
 
-    let text = modules(&absolute(&original), &absolute(&project));
+    let text = modules(&absolute(&original), &absolute(project));
     let out = PathBuf::from(env::var("OUT_DIR").expect("set by cargo"));
     fs::write(out.join("original.rs"), text).expect("the output folder can be written");
 }
@@ -48,7 +51,7 @@ fn modules(original: &Path, project: &Path) -> String {
     text += "pub mod core {\n";
     text += &module(original.join("core/memory.rs"), "memory");
     text += &module(original.join("core/types.rs"), "types");
-    text += &module(project.join("differential/stand_in/cpu.rs"), "cpu");
+    text += &module(project.join(STAND_IN), "cpu");
     text += "}\n";
     text
 }
