@@ -1,5 +1,5 @@
 # shellcheck shell=bash
-# For bench/run and bench/cache_run: finds the original's sources, builds the Rust side, and what both print with.
+# For bench/run, cache_run and door_run: finds the original's sources, builds the Rust side, and what both print with.
 export LC_ALL=C
 
 root=$(dirname "$here")
