@@ -6,14 +6,15 @@
 A function of a module is named MODULE.FUNCTION. It is run where crates.txt stands, reads tools/CRATE_walks.py, and writes crates/CRATE/proofs/FUNCTION/Proof.antt of each function that
 is named there, or of those that are given.
 
-A thin function has parameters that are numbers, bools, structs, enums and arrays by value, `&[T]` of numbers or structs, and `&mut S`
-of a struct. Its body has:
+A thin function has parameters that are numbers, bools, structs, enums and arrays by value, `&[T]` of numbers or structs, `&T`, and
+`&mut T` of a struct or an array. Its body has:
 - calls of proved functions, of this crate or another, on whole locals, and copies of locals;
 - `s.len()` and `s[i]` of a slice, numbers, `+`, `*`, `<`, `<=`, `==`;
 - `if c { .. return x; }` before the loop;
 - at most one loop, left by a `while`'s test or by one `if c { break f(..); }`;
 - `&list[..n]` of a local array, handed to the next call;
-- `let b = *r;` and `*r = b;` of a `&mut`, outside the loop.
+- `let b = *r;` and `*r = b;` of a `&mut`, outside the loop;
+- calls that are lent a `&mut` parameter as `&mut`, each callee once, outside the loop.
 A `match`, a field, a literal as an argument: those belong into the covered functions that it calls.
 
 The script keeps the context of the walk by names and prints positions, so nobody counts. It reads the contracts from the sources. The

@@ -1,5 +1,5 @@
 """One function: its walk, statement by statement, and the file around it."""
-from logic import KIT, KIT_ARRAY, KIT_LEND, KIT_MUT, needed
+from logic import KIT, KIT_ARRAY, KIT_LEND, KIT_MUT, KIT_SHARED, needed
 from sexp import items, place, statements
 from text import list_of, nth, numbered, par, product_of, text_of, tuple_of
 from values import Facts, Type, Value
@@ -21,11 +21,12 @@ class Printer:
         self.facts = Facts()
         self.lent = None             # the array that is lent until the next call has returned
         self.lends = False
+        self.made = self.f.lifetimes      # the next lifetime that is made here
         self.names = 0
         numbers = range(1, self.f.nparams + 1)
         self.locals = range(len(self.f.locals))
         self.lifetimes = range(self.f.lifetimes)
-        self.slices = [i for i in numbers if self.param(i).kind == 'slice']
+        self.shared = [i for i in numbers if self.param(i).shared]
         self.muts = [i for i in numbers if self.param(i).kind == 'mutref']
         self.xs = numbered('x', numbers)
 
@@ -52,7 +53,7 @@ class Printer:
 
     def kept_names(self):
         """what stands at the exit: tokens, slices, and the two parts of each `&mut`"""
-        return numbered('T', self.lifetimes) + numbered('S', self.slices) + [x for i in self.muts for x in (f'obs{i}', f'bor{i}')]
+        return numbered('T', self.lifetimes) + numbered('S', self.shared) + [x for i in self.muts for x in (f'obs{i}', f'bor{i}')]
 
     # ---------- a statement
     def statement(self, w, s, last=False):
@@ -76,7 +77,9 @@ class Printer:
             step, value = w.operand(operand)
             return w.assign(local, f'of-opd ! ({step})', value, last)
         if rvalue[0] == 'addrOf':
-            source = place(rvalue[1])[0]
+            source, through = place(rvalue[1])
+            if through:
+                return self.again(w, local, source, last)
             return w.assign(local, 'addr ! (from ! (stop !))', Value(Type('ptr'), None, None, None, array=source), last)
         if rvalue[0] == 'aggregate':
             return self.lend(w, local, items(rvalue[1]))
@@ -130,6 +133,50 @@ class Printer:
         w.replace(5, f'obs{i}', f'bor{i}', f'T{k}')
         w.values[local] = ref.but(now=now)
 
+    def again(self, w, local, source, last):
+        """`local` takes the pointer of the `&mut` in `source`, which the next call is lent"""
+        ref = w.values[source]
+        value = Value(self.f.locals[local], None, ref.type.value(ref.x), None, param=ref.param)
+        w.assign(local, f'addr ! (from ! (hop ! (look ! {w.cell(source)} refl) (stop !)))', value, last)
+
+    def lend_again(self, w, i, to, made, name):
+        """parameter i is lent for a lifetime that is made here, as `to` of the callee; its value there"""
+        p, now = self.param(i), w.values[i].now
+        k, row, v = p.lifetime, p.elem.row(), p.value(f'x{i}')
+        place_ = f'(x{i} .ptr .0) (x{i} .ptr .1)'
+        w.say(f'lft-new ! tt (λ α{made}.', opens=1)
+        w.push(f'T{made}')
+        w.move(f'obs{i}', f'bor{i}')
+        w.say(f'feqI ! (List Val) ({v} ∷ []) ({v} ∷ []) refl $ fjoin3 !')
+        w.replace(2, 'ref')
+        w.move('ref', f'T{k}')
+        new = self.fresh('δ')
+        x = f'(record {{ ptr = (x{i} .ptr .0, x{i} .ptr .1); name = {new}; now = {now} }})'
+        row_there = to.row(f'(α{made} ∷ [])')
+        w.say(f'use2 W (later (some (λ ({new} : GName). ‵ ({row_there} .own {x} ({v} ∷ [])) ⊛ '
+              f'‵ (LentAgain {row} κ{k} (α{made} ∷ []) q{k} (x{i} .name) {place_} {new} {now})))) '
+              f'(lends-again 𝓤 H A W {row} (named {k}) κ{k} (α{made} ∷ []) q{k} (x{i} .name) {place_} (named {to.lifetime}) {now}) $ '
+              f'await ! tt $ choose ! (λ {new}. split !', opens=1)
+        w.replace(2, name, f'again{i}')
+        return Value(to, x, v, None, param=i, new=new, made=made)
+
+    def comes_back(self, w, lent, last):
+        """the call has returned, and left `last` behind the `&mut` that it was lent"""
+        i = lent.param
+        p, now = self.param(i), w.values[i].now
+        k, row, v = p.lifetime, p.elem.row(), p.value(f'x{i}')
+        place_ = f'(x{i} .ptr .0) (x{i} .ptr .1)'
+        w.move(f'T{lent.made}')
+        w.say('lft-end ! tt')
+        w.replace(1, 'dead')
+        w.move('dead', f'again{i}', f'res{i}')
+        own = f'{p.row()} .own (record {{ ptr = (x{i} .ptr .0, x{i} .ptr .1); name = x{i} .name; now = {last} }}) ({v} ∷ [])'
+        w.say(f'use3 W (later (‵ ({own}) ⊛ ‵ (flft κ{k} q{k}))) '
+              f'(comes-back 𝓤 H A W {row} (named {k}) κ{k} (α{lent.made} ∷ []) q{k} (x{i} .name) {place_} {lent.new} {now} {last}) $ '
+              'await ! tt $ split ! $ fsplit3 ! $ drop !')
+        w.replace(3, f'obs{i}', f'bor{i}', f'T{k}')
+        w.values[i] = w.values[i].but(now=last)
+
     def lend(self, w, local, parts):
         """`local` takes the slice of a local array's first elements, lent for a lifetime that is made here, until the next call has returned"""
         self.lends = True
@@ -181,12 +228,12 @@ class Printer:
               f'(lending.back 𝓤 H A W {row} {lent["size"]} {xs} {b} 0 {par(text_of(self.own["length"], self.facts))})')
         w.replace(2, f'L{lent["source"]}')
 
-    def copy_slice(self, w, i, slice_, name):
+    def copy_shared(self, w, i, reference, name):
         """what parameter i owns, once more under another name"""
         w.move(f'S{i}')
-        own = self.owned(i)
-        w.say(f'use1 W (‵ ({own}) ⊛ ‵ ({own})) (shr-slice-copy 𝓤 H A W (named {slice_.type.lifetime}) κ{slice_.type.lifetime} '
-              f'{slice_.type.elem.row()} .twice {slice_.x} _)')
+        own, type_ = self.owned(i), reference.type
+        law = 'shr-slice-copy' if type_.kind == 'slice' else 'shr-copy'
+        w.say(f'use1 W (‵ ({own}) ⊛ ‵ ({own})) ({law} 𝓤 H A W (named {type_.lifetime}) κ{type_.lifetime} {type_.elem.row()} .twice {reference.x} _)')
         w.say('split !')
         w.push(name)
 
@@ -199,7 +246,7 @@ class Printer:
         b, o = f'({xs} .ptr .0)', f'({xs} .ptr .1)'
         at = f'{b} (place {to.size} {o} {i})'
         w.say(f'rewrite ! {w.cell(pointer)} (λ (p : ℕ). ‵ (fat fullShare tyPtr l{pointer} 0 (vptr {b} p))) (sym (place-is {to.size} {o} {i})) refl')
-        self.copy_slice(w, to.slice, slice_, 'copy')
+        self.copy_shared(w, to.slice, slice_, 'copy')
         w.say('fsplit !')
         w.replace(1, 'fact', 'more')
         w.drop()
@@ -255,23 +302,29 @@ class Printer:
     def call(self, w, s, last):
         name, into = s[1][1][1].strip('"'), place(s[3])[0]
         params, passed = self.functions[name].params, self.arguments(s)
-        slices = [(j, local) for j, (p, local) in enumerate(zip(params, passed)) if p.kind == 'slice']
-        k = self.callee(name, {params[j].lifetime: w.values[local].type.lifetime for j, local in slices})
-        f, contract, lifetimes = self.calls[k]
+        values = [w.values[local] for local in passed]
+        # what the references own goes along: a copy where a parameter is shared, and a `&mut` is lent again
+        lifetimes = {}
+        for j, p in enumerate(params):
+            if p.kind == 'mutref':
+                values[j] = self.lend_again(w, values[j].param, p, self.made, f'c{j}')
+                lifetimes[p.lifetime] = self.made
+                self.made += 1
+            elif p.shared:
+                lifetimes[p.lifetime] = values[j].type.lifetime
+                if hasattr(values[j], 'fresh'):
+                    w.context[w.at(f'S{passed[j]}')] = f'c{j}'
+                else:
+                    self.copy_shared(w, values[j].param, values[j], f'c{j}')
+        k = self.callee(name, lifetimes)
+        f, contract, _ = self.calls[k]
         lifetimes = [lifetimes[j] for j in range(f.lifetimes)]
         made = [j for j in lifetimes if j not in self.lifetimes]
-        # what the slices own goes along, a copy where it is a parameter's
-        for j, local in slices:
-            if hasattr(w.values[local], 'fresh'):
-                w.context[w.at(f'S{local}')] = f'c{j}'
-            else:
-                self.copy_slice(w, w.values[local].param, w.values[local], f'c{j}')
-        names = numbered('T', lifetimes) + [f'c{j}' for j, _ in slices]
+        names = numbered('T', lifetimes) + [f'c{j}' for j, p in enumerate(params) if p.lent]
         w.move(*names)
-        values = [w.values[local] for local in passed]
         with_made = ''.join(f'(α{j} ∷ []) fullShare ' for j in made)
         arguments = with_made + ' '.join(value.args for value in values)
-        are = ' '.join(par(value.i) for value, p in zip(values, params) if p.kind != 'slice')
+        are = ' '.join(par(value.i) for value, p in zip(values, params) if not p.lent)
         asked = ' ' + par(self.own['pre'][f.bare](self.facts)) if contract.requires else ''
         to = f'(to-{k} {arguments})' if params else f'to-{k}'
         goes = f'(goes-{k} {arguments} {are}{asked})' if params else f'goes-{k}'
@@ -286,12 +339,26 @@ class Printer:
         u, r, e, is_ = self.fresh('u'), self.fresh('r'), self.fresh('e'), self.fresh('is')
         result = f.result
         kappas, xs = tuple_of([self.kappa(j) for j in lifetimes]), tuple_of([value.x for value in values])
-        says = contract.says([par(value.x) for value in values], r)
-        said = f'said-{k} {with_made}{" ".join(par(value.x) for value in values)} {r}'
+        muts = [j for j, p in enumerate(params) if p.kind == 'mutref']
+        ws = self.fresh('ws') if muts else None
+
+        def says(last):
+            """what is known of the result, and of the last values, which are a tuple"""
+            return contract.says([par(value.x) for value in values], r, {contract.params[j]: par(nth(last, j)) for j in muts})
+
+        given = f'c{k}.ended {kappas} {xs}'
+        heard = f'heard ! ({says(ws)}) (λ {e}.'
+        if muts:
+            known = (f'use1 W (some (λ (ws : Lasts {given}). ‵ (lasts {given} ws) ⊛ raw (fact 𝓤 ({says("ws")})))) (id⊢ 𝓤 _) $ '
+                     f'choose ! (λ {ws}. split ! $ move ! (1 ∷ []) $ {heard}')
+        else:
+            known = f'use1 W (raw (fact 𝓤 ({says(ws)}))) (said-{k} {with_made}{" ".join(par(value.x) for value in values)} {r}) $ {heard} split !'
         w.say(f'{"calls-at-last" if last else "calls-at"} ! fm (C{k} 𝓤 H A mem run) known-{k} {to} ({loads}) (λ {u}.'
               f'\n        use1 W (later (some (λ (r : {result.denotation()}). ({self.alive(lifetimes)} ⊛ ‵ ({result.row()} .own r ({u} ∷ []))) ⊛ '
               f'raw (ensured 𝓤 H A c{k}.ended (c{k}.clauses 𝓤 H A mem run) {kappas} {xs} tt r)))) (id⊢ 𝓤 _) $ await ! tt $ choose ! (λ {r}. '
-              f'split ! $ move ! (1 ∷ []) $ use1 W (raw (fact 𝓤 ({says}))) ({said}) $ heard ! ({says}) (λ {e}. split !', opens=3)
+              f'split ! $ move ! (1 ∷ []) $ {known}', opens=4 if muts else 3)
+        if muts:
+            self.lasts(w, values, muts)
         w.replace(1, 'alive', 'got')
         for j in lifetimes:
             w.say('split !')
@@ -307,16 +374,31 @@ class Printer:
         w.say(f'rewrite ! {w.cell(into)} (λ (u : Val). ‵ (fat fullShare {result.mir()} l{into} 0 u)) (ap only {spelled}) refl')
         w.values[into] = Value(result, r, result.value(r), f'(subst (Is {result.row()} {r}) {spelled} {is_})')
         self.facts.append((f.bare, r, e))
+        for j in muts:
+            self.comes_back(w, values[j], par(nth(ws, j)))
         if self.lent and made:
             self.unlend(w)
+
+    def lasts(self, w, values, muts):
+        """what the call says of the last value of each `&mut` that it was lent, one by one; then what else it gave stands at the head"""
+        w.replace(1, 'lasts', 'held')
+        for j, value in enumerate(values):
+            w.say('fsplit !')
+            w.replace(1, f'res{value.param}' if j in muts else 'silent', 'lasts')
+            if j not in muts:
+                w.drop()
+            w.move('lasts')
+        w.drop()
+        w.move('held')
+        w.say('split !')
 
     def call_lemmas(self, k):
         """what callee k is passed, what it asks, and what is known of its result"""
         f, contract, lifetimes = self.calls[k]
         lifetimes = [lifetimes[j] for j in range(f.lifetimes)]
         numbers = range(f.nparams)
-        plain = [j for j in numbers if f.params[j].kind != 'slice']
-        rows = [p.row(lifetimes[p.lifetime]) if p.kind == 'slice' else p.row() for p in f.params]
+        plain = [j for j in numbers if not f.params[j].lent]
+        rows = [p.row(f'κ{lifetimes[p.lifetime]}') if p.lent else p.row() for p in f.params]
         made = [j for j in lifetimes if j not in self.lifetimes]
         made_bound, made_names = ''.join(f'(κ{j} : Lft) (q{j} : Share) ' for j in made), ''.join(f'κ{j} q{j} ' for j in made)
         a, v = numbered('a', numbers), numbered('v', numbers)
@@ -351,18 +433,22 @@ class Printer:
             w.say('frame !')
         w.say('done !')
         given = f'{bound} {are} {f"(pre : {contract.asks(a)}) " if asks else ""}→ ' if f.nparams else ''
-        says = contract.says(a, 'r')
         xs, vs = tuple_of(a), tuple_of([f'{x} ∷ []' for x in v])
         ensured = f'ensured 𝓤 H A c{k}.ended (c{k}.clauses 𝓤 H A mem run) {kappas} {xs} tt r'
         known_of = made_bound + ' '.join(f'(a{j} : {p.denotation()})' for j, p in enumerate(f.params))
-        return f'''  -- the call of `{f.short}`: what it is passed, what it asks, and what is known of its result
+        lends = any(p.kind == 'mutref' for p in f.params)
+        out = f'''  -- the call of `{f.short}`: what it is passed, {'and what it asks' if lends else 'what it asks, and what is known of its result'}
   abbrev to-{k} : {bound + ' → ' if f.nparams else ''}C{k} 𝓤 H A mem run .Ghost
   to-{k} {names} = (({kappas}, {shares}, tt, {xs}, {vs}), tt)
 
   goes-{k} : {given}ent 𝓤 ({f'⋆ 𝓤 H A ({list_of(source)})' if source else 'emp 𝓤'}) (C{k} 𝓤 H A mem run .pre (to-{k} {names}))
   goes-{k} {names} {' '.join(f'i{j}' for j in plain)} {'pre ' if asks else ''}=
       qed W ({list_of(source)}) ∵ {' $ '.join(w.steps)}
-
+'''
+        if lends:
+            return out
+        says = contract.says(a, 'r')
+        return out + f'''
   said-{k} : {known_of} (r : {f.result.denotation()}) → ent 𝓤 ({ensured}) (fact 𝓤 ({says}))
   said-{k} {made_names}{' '.join(a)} r = exE 𝓤 _ (λ ws. snd∗ 𝓤 (sem 𝓤 H A (lasts c{k}.ended {kappas} {xs} ws)) (fact 𝓤 ({says})))
 '''
@@ -401,7 +487,7 @@ class Printer:
         for i, p in enumerate(self.f.params, 1):
             w.say('fsplit !')
             w.replace(1, f'S{i}', 'owned')
-            if p.kind == 'slice':
+            if p.shared:
                 w.move('owned')
             elif p.kind == 'mutref':
                 w.say('fsplit3 ! $ drop !')
@@ -456,7 +542,7 @@ class Printer:
         """into the loop, and one turn of it; `rest` follows it"""
         loop = self.own['loop']
         variables = loop['vars']
-        order = numbered('L', self.locals) + numbered('D', self.locals) + numbered('T', self.lifetimes) + numbered('S', self.slices)
+        order = numbered('L', self.locals) + numbered('D', self.locals) + numbered('T', self.lifetimes) + numbered('S', self.shared)
         others = [i for i in self.locals if not 1 <= i <= self.f.nparams and i not in variables]
         # what stands at the loop's head
         head = Walk(self)
@@ -472,7 +558,7 @@ class Printer:
             cell = f'fat fullShare {type_.mir()} l{i} 0 ({head.values[i].v})' if i in head.values else f'froom {type_.mir()} l{i} 0'
             self.head.append(f'‵ ({cell})')
         self.head += [f'‵ (fdies {self.f.locals[i].mir()} l{i})' for i in self.locals]
-        self.head += [f'‵ (flft κ{k} q{k})' for k in self.lifetimes] + [f'‵ ({self.owned(i)})' for i in self.slices]
+        self.head += [f'‵ (flft κ{k} q{k})' for k in self.lifetimes] + [f'‵ ({self.owned(i)})' for i in self.shared]
         # into it
         self.forget(w, others)
         w.keep(order)
@@ -538,7 +624,7 @@ class Printer:
                 value = p.value(f'x{i}')
                 w.say(f'feqI ! (List Val) ({value} ∷ []) ({value} ∷ []) refl $ fjoin3 !')
                 w.replace(2, f'S{i}')
-            elif p.kind != 'slice':
+            elif not p.shared:
                 w.say(f'owned ! {p.row()} (Is {p.row()}) {p.makes()} x{i} _ i{i}')
                 w.push(f'S{i}')
             w.move(f'S{i}', 'owned')
@@ -562,6 +648,8 @@ class Printer:
         lines = [line.replace('WIDTHS', ', '.join(f'w{b}' for b in widths)).replace('UINTS', ', '.join(f'u{b}' for b in widths)) for line in KIT]
         if self.muts:
             lines += KIT_MUT
+        if any(t.kind == 'shrref' for t in types):
+            lines += KIT_SHARED
         if any(t.kind == 'array' for t in types):
             lines += KIT_ARRAY
         if self.lends:
@@ -654,14 +742,15 @@ class Printer:
                 behind = f'(plain (λ _. {p.elem.row()}))'
                 stays.append(f'stay-ref ({p.lifetime} ∷ []) tt {behind}')
                 goes.append(f'goes-ref 𝓤 H A W {n} {p.lifetime} tt {behind}')
-            elif p.kind == 'slice':
+            elif p.shared:
                 elems = f'({p.lifetime} ∷ []) tt (plain (λ _. {p.elem.row()})) yes'
-                stays.append(f'stay-none-slice {elems}')
-                goes.append(f'goes-none-slice 𝓤 H A W {n} {elems}')
+                kind = 'slice' if p.kind == 'slice' else 'ref'
+                stays.append(f'stay-none-{kind} {elems}')
+                goes.append(f'goes-none-{kind} 𝓤 H A W {n} {elems}')
             else:
                 stays.append(f'stay-none (λ _. {p.row()}) yes')
                 goes.append(f'goes-none 𝓤 H A W {n} (λ _. {p.row()}) yes (λ κs x f. refl)')
-        kept = [f'‵ (flft κ{k} q{k})' for k in self.lifetimes] + [f'‵ ({self.owned(i)})' for i in self.slices]
+        kept = [f'‵ (flft κ{k} q{k})' for k in self.lifetimes] + [f'‵ ({self.owned(i)})' for i in self.shared]
         for i in self.muts:
             p = self.param(i)
             kept.append(f'‵ (fobs (x{i} .name) ({p.elem.row()} .coded .code y{i}))')
@@ -724,7 +813,7 @@ class Printer:
         inner = f'walk 𝓤 H A W mem run {paths}'
         body = f'needs 𝓤 _ _ (λ pre. {inner} pre 𝓣 {known})' if asks else f'via 𝓤 _ (fst∗ 𝓤 _ (emp 𝓤)) ({inner} 𝓣 {known})'
         spells = tuple_of([p.values() for p in f.params])
-        tells = tuple_of([p.tells(f'({nth("κs", p.lifetime)})' if p.kind in ('slice', 'mutref') else None) for p in f.params])
+        tells = tuple_of([p.tells(f'({nth("κs", p.lifetime)})' if p.lent else None) for p in f.params])
         given = ''.join(f'{t} → ' for t in triples)
         code = '(WpFn 𝓤 H (𝓣 .C) (𝓣 .Λ) code.function)'
         out.append(f'''module _ {logic} (W : Given 𝓤 H A) {running} (𝓣 : Tables 𝓤 H) where

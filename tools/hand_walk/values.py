@@ -29,13 +29,23 @@ class Type:
                 return Type('slice', lifetime=lifetime, elem=Type.of(reference[3], shapes))
         if x[0] == 'tyArray' and x[2][0] == 'lenLit':
             return Type('array', elem=Type.of(x[1], shapes), n=int(x[2][1]))
-        if x[0] == 'tyRef' and x[2] == 'mut' and isinstance(x[1], list):
-            return Type('mutref', lifetime=int(x[1][1]), elem=Type.of(x[3], shapes))
+        if x[0] == 'tyRef' and isinstance(x[1], list):
+            return Type('mutref' if x[2] == 'mut' else 'shrref', lifetime=int(x[1][1]), elem=Type.of(x[3], shapes))
+        if x[0] == 'tyRef' and x[2] == 'mut':
+            return Type('again', elem=Type.of(x[3], shapes))
         return Type('other')      # a local of a callee's own; a walk stops at one
 
     @property
     def declared(self):
         return self.kind in ('struct', 'enum')
+
+    @property
+    def shared(self):
+        return self.kind in ('slice', 'shrref')
+
+    @property
+    def lent(self):
+        return self.shared or self.kind == 'mutref'
 
     @property
     def width(self):
@@ -55,19 +65,22 @@ class Type:
             'bool': lambda: 'Bool',
             'slice': lambda: f'RefT (List {par(self.elem.denotation())})',
             'array': lambda: f'List {par(self.elem.denotation())}',
+            'unit': lambda: 'Unit {0}',
             'mutref': lambda: f'RefT {par(self.elem.denotation())}',
+            'shrref': lambda: f'RefT {par(self.elem.denotation())}',
         }.get(self.kind, lambda: self.name)()
 
     def row(self, lifetime=None):
-        """the type's row; a slice's at a lifetime of the caller"""
-        if self.kind == 'slice':
-            j = self.lifetime if lifetime is None else lifetime
-            return f'(ShrSlice (named {self.lifetime}) κ{j} {self.elem.row()})'
+        """the type's row; a reference's at a lifetime of the caller"""
+        if self.lent:
+            name = {'slice': 'ShrSlice', 'shrref': 'ShrRef', 'mutref': 'MutRef'}[self.kind]
+            kappa = f'κ{self.lifetime}' if lifetime is None else lifetime
+            return f'({name} (named {self.lifetime}) {kappa} {self.elem.row()})'
         return {
             'int': lambda: f'u{self.bits}',
             'bool': lambda: 'Boolean',
+            'unit': lambda: 'Nothing',
             'array': lambda: f'(Array {self.elem.row()} {self.n})',
-            'mutref': lambda: f'(MutRef (named {self.lifetime}) κ{self.lifetime} {self.elem.row()})',
         }.get(self.kind, lambda: f'row-{self.name}.the-row')()
 
     def value(self, x):
@@ -77,7 +90,9 @@ class Type:
             'bool': lambda: f'vbool {par(x)}',
             'slice': lambda: f'sliceVal ({x} .ptr) (length ({x} .now))',
             'array': lambda: f'only (array-vals ({self.elem.values()}) {par(x)})',
+            'unit': lambda: 'vunit',
             'mutref': lambda: f'vptr ({x} .ptr .0) ({x} .ptr .1)',
+            'shrref': lambda: f'vptr ({x} .ptr .0) ({x} .ptr .1)',
         }.get(self.kind, lambda: f'{self.laws}.val {self.both} {par(x)}')()
 
     def values(self):
@@ -86,17 +101,20 @@ class Type:
             'bool': lambda: 'bool-vals',
             'slice': lambda: 'slice-vals',
             'array': lambda: f'array-vals ({self.elem.values()})',
+            'unit': lambda: 'nothing-vals',
             'mutref': lambda: 'ptr-vals',
+            'shrref': lambda: 'ptr-vals',
         }.get(self.kind, lambda: f'{self.laws}.vals {self.both}')()
 
     def tells(self, kappa=None):
         """that a value's machine value is the one above"""
-        if self.kind in ('slice', 'mutref'):
-            name = 'shr-slice-tells' if self.kind == 'slice' else 'mut-tells'
+        if self.lent:
+            name = {'slice': 'shr-slice-tells', 'shrref': 'shr-tells', 'mutref': 'mut-tells'}[self.kind]
             return f'{name} (named {self.lifetime}) {kappa or f"κ{self.lifetime}"} {self.elem.row()}'
         return {
             'int': lambda: f'uint-tells {self.width}',
             'bool': lambda: 'bool-tells',
+            'unit': lambda: 'nothing-tells',
             'array': lambda: f'array-tells {self.elem.row()} ({self.elem.values()}) ({self.elem.tells()}) {self.n}',
         }.get(self.kind, lambda: f'{self.laws}.tells {self.both}')()
 
@@ -104,6 +122,7 @@ class Type:
         return {
             'int': lambda: f'uint-lawful 𝓤 H A W {self.width}',
             'bool': lambda: 'bool-lawful 𝓤 H A W',
+            'unit': lambda: 'nothing-lawful 𝓤 H A W',
             'slice': lambda: f'shr-slice-lawful 𝓤 H A W (named {self.lifetime}) κ{self.lifetime} {self.elem.row()}',
             'array': lambda: f'array-lawful 𝓤 H A W {self.elem.row()} ({self.elem.lawful()}) {self.n}',
             'enum': lambda: f'EL.lawful {self.both} 𝓤 H A W tt',
@@ -111,7 +130,7 @@ class Type:
 
     def typed(self, x, is_):
         """that x's machine value has the type"""
-        if self.kind in ('mutref', 'ptr'):
+        if self.kind in ('mutref', 'shrref', 'again', 'ptr'):
             return '(tt, tt)'
         return f'({self.lawful()} .typed {par(x)} _ {par(is_)} .0)'
 
@@ -120,6 +139,7 @@ class Type:
         return {
             'int': lambda: f'(uint-makes 𝓤 H A W {self.width})',
             'bool': lambda: '(bool-makes 𝓤 H A W)',
+            'unit': lambda: '(nothing-makes 𝓤 H A W)',
             'array': lambda: f'(array-makes 𝓤 H A W {self.elem.row()} {self.elem.makes()} {self.n})',
         }.get(self.kind, lambda: f'({self.laws}.makes row-{self.name}.the-type law-{self.name}.the-plain 𝓤 H A)')()
 
@@ -131,8 +151,11 @@ class Type:
             'int': lambda: f'(tyInt {self.width})',
             'bool': lambda: 'tyBool',
             'ptr': lambda: 'tyPtr',
+            'unit': lambda: 'tyUnit',
             'array': lambda: f'(tyArray {self.elem.mir()} {self.n})',
             'mutref': lambda: f'(tyRef (named {self.lifetime}) mut (pointee ({self.elem.row()} .written)))',
+            'shrref': lambda: f'(tyRef (named {self.lifetime}) imm (pointee ({self.elem.row()} .written)))',
+            'again': lambda: f'(tyRef erased mut (pointee ({self.elem.row()} .written)))',
         }.get(self.kind, lambda: f'law-{self.name}.mir')()
 
     def size(self):
@@ -146,7 +169,7 @@ class Type:
 
     def inside(self):
         """the type and those that it is made of"""
-        return [self] + (self.elem.inside() if self.kind in ('slice', 'array', 'mutref') else [])
+        return [self] + (self.elem.inside() if self.lent or self.kind in ('array', 'again') else [])
 
 
 class Value:

@@ -67,6 +67,8 @@ class Walk:
         """an operand's step, and its value"""
         if o in ('true', 'false'):
             return f'{o}-lit !', Value(Type('bool'), o, f'vbool {o}', 'refl')
+        if o == 'unit':
+            return 'unit-lit !', Value(Type('unit'), 'tt', 'vunit', 'refl')
         if o[0] == 'int':
             bits, n = int(o[1]), int(o[2])
             return 'lit ! tt', Value(Type('int', bits=bits), str(n), f'vint w{bits} {n}', '(refl, lit< tt)')
