@@ -1,0 +1,46 @@
+-- From the stages of a call in place to what it promises. Assumes nothing.
+use Prim.Native.Nat.{ℕ}
+use mathlib.Core.Path.{_≡_, subst, _∙_, ap}
+use mathlib.Core.List.{List}
+use mathlib.Core.Bool.{Bool}
+use Rattle.definition.specs.Memory.{Memory}
+use Rattle.definition.specs.Refusal.{badBase, badRange}
+use Rattle.definition.specs.Translate.{Caches, translate}
+use Rattle.definition.specs.Load.{load as loadOf}
+use Rattle.definition.specs.Cache030.{Cache030}
+use Rattle.definition.specs.Cache040.{Cache040}
+use Rattle.definition.specs.declared.Load.{Load}
+use Rattle.definition.specs.declared.Registers.{Registers}
+use Rattle.definition.specs.declared.Access.{Access}
+use Rattle.definition.specs.declared.Translation.{Translation}
+use Rattle.tables.specs.Walked.{walksOf}
+use Rattle.tables.specs.declared.Way.{Way}
+use Rattle.tables.specs.declared.Walks.{Walks}
+use Rattle.cache.specs.Atc030.{cacheOf}
+use Rattle.mmu.specs.declared.Plan.{Plan}
+use Rattle.mmu.specs.Stages.{Coded, wayOf, planAccess, shownTranslated, concludeAccess, planLoad, shownLoaded, concludeLoad}
+use Rattle.mmu.specs.InPlace.{cachesOf, pairWith, PlannedIn, PlannedIn030, AnsweredIn, LoadedIn}
+use Rattle.mmu.proofs.Staged.{translated-by}
+use Rattle.mmu.proofs.Translating.{load-by, load-code}
+
+-- ---- translate
+pub translates : (g : Registers) (a : Access) (m : Memory) (c : Caches) {two three : Bool} {p : Plan} {address : ℕ} {way : Way} {w : Walks} {t : Translation} {n : ℕ}
+    {ts ps ss ms ks bs ts′ ps′ ss′ ms′ ks′ bs′ : List ℕ} → two ≡ badBase m → three ≡ badRange m → PlannedIn (planAccess g a two three c) p ts ps ss ms ks bs
+    → address ≡ a .address → way ≡ wayOf p → w ≡ walksOf m g address way
+    → AnsweredIn (concludeAccess g a (cachesOf ts ps ss ms ks bs) p w) t n ts′ ps′ ss′ ms′ ks′ bs′
+    → AnsweredIn (shownTranslated (translate g a m c)) t n ts′ ps′ ss′ ms′ ks′ bs′
+translates g a m c {two} {three} {p} {address} {way} {w} {t} {n} {ts} {ps} {ss} {ms} {ks} {bs} {ts′} {ps′} {ss′} {ms′} {ks′} {bs′} is-two is-three k is-address is-way walked q =
+    let planned : PlannedIn (planAccess g a (badBase m) (badRange m) c) p ts ps ss ms ks bs = rw (← is-two, ← is-three) k in
+    let walks : w ≡ walksOf m g (a .address) (wayOf p) = walked ∙ rw (is-address, is-way) in
+    translated-by g a m c (planned .plans) (planned .leaves) (subst (λ (x : Walks). AnsweredIn (concludeAccess g a (cachesOf ts ps ss ms ks bs) p x) t n ts′ ps′ ss′ ms′ ks′ bs′) walks q)
+
+-- ---- load
+module _ (g : Registers) (code address : ℕ) (c : Cache030) (two three : Bool) {p : Plan} {ts ps ss ms : List ℕ}
+    (k : PlannedIn030 (planLoad g code address two three c) p ts ps ss ms) where
+  pub load-asks : Coded p code
+  load-asks way e = load-code g code address two three c (k .plans) e
+
+  pub loads : (write : Bool) (m : Memory) {way : Way} {w : Walks} {l : Load} {n : ℕ} {ts′ ps′ ss′ ms′ : List ℕ} → two ≡ badBase m → three ≡ badRange m
+      → way ≡ wayOf p → w ≡ walksOf m g address way → LoadedIn (concludeLoad (g .tc) code address write (cacheOf ts ps ss ms) p w) l n ts′ ps′ ss′ ms′
+      → (d : Cache040) → LoadedIn (shownLoaded (loadOf g code write address m (pairWith c d))) l n ts′ ps′ ss′ ms′
+  loads write m is-two is-three is-way walked q d = load-by g code write address m (pairWith c d) is-two is-three k is-way walked q

@@ -1,0 +1,156 @@
+// The calls in place over what the host lends in one call: the arrays of its caches and its own slice of ranges. Nothing is copied.
+// A call that is lent the ranges is thin: its proof is a walk by hand, which tools/ prints.
+use definition::Access;
+use definition::Range;
+use definition::Registers;
+use mmu::Plan;
+use mmu::checks;
+use mmu::load;
+use mmu::load::LoadOutcome;
+use mmu::translate;
+use mmu::translate::Outcome;
+use tables::Walks;
+ghost use mathlib.Core.Path.{_≡_};
+ghost use Rattle.definition.specs.Memory.{memory};
+ghost use Rattle.definition.specs.Translate.{translate as translateOf};
+ghost use Rattle.definition.specs.Load.{load as loadOf};
+ghost use Rattle.definition.specs.Cache040.{Cache040};
+ghost use Rattle.cache.specs.Atc030.{cacheOf};
+ghost use Rattle.mmu.specs.Stages.{Coded, planAccess, shownTranslated, planLoad, concludeLoad, shownLoaded};
+ghost use Rattle.mmu.specs.InPlace.{cachesOf, pairWith, PlannedIn, PlannedIn030, AnsweredIn, LoadedIn};
+
+// ---- Translate.
+
+// An access's address.
+fn address_of(a: Access) -> u32
+    ensures { λ r. ⌜ r ≡ a .address ⌝ }
+{
+    a.address
+}
+
+// The plan of an access, over arrays that are all lent as `&mut`.
+fn planned(
+    tags: &mut [u64; 22],
+    pages: &mut [u64; 22],
+    stamps: &mut [u64; 22],
+    marks: &mut [u64; 3],
+    keys: &mut [u64; 64],
+    bases: &mut [u64; 64],
+    two: bool,
+    three: bool,
+    g: Registers,
+    a: Access,
+) -> Plan
+    ensures { λ r. ⌜ PlannedIn (planAccess g a two three (cachesOf (now (tags .entry)) (now (pages .entry)) (now (stamps .entry)) (now (marks .entry)) (now (keys .entry)) (now (bases .entry)))) r (now (tags .exit)) (now (pages .exit)) (now (stamps .exit)) (now (marks .exit)) (now (keys .exit)) (now (bases .exit)) ⌝ }
+{
+    translate::plan_access(tags, pages, stamps, marks, keys, bases, two, three, g, a)
+}
+
+// Translate over the caches and the ranges that the caller lends.
+pub fn translate_lent(
+    tags: &mut [u64; 22],
+    pages: &mut [u64; 22],
+    stamps: &mut [u64; 22],
+    marks: &mut [u64; 3],
+    keys: &mut [u64; 64],
+    bases: &mut [u64; 64],
+    longs: &[u32],
+    base: u32,
+    ranges: &[Range],
+    g: Registers,
+    a: Access,
+) -> Outcome
+    ensures { λ r. ⌜ AnsweredIn (shownTranslated (translateOf g a (memory (now (longs .entry)) base (now (ranges .entry))) (cachesOf (now (tags .entry)) (now (pages .entry)) (now (stamps .entry)) (now (marks .entry)) (now (keys .entry)) (now (bases .entry))))) (r .answer) (r .count) (now (tags .exit)) (now (pages .exit)) (now (stamps .exit)) (now (marks .exit)) (now (keys .exit)) (now (bases .exit)) ⌝ }
+{
+    let two = checks::bad_longs(longs, base);
+    let three = tables::any_crossed(ranges);
+    let plan = planned(tags, pages, stamps, marks, keys, bases, two, three, g, a);
+    let address = address_of(a);
+    let way = mmu::way_of(plan);
+    let walks = tables::walk_for(longs, base, ranges, g, address, way);
+    translate::conclude_access(tags, pages, stamps, marks, keys, bases, g, a, plan, walks)
+}
+
+// ---- Load.
+
+// The plan of a load, over arrays that are all lent as `&mut`.
+fn planned_load(
+    tags: &mut [u64; 22],
+    pages: &mut [u64; 22],
+    stamps: &mut [u64; 22],
+    marks: &mut [u64; 3],
+    two: bool,
+    three: bool,
+    g: Registers,
+    code: u32,
+    address: u32,
+) -> Plan
+    ensures { λ r. ⌜ PlannedIn030 (planLoad g code address two three (cacheOf (now (tags .entry)) (now (pages .entry)) (now (stamps .entry)) (now (marks .entry)))) r (now (tags .exit)) (now (pages .exit)) (now (stamps .exit)) (now (marks .exit)) ⌝ }
+{
+    load::plan_load(tags, pages, stamps, marks, two, three, g, code, address)
+}
+
+// What the plan of a load and its walk give.
+fn concluded_load(
+    tags: &mut [u64; 22],
+    pages: &mut [u64; 22],
+    stamps: &mut [u64; 22],
+    marks: &mut [u64; 3],
+    g: Registers,
+    code: u32,
+    write: bool,
+    address: u32,
+    plan: Plan,
+    walks: Walks,
+) -> LoadOutcome
+    requires { ⌜ Coded plan code ⌝ }
+    ensures { λ r. ⌜ LoadedIn (concludeLoad (g .tc) code address write (cacheOf (now (tags .entry)) (now (pages .entry)) (now (stamps .entry)) (now (marks .entry))) plan walks) (r .answer) (r .count) (now (tags .exit)) (now (pages .exit)) (now (stamps .exit)) (now (marks .exit)) ⌝ }
+{
+    load::conclude_load(
+        tags,
+        pages,
+        stamps,
+        marks,
+        g.tc,
+        code,
+        address,
+        write,
+        plan,
+        walks,
+    )
+}
+
+// Load over the 68030 cache and the ranges that the caller lends.
+pub fn load_lent(
+    tags: &mut [u64; 22],
+    pages: &mut [u64; 22],
+    stamps: &mut [u64; 22],
+    marks: &mut [u64; 3],
+    longs: &[u32],
+    base: u32,
+    ranges: &[Range],
+    g: Registers,
+    code: u32,
+    write: bool,
+    address: u32,
+) -> LoadOutcome
+    ensures { λ r. ⌜ ((k : Cache040) → LoadedIn (shownLoaded (loadOf g code write address (memory (now (longs .entry)) base (now (ranges .entry))) (pairWith (cacheOf (now (tags .entry)) (now (pages .entry)) (now (stamps .entry)) (now (marks .entry))) k))) (r .answer) (r .count) (now (tags .exit)) (now (pages .exit)) (now (stamps .exit)) (now (marks .exit))) ⌝ }
+{
+    let two = checks::bad_longs(longs, base);
+    let three = tables::any_crossed(ranges);
+    let plan = planned_load(tags, pages, stamps, marks, two, three, g, code, address);
+    let way = mmu::way_of(plan);
+    let walks = tables::walk_for(longs, base, ranges, g, address, way);
+    concluded_load(
+        tags,
+        pages,
+        stamps,
+        marks,
+        g,
+        code,
+        write,
+        address,
+        plan,
+        walks,
+    )
+}
