@@ -41,7 +41,8 @@ pub struct Access {
     pub recorded: bool,
 }
 
-// A bus-error range: both addresses are inside.
+// A bus-error range: both addresses are inside. Its layout is C's: a host lends a slice of them.
+#[repr(C)]
 pub struct Range {
     pub first: u32,
     pub last: u32,
