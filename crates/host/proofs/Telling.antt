@@ -3,13 +3,11 @@ use Prim.Native.Nat.{ℕ}
 use mathlib.Core.Path.{_≡_, ap, _∙_}
 use mathlib.Core.List.{List, [], _∷_}
 use mathlib.Core.Bool.{Bool}
-use lib.ListN.{getD, take}
-use Rattle.definition.specs.Words.{bitOf, anyOf}
-use Rattle.definition.specs.Memory.{memory}
-use Rattle.definition.specs.Refusal.{crossed}
+use lib.ListN.{getD}
+use Rattle.definition.specs.Words.{bitOf}
+use Rattle.definition.specs.Memory.{Memory}
 use Rattle.definition.specs.Load.{load}
 use Rattle.definition.specs.Test.{test}
-use Rattle.definition.specs.declared.Range.{Range}
 use Rattle.definition.specs.declared.Access.{Access}
 use Rattle.definition.specs.Translate.{Caches, translate}
 use Rattle.definition.specs.Probe.{probe}
@@ -34,7 +32,7 @@ use Rattle.inplace.specs.InPlace.{cachesOf, pairWith, AnsweredIn, LoadedIn, Tes
 use Rattle.inplace.specs.Stages.{shownTranslated, shownLoaded, shownTested}
 use Rattle.cache.specs.Atc030.{cacheOf}
 use Rattle.cache.specs.Atc040.{cache040Of}
-use Rattle.host.specs.Numbers.{rangesOf, TranslatedTo, LoadedTo, testedNumbers, registersWith, registersOf, overrideOf, accessWith, accessOf, probeNumbers, translationNumbers, loadNumbers, testNumbers, flushNumber, FlushedTo}
+use Rattle.host.specs.Numbers.{TranslatedTo, LoadedTo, testedNumbers, registersWith, registersOf, overrideOf, accessWith, accessOf, probeNumbers, translationNumbers, loadNumbers, testNumbers, flushNumber, FlushedTo}
 
 module _ (code : ℕ) where
   pub none : code ≡ 255 → Override.Plain ≡ overrideOf code
@@ -95,25 +93,18 @@ pub probed : (ns : List ℕ) (flags address : ℕ) (c : Caches) {out : List ℕ}
 probed ns flags address c t p g o i w = rw (← g, ← o, ← i, ← w, ← p) t
 
 -- ---- the calls over the ranges: the answer's numbers, from the call's promise in place
-module _ (ns rs : List ℕ) {g : Registers} {list : List Range} (is-g : g ≡ registersOf ns) (is-list : list ≡ rangesOf rs) (longs : List ℕ) (base n : ℕ) {three : Bool}
-    (is-three : three ≡ anyOf crossed (take n list)) {out : List ℕ} where
+module _ (ns : List ℕ) {g : Registers} (is-g : g ≡ registersOf ns) (m : Memory) {out : List ℕ} where
   pub translates : (flags code address : ℕ) (c : Caches) {a : Access} {t : Translation} {count : ℕ} {ts ps ss ms ks bs : List ℕ} → a ≡ accessOf flags code address
-      → (three ≡ anyOf crossed (take n list) → AnsweredIn (shownTranslated (translate g a (memory longs base (take n list)) c)) t count ts ps ss ms ks bs)
-      → out ≡ translationNumbers t count
-      → TranslatedTo (translate (registersOf ns) (accessOf flags code address) (memory longs base (take n (rangesOf rs))) c) out (cachesOf ts ps ss ms ks bs)
-  translates flags code address c is-a k e =
-      let q = k is-three in
-      rw (← is-g, ← is-a, ← is-list) (record { answers = e ∙ rw (q .answers, q .counts); leaves = q .leaves })
+      → AnsweredIn (shownTranslated (translate g a m c)) t count ts ps ss ms ks bs → out ≡ translationNumbers t count
+      → TranslatedTo (translate (registersOf ns) (accessOf flags code address) m c) out (cachesOf ts ps ss ms ks bs)
+  translates flags code address c is-a q e = rw (← is-g, ← is-a) (record { answers = e ∙ rw (q .answers, q .counts); leaves = q .leaves })
 
-  pub loads : (code : ℕ) (write : Bool) (address : ℕ) (c : Caches) {l : Load} {count : ℕ} {ts ps ss ms : List ℕ}
-      → (three ≡ anyOf crossed (take n list) → LoadedIn (shownLoaded (load g code write address (memory longs base (take n list)) c)) l count ts ps ss ms)
-      → out ≡ loadNumbers l count
-      → LoadedTo (load (registersOf ns) code write address (memory longs base (take n (rangesOf rs))) c) out (cacheOf ts ps ss ms)
-  loads code write address c k e =
-      let q = k is-three in rw (← is-g, ← is-list) (record { answers = e ∙ rw (q .answers, q .counts); leaves = q .leaves })
+  pub loads : (code : ℕ) (write : Bool) (address : ℕ) (c : Cache030) {l : Load} {count : ℕ} {ts ps ss ms : List ℕ}
+      → ((k : Cache040) → LoadedIn (shownLoaded (load g code write address m (pairWith c k))) l count ts ps ss ms) → out ≡ loadNumbers l count
+      → (k : Cache040) → LoadedTo (load (registersOf ns) code write address m (pairWith c k)) out (cacheOf ts ps ss ms)
+  loads code write address c f e k = let q = f k in rw (← is-g) (record { answers = e ∙ rw (q .answers, q .counts); leaves = q .leaves })
 
   pub tests : (code : ℕ) (write : Bool) (level address : ℕ) {t : Test} {count : ℕ}
-      → (three ≡ anyOf crossed (take n list) → TestedIn (shownTested (test g code write level address (memory longs base (take n list)))) t count)
-      → out ≡ testNumbers t count → out ≡ testedNumbers (test (registersOf ns) code write level address (memory longs base (take n (rangesOf rs))))
-  tests code write level address k e =
-      let q = k is-three in rw (← is-g, ← is-list) (e ∙ rw (q .answers, q .counts))
+      → TestedIn (shownTested (test g code write level address m)) t count → out ≡ testNumbers t count
+      → out ≡ testedNumbers (test (registersOf ns) code write level address m)
+  tests code write level address q e = rw (← is-g) (e ∙ rw (q .answers, q .counts))

@@ -1,7 +1,7 @@
--- What the host's numbers are: registers, an access, ranges, and the five numbers of an answer.
-use Prim.Native.Nat.{ℕ, _+_, _*_}
+-- What the host's numbers are: registers, an access, and the five numbers of an answer.
+use Prim.Native.Nat.{ℕ}
 use mathlib.Core.Path.{_≡_}
-use mathlib.Core.List.{List, [], _∷_, map}
+use mathlib.Core.List.{List, [], _∷_}
 use mathlib.Core.Bool.{Bool}
 use lib.Dec.{eqb}
 use lib.ListN.{length, getD}
@@ -11,8 +11,6 @@ use Rattle.definition.specs.Cache030.{Cache030}
 use Rattle.definition.specs.Translate.{Caches, Translated}
 use Rattle.definition.specs.Load.{Loaded}
 use Rattle.definition.specs.Test.{Tested}
-use Rattle.definition.specs.declared.Range.{Range}
-use Rattle.definition.specs.Load.{Loaded}
 use Rattle.definition.specs.Flush.{Flushed}
 use Rattle.definition.specs.declared.Registers.{Registers}
 use Rattle.definition.specs.declared.Access.{Access}
@@ -48,13 +46,6 @@ registersWith ns present enabled =
 
 abbrev pub registersOf : List ℕ → Registers
 registersOf ns = registersWith ns (bitOf (getD ns 1 0) 0) (bitOf (getD ns 1 0) 1)
-
--- a range's first and last address, and the sixteen that the host keeps
-abbrev pub rangeAt : List ℕ → ℕ → Range
-rangeAt ns i = record { first = getD ns (2 * i) 0; last = getD ns (2 * i + 1) 0 }
-
-abbrev pub rangesOf : List ℕ → List Range
-rangesOf ns = map (rangeAt ns) (0 ∷ 1 ∷ 2 ∷ 3 ∷ 4 ∷ 5 ∷ 6 ∷ 7 ∷ 8 ∷ 9 ∷ 10 ∷ 11 ∷ 12 ∷ 13 ∷ 14 ∷ 15 ∷ [])
 
 -- 'override or FF'
 abbrev pub overrideOf : ℕ → Override

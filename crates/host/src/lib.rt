@@ -1,5 +1,6 @@
-// The host's calls, for C or Rust to link. The host keeps the caches' arrays, the longs, the registers and the ranges as numbers and lends them;
-// a call changes the caches in place and writes its answer to five numbers. specs/ says which number means what.
+// The host's calls, for C or Rust to link. The host keeps the caches' arrays, the longs and the registers as numbers, and a slice of ranges, and lends
+// them in one call; it changes the caches in place and writes its answer to five numbers. specs/ says which number means what.
+// A call that is lent the ranges is thin: its proof is a walk by hand, which tools/ prints.
 use definition::Access;
 use definition::Flush;
 use definition::Load;
@@ -10,16 +11,13 @@ use definition::Registers;
 use definition::Root;
 use definition::Test;
 use definition::Translation;
-use inplace::flush;
-use inplace::load;
-use inplace::load::LoadOutcome;
-use inplace::probe;
-use inplace::test;
-use inplace::test::TestOutcome;
-use inplace::translate;
-use inplace::translate::Outcome;
+use mmu::by_value;
+use mmu::flush;
+use mmu::load::LoadOutcome;
+use mmu::probe;
+use mmu::test::TestOutcome;
+use mmu::translate::Outcome;
 ghost use mathlib.Core.Path.{_≡_};
-ghost use Prim.Native.Nat.{_<_};
 ghost use mathlib.Core.List.{[], _∷_};
 ghost use Rattle.definition.specs.Words.{bitOf};
 ghost use Rattle.definition.specs.Cache030.{Cache030};
@@ -28,13 +26,12 @@ ghost use Rattle.definition.specs.Translate.{emptyCaches, translate as translat
 ghost use Rattle.definition.specs.Load.{load as loadOf};
 ghost use Rattle.definition.specs.Test.{test as testOf};
 ghost use Rattle.definition.specs.Memory.{memory};
-ghost use lib.ListN.{take};
 ghost use Rattle.definition.specs.Probe.{probe as probeOf};
 ghost use Rattle.definition.specs.Flush.{flushAll, flushCode, flushPage, flushFrame};
 ghost use Rattle.cache.specs.Atc030.{cacheOf};
 ghost use Rattle.cache.specs.Atc040.{cache040Of};
-ghost use Rattle.inplace.specs.InPlace.{cachesOf, pairWith};
-ghost use Rattle.host.specs.Numbers.{rangeAt, rangesOf, registersOf, overrideOf, accessOf, translationNumbers, loadNumbers, testNumbers, probeNumbers, flushNumber, TranslatedTo, LoadedTo, testedNumbers, FlushedTo};
+ghost use Rattle.mmu.specs.InPlace.{cachesOf, pairWith};
+ghost use Rattle.host.specs.Numbers.{registersOf, overrideOf, accessOf, translationNumbers, loadNumbers, testNumbers, probeNumbers, flushNumber, TranslatedTo, LoadedTo, testedNumbers, FlushedTo};
 
 // ---- What the host's numbers are.
 
@@ -98,57 +95,6 @@ fn access_of(flags: u32, code: u32, address: u32) -> Access
         code,
         recorded,
     }
-}
-
-// Range `i`: its first and its last address.
-fn range_at(numbers: &[u32; 32], i: usize) -> Range
-    requires { ⌜ i < 16 ⌝ }
-    ensures { λ r. ⌜ r ≡ rangeAt (now (numbers .entry)) i ⌝ }
-{
-    Range {
-        first: numbers[2 * i],
-        last: numbers[2 * i + 1],
-    }
-}
-
-// The sixteen ranges that the host keeps.
-fn ranges_of(numbers: &[u32; 32]) -> [Range; 16]
-    ensures { λ r. ⌜ r ≡ rangesOf (now (numbers .entry)) ⌝ }
-{
-    let r0 = range_at(numbers, 0);
-    let r1 = range_at(numbers, 1);
-    let r2 = range_at(numbers, 2);
-    let r3 = range_at(numbers, 3);
-    let r4 = range_at(numbers, 4);
-    let r5 = range_at(numbers, 5);
-    let r6 = range_at(numbers, 6);
-    let r7 = range_at(numbers, 7);
-    let r8 = range_at(numbers, 8);
-    let r9 = range_at(numbers, 9);
-    let r10 = range_at(numbers, 10);
-    let r11 = range_at(numbers, 11);
-    let r12 = range_at(numbers, 12);
-    let r13 = range_at(numbers, 13);
-    let r14 = range_at(numbers, 14);
-    let r15 = range_at(numbers, 15);
-    [
-        r0,
-        r1,
-        r2,
-        r3,
-        r4,
-        r5,
-        r6,
-        r7,
-        r8,
-        r9,
-        r10,
-        r11,
-        r12,
-        r13,
-        r14,
-        r15,
-    ]
 }
 
 // ---- What an answer is in numbers.
@@ -245,7 +191,7 @@ pub extern "C" fn mmu_empty(
     *bases = [0; 64];
 }
 
-// Translate over the caches that the host keeps, with the first `n` of its ranges.
+// Translate over the caches that the host keeps.
 #[no_mangle]
 pub extern "C" fn mmu_translate(
     tags: &mut [u64; 22],
@@ -256,21 +202,18 @@ pub extern "C" fn mmu_translate(
     bases: &mut [u64; 64],
     longs: &[u32],
     base: u32,
-    ranges: &[u32; 32],
-    n: usize,
+    ranges: &[Range],
     registers: &[u32; 13],
     flags: u32,
     code: u32,
     address: u32,
     out: &mut [u32; 5],
 )
-    ensures { λ _. ⌜ TranslatedTo (translateOf (registersOf (now (registers .entry))) (accessOf flags code address) (memory (now (longs .entry)) base (take n (rangesOf (now (ranges .entry))))) (cachesOf (now (tags .entry)) (now (pages .entry)) (now (stamps .entry)) (now (marks .entry)) (now (keys .entry)) (now (bases .entry)))) (now (out .exit)) (cachesOf (now (tags .exit)) (now (pages .exit)) (now (stamps .exit)) (now (marks .exit)) (now (keys .exit)) (now (bases .exit))) ⌝ }
+    ensures { λ _. ⌜ TranslatedTo (translateOf (registersOf (now (registers .entry))) (accessOf flags code address) (memory (now (longs .entry)) base (now (ranges .entry))) (cachesOf (now (tags .entry)) (now (pages .entry)) (now (stamps .entry)) (now (marks .entry)) (now (keys .entry)) (now (bases .entry)))) (now (out .exit)) (cachesOf (now (tags .exit)) (now (pages .exit)) (now (stamps .exit)) (now (marks .exit)) (now (keys .exit)) (now (bases .exit))) ⌝ }
 {
     let g = registers_of(registers);
     let a = access_of(flags, code, address);
-    let list = ranges_of(ranges);
-    let three = tables::any_crossed_kept(list, n);
-    let o = translate::translate_in(
+    let o = lent::translate_lent(
         tags,
         pages,
         stamps,
@@ -279,9 +222,7 @@ pub extern "C" fn mmu_translate(
         bases,
         longs,
         base,
-        list,
-        n,
-        three,
+        ranges,
         g,
         a,
     );
@@ -297,29 +238,24 @@ pub extern "C" fn mmu_load(
     marks: &mut [u64; 3],
     longs: &[u32],
     base: u32,
-    ranges: &[u32; 32],
-    n: usize,
+    ranges: &[Range],
     registers: &[u32; 13],
     code: u32,
     write: bool,
     address: u32,
     out: &mut [u32; 5],
 )
-    ensures { λ _. ⌜ ((k : Cache040) → LoadedTo (loadOf (registersOf (now (registers .entry))) code write address (memory (now (longs .entry)) base (take n (rangesOf (now (ranges .entry))))) (pairWith (cacheOf (now (tags .entry)) (now (pages .entry)) (now (stamps .entry)) (now (marks .entry))) k)) (now (out .exit)) (cacheOf (now (tags .exit)) (now (pages .exit)) (now (stamps .exit)) (now (marks .exit)))) ⌝ }
+    ensures { λ _. ⌜ ((k : Cache040) → LoadedTo (loadOf (registersOf (now (registers .entry))) code write address (memory (now (longs .entry)) base (now (ranges .entry))) (pairWith (cacheOf (now (tags .entry)) (now (pages .entry)) (now (stamps .entry)) (now (marks .entry))) k)) (now (out .exit)) (cacheOf (now (tags .exit)) (now (pages .exit)) (now (stamps .exit)) (now (marks .exit)))) ⌝ }
 {
     let g = registers_of(registers);
-    let list = ranges_of(ranges);
-    let three = tables::any_crossed_kept(list, n);
-    let o = load::load_in(
+    let o = lent::load_lent(
         tags,
         pages,
         stamps,
         marks,
         longs,
         base,
-        list,
-        n,
-        three,
+        ranges,
         g,
         code,
         write,
@@ -333,8 +269,7 @@ pub extern "C" fn mmu_load(
 pub extern "C" fn mmu_test(
     longs: &[u32],
     base: u32,
-    ranges: &[u32; 32],
-    n: usize,
+    ranges: &[Range],
     registers: &[u32; 13],
     code: u32,
     write: bool,
@@ -342,12 +277,10 @@ pub extern "C" fn mmu_test(
     address: u32,
     out: &mut [u32; 5],
 )
-    ensures { λ _. ⌜ now (out .exit) ≡ testedNumbers (testOf (registersOf (now (registers .entry))) code write level address (memory (now (longs .entry)) base (take n (rangesOf (now (ranges .entry)))))) ⌝ }
+    ensures { λ _. ⌜ now (out .exit) ≡ testedNumbers (testOf (registersOf (now (registers .entry))) code write level address (memory (now (longs .entry)) base (now (ranges .entry)))) ⌝ }
 {
     let g = registers_of(registers);
-    let list = ranges_of(ranges);
-    let three = tables::any_crossed_kept(list, n);
-    let o = test::test_in(longs, base, list, n, three, g, code, write, level, address);
+    let o = by_value::test(longs, base, ranges, g, code, write, level, address);
     tell_test(out, o)
 }
 

@@ -1,0 +1,28 @@
+# What hand_walk is told of the crate `host`: the proof at each return, from the facts that the calls leave.
+
+
+def memory(longs):
+    """the longs, their base and the ranges are three parameters in a row"""
+    return f'(memory (now x{longs}) x{longs + 1} (now x{longs + 2}))'
+
+
+# x10 are the registers, x11 the flags, x12 the override, x13 the address
+def translated(facts):
+    return f'law.translates (now x10) {facts("registers_of")} {memory(7)} x11 x12 x13 _ {facts("access_of", "translate_lent", "tell_translation")}'
+
+
+# x8 are the registers, x9 the code, x10 whether it is a write, x11 the address
+def loaded(facts):
+    return f'law.loads (now x8) {facts("registers_of")} {memory(5)} x9 x10 x11 _ {facts("load_lent", "tell_load")}'
+
+
+# x4 are the registers, x5 the code, x6 whether it is a write, x7 the level, x8 the address
+def tested(facts):
+    return f'law.tests (now x4) {facts("registers_of")} {memory(1)} x5 x6 x7 x8 {facts("test", "tell_test")}'
+
+
+FUNCTIONS = {
+    'mmu_translate': dict(law='Telling', ends=translated),
+    'mmu_load': dict(law='Telling', ends=loaded),
+    'mmu_test': dict(law='Telling', ends=tested),
+}
