@@ -248,7 +248,7 @@ fn moved_memory_gives_the_original_s_answers_and_states() {
     println!("{MOVED} accesses: {hits} hits, {walked} walks to a page, {faults} faults, all as the original's");
 }
 
-/// Up to 1,023 longs that point among themselves, with up to sixteen ranges.
+/// Up to 1,023 longs that point among themselves, with up to forty ranges.
 fn moved(random: &mut Random) -> TableMemory {
     let count = random.within(1, 1023) as u32;
     let base = match random.below(3) {
@@ -260,7 +260,7 @@ fn moved(random: &mut Random) -> TableMemory {
     let longs = (0..count)
         .map(|_| if random.chance(80) { inside(random) & !15 | random.below(8) as u32 } else { random.long() });
     let longs = longs.collect();
-    let ranges = if random.chance(30) { random.below(17) } else { 0 };
+    let ranges = if random.chance(30) { random.below(41) } else { 0 };
     let ranges = (0..ranges).map(|_| {
         let first = inside(random);
         (first, first.saturating_add(random.below(16) as u32))

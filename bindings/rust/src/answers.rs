@@ -85,13 +85,10 @@ pub enum Refusal {
     Code,
     /// 6: PLOAD or PTEST on family 40 or 60.
     Only030,
-    /// More than sixteen ranges, which this crate refuses before the call: its library
-    /// takes sixteen at most.
-    Ranges,
 }
 
 impl Refusal {
-    /// Its number in document 01; 8 for too many ranges, as the paper's program has it.
+    /// Its number in document 01.
     #[must_use]
     pub const fn number(self) -> u32 {
         match self {
@@ -101,7 +98,6 @@ impl Refusal {
             Refusal::Cache => 4,
             Refusal::Code => 5,
             Refusal::Only030 => 6,
-            Refusal::Ranges => 8,
         }
     }
 
@@ -127,7 +123,6 @@ impl fmt::Display for Refusal {
             Refusal::Cache => "the 68030 cache's most recent index is above 21 or its shift above 31",
             Refusal::Code => "an override, function code, mask or level is above 7, or a frame is 2^20 or more",
             Refusal::Only030 => "PLOAD and PTEST are of the 68030 alone",
-            Refusal::Ranges => "there are more than sixteen ranges",
         })
     }
 }

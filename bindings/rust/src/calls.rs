@@ -58,8 +58,7 @@ impl Pmmu {
         access: &Access,
         tables: Tables<'_>,
     ) -> Result<Translated, Error> {
-        let answer = lend(tables, |memory| door::translate(&mut self.caches, memory, registers, access))?;
-        match answer {
+        match door::translate(&mut self.caches, tables, registers, access) {
             [0, address, _, _, count] => Ok(Translated { address, count }),
             [1, address, kind, cause, count] => {
                 Err(Error::Fault(Fault { kind: kind_of(kind), cause: cause_of(cause), address, count }))
@@ -80,7 +79,7 @@ impl Pmmu {
         address: u32,
         tables: Tables<'_>,
     ) -> Result<u32, Refusal> {
-        match lend(tables, |memory| door::load(&mut self.caches, memory, registers, code, write, address))? {
+        match door::load(&mut self.caches, tables, registers, code, write, address) {
             [0, _, _, _, count] => Ok(count),
             [_, number, ..] => Err(Refusal::of(number)),
         }
@@ -99,7 +98,7 @@ impl Pmmu {
         address: u32,
         tables: Tables<'_>,
     ) -> Result<Status, Refusal> {
-        match lend(tables, |memory| door::test(memory, registers, code, write, level, address))? {
+        match door::test(tables, registers, code, write, level, address) {
             [0, mmusr, address, _, count] => Ok(Status { mmusr: mmusr as u16, address, count }),
             [_, number, ..] => Err(Refusal::of(number)),
         }
@@ -158,21 +157,6 @@ impl Pmmu {
     pub fn flush_frame(&mut self, frame: u32) -> Result<(), Refusal> {
         flushed(door::flush_frame(&mut self.caches, frame))
     }
-}
-
-/// What the call gives on these tables, with the ranges as the library takes them: sixteen
-/// at most.
-#[inline]
-fn lend(tables: Tables<'_>, call: impl FnOnce(&door::Memory<'_>) -> door::Answer) -> Result<door::Answer, Refusal> {
-    let n = tables.ranges.len();
-    if n > 16 {
-        return Err(Refusal::Ranges);
-    }
-    let mut ranges = [0; 32];
-    for (numbers, range) in ranges.chunks_exact_mut(2).zip(tables.ranges) {
-        numbers.copy_from_slice(&[range.first, range.last]);
-    }
-    Ok(call(&door::Memory { longs: tables.longs, base: tables.base, ranges: &ranges, n }))
 }
 
 /// A flush's answer from its number.

@@ -4,22 +4,20 @@
 //! Each call is sound for the same reasons. The library's functions are
 //! `pub extern "C"` over references, proved to keep to what they are lent for every
 //! input: none has a condition that a caller would have to meet. A `&[u64; N]` is a
-//! pointer to N numbers, a `&[T]` a pointer and a length. What is lent here are Rust's
-//! own references, so it is aligned, initialised and alive during the call, and what is
-//! lent as `&mut` is lent once. The numbers have no padding, and any bits are a number.
+//! pointer to N numbers, a `&[T]` a pointer and a length; a [`Range`] has C's layout on
+//! both sides. What is lent here are Rust's own references, so it is aligned,
+//! initialised and alive during the call, and what is lent as `&mut` is lent once. The
+//! numbers have no padding, and any bits are a number.
 
 use crate::caches::{Caches, ENTRIES, SLOTS};
-use crate::given::{Access, Registers};
-
-/// Ranges that a call takes: the first and the last address of each of sixteen.
-pub(crate) type Ranges = [u32; 32];
+use crate::given::{Access, Range, Registers, Tables};
 
 /// The five numbers of an answer: what it is (0 an address, a status or done, 1 a fault,
 /// 2 a refusal, 3 nothing), its number, two numbers more, and the count.
 pub(crate) type Answer = [u32; 5];
 
 mod library {
-    use super::{Answer, Ranges, ENTRIES, SLOTS};
+    use super::{Answer, Range, ENTRIES, SLOTS};
 
     extern "C" {
         pub fn mmu_empty(
@@ -40,8 +38,8 @@ mod library {
             longs: *const u32,
             longs_len: usize,
             base: u32,
-            ranges: &Ranges,
-            n: usize,
+            ranges: *const Range,
+            ranges_len: usize,
             registers: &[u32; 13],
             flags: u32,
             code: u32,
@@ -56,8 +54,8 @@ mod library {
             longs: *const u32,
             longs_len: usize,
             base: u32,
-            ranges: &Ranges,
-            n: usize,
+            ranges: *const Range,
+            ranges_len: usize,
             registers: &[u32; 13],
             code: u32,
             write: bool,
@@ -68,8 +66,8 @@ mod library {
             longs: *const u32,
             longs_len: usize,
             base: u32,
-            ranges: &Ranges,
-            n: usize,
+            ranges: *const Range,
+            ranges_len: usize,
             registers: &[u32; 13],
             code: u32,
             write: bool,
@@ -118,14 +116,6 @@ mod library {
     }
 }
 
-/// Table memory as a call takes it: the longs, their base, and the first `n` ranges.
-pub(crate) struct Memory<'a> {
-    pub longs: &'a [u32],
-    pub base: u32,
-    pub ranges: &'a Ranges,
-    pub n: usize,
-}
-
 /// Makes both caches empty.
 pub(crate) fn empty(c: &mut Caches) {
     let Caches { tags, pages, stamps, marks, keys, bases } = c;
@@ -134,10 +124,10 @@ pub(crate) fn empty(c: &mut Caches) {
 }
 
 #[inline]
-pub(crate) fn translate(c: &mut Caches, m: &Memory<'_>, registers: &Registers, access: &Access) -> Answer {
+pub(crate) fn translate(c: &mut Caches, m: Tables<'_>, registers: &Registers, access: &Access) -> Answer {
     let Caches { tags, pages, stamps, marks, keys, bases } = c;
     let mut out = [0; 5];
-    // SAFETY: arrays of the sizes that the library names, each lent once; a slice's pointer with its own length.
+    // SAFETY: arrays of the sizes that the library names, each lent once; each slice's pointer with its own length.
     unsafe {
         library::mmu_translate(
             tags,
@@ -149,8 +139,8 @@ pub(crate) fn translate(c: &mut Caches, m: &Memory<'_>, registers: &Registers, a
             m.longs.as_ptr(),
             m.longs.len(),
             m.base,
-            m.ranges,
-            m.n,
+            m.ranges.as_ptr(),
+            m.ranges.len(),
             &registers.numbers(),
             access.flags(),
             access.override_number(),
@@ -163,7 +153,7 @@ pub(crate) fn translate(c: &mut Caches, m: &Memory<'_>, registers: &Registers, a
 
 pub(crate) fn load(
     c: &mut Caches,
-    m: &Memory<'_>,
+    m: Tables<'_>,
     registers: &Registers,
     code: u8,
     write: bool,
@@ -181,8 +171,8 @@ pub(crate) fn load(
             m.longs.as_ptr(),
             m.longs.len(),
             m.base,
-            m.ranges,
-            m.n,
+            m.ranges.as_ptr(),
+            m.ranges.len(),
             &registers.numbers(),
             code.into(),
             write,
@@ -193,7 +183,7 @@ pub(crate) fn load(
     out
 }
 
-pub(crate) fn test(m: &Memory<'_>, registers: &Registers, code: u8, write: bool, level: u8, address: u32) -> Answer {
+pub(crate) fn test(m: Tables<'_>, registers: &Registers, code: u8, write: bool, level: u8, address: u32) -> Answer {
     let mut out = [0; 5];
     // SAFETY: as for `load`; no cache is lent.
     unsafe {
@@ -201,8 +191,8 @@ pub(crate) fn test(m: &Memory<'_>, registers: &Registers, code: u8, write: bool,
             m.longs.as_ptr(),
             m.longs.len(),
             m.base,
-            m.ranges,
-            m.n,
+            m.ranges.as_ptr(),
+            m.ranges.len(),
             &registers.numbers(),
             code.into(),
             write,

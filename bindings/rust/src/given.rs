@@ -126,6 +126,7 @@ impl Access {
 }
 
 /// A bus-error range: a long with a byte in it fails.
+#[repr(C)]
 #[derive(Clone, Copy, Debug, PartialEq, Eq)]
 pub struct Range {
     /// The first address inside.
@@ -142,6 +143,6 @@ pub struct Tables<'a> {
     pub longs: &'a [u32],
     /// The first long's address: a multiple of 4, and the longs end at 2^32 at the latest.
     pub base: u32,
-    /// The ranges.
+    /// The ranges, any number of them. Each fetch searches them where they lie.
     pub ranges: &'a [Range],
 }

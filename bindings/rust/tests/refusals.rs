@@ -150,7 +150,6 @@ fn the_first_that_applies() {
             Refusal::Base => wrong.base,
             Refusal::Range => wrong.range,
             Refusal::Cache => wrong.cache,
-            Refusal::Ranges => false,
         };
         let first = TAKES.map(|checks| checks.iter().copied().find(applies));
         assert_eq!(wrong.refused(), first, "mistakes {bits:06b}");
@@ -198,18 +197,24 @@ fn overrides() {
     }
 }
 
-/// Sixteen ranges are taken, each of them looked at; a seventeenth is refused and not left out.
+/// Any number of ranges is taken, and each of them is looked at.
 #[test]
-fn sixteen_ranges() {
+fn many_ranges() {
     let longs = longs();
-    let mut ranges = vec![Range { first: 0x9000, last: 0x9000 }; 16];
-    ranges[15] = Range { first: 0x3007, last: 0x3007 };
     let translate = |ranges: &[Range]| {
         let tables = Tables { longs: &longs, base: 0, ranges };
         Pmmu::new().translate(&registers(Family::M68030), &Access::read(LOGICAL), tables)
     };
-    assert!(matches!(translate(&ranges), Err(Error::Fault(fault)) if fault.address == 0x3004 && fault.count == 3));
-    assert!(translate(&ranges[..15]).is_ok());
-    ranges.push(Range { first: 0, last: 0 });
-    assert_eq!(translate(&ranges), Err(Error::Refused(Refusal::Ranges)));
+    for count in [1, 16, 17, 1000] {
+        let mut ranges = vec![Range { first: 0x9000, last: 0x9000 }; count];
+        assert!(translate(&ranges).is_ok(), "{count} ranges elsewhere");
+        ranges[count - 1] = Range { first: 0x3007, last: 0x3007 };
+        let met = translate(&ranges);
+        assert!(
+            matches!(met, Err(Error::Fault(fault)) if fault.address == 0x3004 && fault.count == 3),
+            "{count} ranges"
+        );
+        ranges[count - 1] = Range { first: 0x9001, last: 0x9000 };
+        assert_eq!(translate(&ranges), Err(Error::Refused(Refusal::Range)), "{count} ranges, the last one crossed");
+    }
 }
