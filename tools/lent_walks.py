@@ -3,7 +3,10 @@
 
 # x7, x8 and x9 are the longs, the base and the ranges, x10 the registers, x11 the access
 def translated(facts):
-    return f'law.translates x10 x11 (memory (now x7) x8 (now x9)) _ {facts("bad_longs", "any_crossed", "planned", "address_of", "way_of", "walk_for", "conclude_access")}'
+    given = f'x10 x11 (memory (now x7) x8 (now x9)) _ {facts("bad_longs", "any_crossed", "planned")}'
+    if facts.has('settled'):
+        return f'law.settles {given} {facts("is_settled", "if", "settled")}'
+    return f'law.translates {given} {facts("address_of", "way_of", "walk_for", "conclude_access")}'
 
 
 # x5, x6 and x7 are the longs, the base and the ranges, x8 the registers, x9 the code, x10 whether it is a write, x11 the address

@@ -1,8 +1,9 @@
 -- From the stages of a call in place to what it promises. Assumes nothing.
 use Prim.Native.Nat.{ℕ}
-use mathlib.Core.Path.{_≡_, subst, _∙_, ap}
+use mathlib.Core.Path.{_≡_, refl, subst, _∙_, ap}
 use mathlib.Core.List.{List}
 use mathlib.Core.Bool.{Bool}
+use lib.Dec.{T as Holds}
 use Rattle.definition.specs.Memory.{Memory}
 use Rattle.definition.specs.Refusal.{badBase, badRange}
 use Rattle.definition.specs.Translate.{Caches, translate}
@@ -18,10 +19,12 @@ use Rattle.tables.specs.declared.Way.{Way}
 use Rattle.tables.specs.declared.Walks.{Walks}
 use Rattle.cache.specs.Atc030.{cacheOf}
 use Rattle.mmu.specs.declared.Plan.{Plan}
+use Rattle.mmu.specs.declared.Plan.the-variants as plan
 use Rattle.mmu.specs.Stages.{Coded, wayOf, planAccess, shownTranslated, concludeAccess, planLoad, shownLoaded, concludeLoad}
 use Rattle.mmu.specs.InPlace.{cachesOf, pairWith, PlannedIn, PlannedIn030, AnsweredIn, LoadedIn}
 use Rattle.mmu.proofs.Staged.{translated-by}
-use Rattle.mmu.proofs.Translating.{load-by, load-code}
+use Rattle.mmu.proofs.Translating.{in-refused, in-settled, load-by, load-code}
+use Rattle.lent.specs.Settled.{isSettled, settledAnswer}
 
 -- ---- translate
 pub translates : (g : Registers) (a : Access) (m : Memory) (c : Caches) {two three : Bool} {p : Plan} {address : ℕ} {way : Way} {w : Walks} {t : Translation} {n : ℕ}
@@ -33,6 +36,17 @@ translates g a m c {two} {three} {p} {address} {way} {w} {t} {n} {ts} {ps} {ss} 
     let planned : PlannedIn (planAccess g a (badBase m) (badRange m) c) p ts ps ss ms ks bs = rw (← is-two, ← is-three) k in
     let walks : w ≡ walksOf m g (a .address) (wayOf p) = walked ∙ rw (is-address, is-way) in
     translated-by g a m c (planned .plans) (planned .leaves) (subst (λ (x : Walks). AnsweredIn (concludeAccess g a (cachesOf ts ps ss ms ks bs) p x) t n ts′ ps′ ss′ ms′ ks′ bs′) walks q)
+
+-- the plan settles it, and no table is asked
+pub settles : (g : Registers) (a : Access) (m : Memory) (c : Caches) {two three done : Bool} {p : Plan} {t : Translation} {n : ℕ} {ts ps ss ms ks bs : List ℕ}
+    → two ≡ badBase m → three ≡ badRange m → PlannedIn (planAccess g a two three c) p ts ps ss ms ks bs → done ≡ isSettled p → Holds done
+    → (t ≡ settledAnswer p) × (n ≡ 0) → AnsweredIn (shownTranslated (translate g a m c)) t n ts ps ss ms ks bs
+settles g a m c {two} {three} {done} {p} {t} {n} {ts} {ps} {ss} {ms} {ks} {bs} is-two is-three k is-done h q = go p refl (subst Holds is-done h)
+  where
+    go : (x : Plan) → p ≡ x → Holds (isSettled x) → AnsweredIn (shownTranslated (translate g a m c)) t n ts ps ss ms ks bs
+    go (plan.Refused number) e _ = rw (q .0 ∙ ap settledAnswer e, q .1) (in-refused g a m c is-two is-three k e)
+    go (plan.Settled x) e _ = rw (q .0 ∙ ap settledAnswer e, q .1) (in-settled g a m c is-two is-three k e)
+    go (plan.Walk way) e h = absurd h
 
 -- ---- load
 module _ (g : Registers) (code address : ℕ) (c : Cache030) (two three : Bool) {p : Plan} {ts ps ss ms : List ℕ}

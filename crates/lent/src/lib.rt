@@ -3,6 +3,7 @@
 use definition::Access;
 use definition::Range;
 use definition::Registers;
+use definition::Translation;
 use mmu::Plan;
 use mmu::checks;
 use mmu::load;
@@ -17,6 +18,7 @@ ghost use Rattle.definition.specs.Load.{load as loadOf};
 ghost use Rattle.definition.specs.Cache040.{Cache040};
 ghost use Rattle.cache.specs.Atc030.{cacheOf};
 ghost use Rattle.mmu.specs.Stages.{Coded, planAccess, shownTranslated, planLoad, concludeLoad, shownLoaded};
+ghost use Rattle.lent.specs.Settled.{isSettled, settledAnswer};
 ghost use Rattle.mmu.specs.InPlace.{cachesOf, pairWith, PlannedIn, PlannedIn030, AnsweredIn, LoadedIn};
 
 // ---- Translate.
@@ -46,7 +48,38 @@ fn planned(
     translate::plan_access(tags, pages, stamps, marks, keys, bases, two, three, g, a)
 }
 
-// Translate over the caches and the ranges that the caller lends.
+// Whether a plan wants no walk.
+fn is_settled(plan: Plan) -> bool
+    ensures { λ r. ⌜ r ≡ isSettled plan ⌝ }
+{
+    match plan {
+        Plan::Refused(_) => true,
+        Plan::Settled(_) => true,
+        Plan::Walk(_) => false,
+    }
+}
+
+// The answer of such a plan.
+fn settled(plan: Plan) -> Outcome
+    ensures { λ r. ⌜ (r .answer ≡ settledAnswer plan) × (r .count ≡ 0) ⌝ }
+{
+    match plan {
+        Plan::Refused(n) => Outcome {
+            answer: Translation::Refused(n),
+            count: 0,
+        },
+        Plan::Settled(x) => Outcome {
+            answer: Translation::Address(x),
+            count: 0,
+        },
+        Plan::Walk(_) => Outcome {
+            answer: Translation::Address(0),
+            count: 0,
+        },
+    }
+}
+
+// Translate over the caches and the ranges that the caller lends. A hit returns before the tables are thought of.
 pub fn translate_lent(
     tags: &mut [u64; 22],
     pages: &mut [u64; 22],
@@ -65,6 +98,10 @@ pub fn translate_lent(
     let two = checks::bad_longs(longs, base);
     let three = tables::any_crossed(ranges);
     let plan = planned(tags, pages, stamps, marks, keys, bases, two, three, g, a);
+    let done = is_settled(plan);
+    if done {
+        return settled(plan);
+    }
     let address = address_of(a);
     let way = mmu::way_of(plan);
     let walks = tables::walk_for(longs, base, ranges, g, address, way);
