@@ -1,5 +1,5 @@
 -- From the stages of a call in place to what it promises. Assumes nothing.
-use Prim.Native.Nat.{ℕ}
+use Prim.Native.Nat.{ℕ, _%_}
 use mathlib.Core.Path.{_≡_, refl, subst, _∙_, ap}
 use mathlib.Core.List.{List}
 use mathlib.Core.Bool.{Bool}
@@ -18,12 +18,12 @@ use Rattle.tables.specs.Walked.{walksOf}
 use Rattle.tables.specs.declared.Way.{Way}
 use Rattle.tables.specs.declared.Walks.{Walks}
 use Rattle.cache.specs.Atc030.{cacheOf}
-use Rattle.mmu.specs.declared.Plan.{Plan}
-use Rattle.mmu.specs.declared.Plan.the-variants as plan
-use Rattle.mmu.specs.Stages.{Coded, wayOf, planAccess, shownTranslated, concludeAccess, planLoad, shownLoaded, concludeLoad}
-use Rattle.mmu.specs.InPlace.{cachesOf, pairWith, PlannedIn, PlannedIn030, AnsweredIn, LoadedIn}
-use Rattle.mmu.proofs.Staged.{translated-by}
-use Rattle.mmu.proofs.Translating.{in-refused, in-settled, load-by, load-code}
+use Rattle.inplace.specs.declared.Plan.{Plan}
+use Rattle.inplace.specs.declared.Plan.the-variants as plan
+use Rattle.inplace.specs.Stages.{wayOf, planAccess, shownTranslated, concludeAccess, planLoad, shownLoaded, concludeLoad}
+use Rattle.inplace.specs.InPlace.{cachesOf, pairWith, PlannedIn, PlannedIn030, AnsweredIn, LoadedIn}
+use Rattle.inplace.proofs.Staged.{translated-by}
+use Rattle.inplace.proofs.Translating.{in-refused, in-settled, load-by}
 use Rattle.lent.specs.Settled.{isSettled, settledAnswer}
 
 -- ---- translate
@@ -51,10 +51,7 @@ settles g a m c {two} {three} {done} {p} {t} {n} {ts} {ps} {ss} {ms} {ks} {bs} i
 -- ---- load
 module _ (g : Registers) (code address : ℕ) (c : Cache030) (two three : Bool) {p : Plan} {ts ps ss ms : List ℕ}
     (k : PlannedIn030 (planLoad g code address two three c) p ts ps ss ms) where
-  pub load-asks : Coded p code
-  load-asks way e = load-code g code address two three c (k .plans) e
-
   pub loads : (write : Bool) (m : Memory) {way : Way} {w : Walks} {l : Load} {n : ℕ} {ts′ ps′ ss′ ms′ : List ℕ} → two ≡ badBase m → three ≡ badRange m
-      → way ≡ wayOf p → w ≡ walksOf m g address way → LoadedIn (concludeLoad (g .tc) code address write (cacheOf ts ps ss ms) p w) l n ts′ ps′ ss′ ms′
+      → way ≡ wayOf p → w ≡ walksOf m g address way → LoadedIn (concludeLoad (g .tc) (code % 8) address write (cacheOf ts ps ss ms) p w) l n ts′ ps′ ss′ ms′
       → (d : Cache040) → LoadedIn (shownLoaded (loadOf g code write address m (pairWith c d))) l n ts′ ps′ ss′ ms′
   loads write m is-two is-three is-way walked q d = load-by g code write address m (pairWith c d) is-two is-three k is-way walked q

@@ -4,22 +4,23 @@ use definition::Access;
 use definition::Range;
 use definition::Registers;
 use definition::Translation;
-use mmu::Plan;
-use mmu::checks;
-use mmu::load;
-use mmu::load::LoadOutcome;
-use mmu::translate;
-use mmu::translate::Outcome;
+use inplace::Plan;
+use inplace::checks;
+use inplace::load;
+use inplace::load::LoadOutcome;
+use inplace::translate;
+use inplace::translate::Outcome;
 use tables::Walks;
 ghost use mathlib.Core.Path.{_≡_};
+ghost use Prim.Native.Nat.{_%_};
 ghost use Rattle.definition.specs.Memory.{memory};
 ghost use Rattle.definition.specs.Translate.{translate as translateOf};
 ghost use Rattle.definition.specs.Load.{load as loadOf};
 ghost use Rattle.definition.specs.Cache040.{Cache040};
 ghost use Rattle.cache.specs.Atc030.{cacheOf};
-ghost use Rattle.mmu.specs.Stages.{Coded, planAccess, shownTranslated, planLoad, concludeLoad, shownLoaded};
+ghost use Rattle.inplace.specs.Stages.{planAccess, shownTranslated, planLoad, concludeLoad, shownLoaded};
 ghost use Rattle.lent.specs.Settled.{isSettled, settledAnswer};
-ghost use Rattle.mmu.specs.InPlace.{cachesOf, pairWith, PlannedIn, PlannedIn030, AnsweredIn, LoadedIn};
+ghost use Rattle.inplace.specs.InPlace.{cachesOf, pairWith, PlannedIn, PlannedIn030, AnsweredIn, LoadedIn};
 
 // ---- Translate.
 
@@ -103,7 +104,7 @@ pub fn translate_lent(
         return settled(plan);
     }
     let address = address_of(a);
-    let way = mmu::way_of(plan);
+    let way = inplace::way_of(plan);
     let walks = tables::walk_for(longs, base, ranges, g, address, way);
     translate::conclude_access(tags, pages, stamps, marks, keys, bases, g, a, plan, walks)
 }
@@ -140,8 +141,7 @@ fn concluded_load(
     plan: Plan,
     walks: Walks,
 ) -> LoadOutcome
-    requires { ⌜ Coded plan code ⌝ }
-    ensures { λ r. ⌜ LoadedIn (concludeLoad (g .tc) code address write (cacheOf (now (tags .entry)) (now (pages .entry)) (now (stamps .entry)) (now (marks .entry))) plan walks) (r .answer) (r .count) (now (tags .exit)) (now (pages .exit)) (now (stamps .exit)) (now (marks .exit)) ⌝ }
+    ensures { λ r. ⌜ LoadedIn (concludeLoad (g .tc) (code % 8) address write (cacheOf (now (tags .entry)) (now (pages .entry)) (now (stamps .entry)) (now (marks .entry))) plan walks) (r .answer) (r .count) (now (tags .exit)) (now (pages .exit)) (now (stamps .exit)) (now (marks .exit)) ⌝ }
 {
     load::conclude_load(
         tags,
@@ -176,7 +176,7 @@ pub fn load_lent(
     let two = checks::bad_longs(longs, base);
     let three = tables::any_crossed(ranges);
     let plan = planned_load(tags, pages, stamps, marks, two, three, g, code, address);
-    let way = mmu::way_of(plan);
+    let way = inplace::way_of(plan);
     let walks = tables::walk_for(longs, base, ranges, g, address, way);
     concluded_load(
         tags,

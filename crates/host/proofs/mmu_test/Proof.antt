@@ -54,16 +54,16 @@ use Rattle.host.proofs.Telling as law
 use Rattle.definition.specs.Test.{test as testOf}
 use Rattle.definition.specs.Memory.{memory}
 use Rattle.host.specs.Numbers.{registersOf, testNumbers, testedNumbers}
-use Rattle.mmu.specs.Stages.{shownTested}
-use Rattle.mmu.specs.InPlace.{TestedIn}
+use Rattle.inplace.specs.Stages.{shownTested}
+use Rattle.inplace.specs.InPlace.{TestedIn}
 use Rattle.definition.specs.declared.Range.{Range}
 use Rattle.definition.proofs.Range as row-Range
 use Rattle.definition.specs.declared.Registers.{Registers}
 use Rattle.definition.proofs.Registers as row-Registers
 use Rattle.definition.proofs.Registers.Laws as law-Registers
-use Rattle.mmu.specs.declared.test.TestOutcome.{TestOutcome}
-use Rattle.mmu.proofs.test.TestOutcome as row-TestOutcome
-use Rattle.mmu.proofs.test.TestOutcome.Laws as law-TestOutcome
+use Rattle.inplace.specs.declared.test.TestOutcome.{TestOutcome}
+use Rattle.inplace.proofs.test.TestOutcome as row-TestOutcome
+use Rattle.inplace.proofs.test.TestOutcome.Laws as law-TestOutcome
 use Rattle.host.proofs.registers_of as c0
 use Rattle.host.proofs.registers_of.Symbol as c0-def
 use Rattle.host.proofs.registers_of.Symbol.{name as #host·registers-of}
