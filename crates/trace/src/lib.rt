@@ -486,24 +486,3 @@ pub fn put_line(out: &mut [u8], at: usize, line: Line) -> usize
         }
     }
 }
-
-// The line that follows a good version byte.
-pub fn put_version(out: &mut [u8], at: usize) -> usize
-    requires { ⌜ at + 3 ≤ length (now out) ⌝ }
-    ensures { λ r. ⌜ Wrote 3 (now (out .entry)) at (118 ∷ 49 ∷ newline) (now (out .exit)) r ⌝ }
-{
-    let second = put_byte(out, at, b'v');
-    let third = put_byte(out, second, b'1');
-    put_byte(out, third, b'\n')
-}
-
-// The last line of a run that was not stopped.
-pub fn put_end(out: &mut [u8], at: usize) -> usize
-    requires { ⌜ at + 4 ≤ length (now out) ⌝ }
-    ensures { λ r. ⌜ Wrote 4 (now (out .entry)) at (101 ∷ 110 ∷ 100 ∷ newline) (now (out .exit)) r ⌝ }
-{
-    let second = put_byte(out, at, b'e');
-    let third = put_byte(out, second, b'n');
-    let fourth = put_byte(out, third, b'd');
-    put_byte(out, fourth, b'\n')
-}
