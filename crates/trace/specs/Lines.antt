@@ -1,5 +1,5 @@
 -- What the code's line means: the definition's line, case by case; and what it is to write bytes.
-use Prim.Native.Nat.{ℕ, _+_, _≤_}
+use Prim.Native.Nat.{ℕ, _+_, _≤_, _<_}
 use mathlib.Core.Path.{_≡_}
 use mathlib.Core.List.{List}
 use lib.ListN.{length}
@@ -22,3 +22,8 @@ pub record Wrote (most : ℕ) (old : List ℕ) (at : ℕ) (bytes new : List ℕ)
   pub stores : new ≡ sets old at bytes
   pub ends : next ≡ at + length bytes
   pub short : length bytes ≤ most
+
+-- the same where `most` bytes have room from `at` on; where they have none, nothing is written and the place stays
+pub record Put (most : ℕ) (old : List ℕ) (at : ℕ) (bytes new : List ℕ) (next : ℕ) : Type 0 where
+  pub room : at + most ≤ length old → Wrote most old at bytes new next
+  pub none : length old < at + most → (new ≡ old) × (next ≡ at)

@@ -12,7 +12,7 @@ ghost use lib.ListN.{length, getD};
 ghost use Rattle.definition.specs.Words.{bitOf};
 ghost use Rattle.definition.specs.Trace.{be, overrideOf, kind01, kind02, kind03, kind04, kind05, kind06, kind07, kind08, kind0B, byTraceKind, recordOf, hexDigit, hex, digit, decimal, spaced, newline, text};
 ghost use Rattle.trace.specs.Records.{recordIn};
-ghost use Rattle.trace.specs.Lines.{lineIn, Wrote};
+ghost use Rattle.trace.specs.Lines.{lineIn, Wrote, Put};
 
 // What a record's body says.
 pub enum Record {
@@ -438,8 +438,8 @@ fn put_address(out: &mut [u8], at: usize, address: u32, count: u32) -> usize
     put_count(out, end, count)
 }
 
-// A line from the place `at` on; the result is the place after it.
-pub fn put_line(out: &mut [u8], at: usize, line: Line) -> usize
+// A line's text.
+fn put_text(out: &mut [u8], at: usize, line: Line) -> usize
     requires { ⌜ at + 44 ≤ length (now out) ⌝ }
     ensures { λ r. ⌜ Wrote 44 (now (out .entry)) at (text (lineIn line)) (now (out .exit)) r ⌝ }
 {
@@ -485,4 +485,17 @@ pub fn put_line(out: &mut [u8], at: usize, line: Line) -> usize
             put_count(out, next, number)
         }
     }
+}
+
+// A line from the place `at` on, where 44 bytes have room there; the result is the place after it. Where they have none, nothing is written.
+pub fn put_line(out: &mut [u8], at: usize, line: Line) -> usize
+    ensures { λ r. ⌜ Put 44 (now (out .entry)) at (text (lineIn line)) (now (out .exit)) r ⌝ }
+{
+    if out.len() < 44 {
+        return at;
+    }
+    if out.len() - 44 < at {
+        return at;
+    }
+    put_text(out, at, line)
 }
