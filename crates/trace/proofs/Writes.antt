@@ -1,12 +1,13 @@
 -- Writing: two writes in a row are one write of the joined bytes, and what a write leaves in front of its end. Assumes nothing.
-use Prim.Native.Nat.{ℕ, suc, _+_, _≤_, _<_}
+use Prim.Native.Nat.{ℕ, suc, _+_, _≤_}
 use mathlib.Core.Path.{_≡_, refl, ap, _∙_}
+use mathlib.Core.Bool.{Bool, true, false}
 use mathlib.Core.List.{List, [], _∷_, _++_}
 use native.Mathlib.Nat.{add-zero, add-suc, suc-add}
 use native.Mathlib.Omega.{arith}
 use lib.ListN.{length, take, drop, length-append}
 use lib.Seq.{sets, sets-eq, length-sets, length-take-le, take-at}
-use Rattle.trace.specs.Lines.{Wrote, Put}
+use Rattle.trace.specs.Lines.{Wrote, RoomFor, Put}
 
 sets-append : (a b l : List ℕ) (at : ℕ) → sets (sets l at a) (at + length a) b ≡ sets l at (a ++ b)
 sets-append [] b l at = rw add-zero
@@ -31,11 +32,12 @@ pub loosely : {m at next : ℕ} {old new bytes : List ℕ} (n : ℕ) → m ≤ n
 loosely n h w = record { stores = w .stores; ends = w .ends; short = omega (arith, w .short) }
 
 -- a write that looks for room first
-pub no-room : {most at : ℕ} {old bytes : List ℕ} → length old < at + most → Put most old at bytes old at
-no-room h = record { room = λ k. absurd (omega (arith, h, k)); none = λ _. (refl, refl) }
+pub has-room : {most at next : ℕ} {old new bytes : List ℕ} {r : Bool} → RoomFor (length old) at most r → r ≡ true → Wrote most old at bytes new next
+    → Put most old at bytes new next
+has-room f e w = record { room = λ _. w; none = λ k. absurd (omega (arith, f .room e, k)) }
 
-pub has-room : {most at next : ℕ} {old new bytes : List ℕ} → at + most ≤ length old → Wrote most old at bytes new next → Put most old at bytes new next
-has-room h w = record { room = λ _. w; none = λ k. absurd (omega (arith, h, k)) }
+pub no-room : {most at : ℕ} {old bytes : List ℕ} {r : Bool} → RoomFor (length old) at most r → r ≡ false → Put most old at bytes old at
+no-room f e = record { room = λ k. absurd (omega (arith, f .full e, k)); none = λ _. (refl, refl) }
 
 -- what a caller takes from a write that had room
 module _ {most at next : ℕ} {old new bytes : List ℕ} (w : Wrote most old at bytes new next) where

@@ -1,6 +1,7 @@
 -- What the code's line means: the definition's line, case by case; and what it is to write bytes.
 use Prim.Native.Nat.{ℕ, _+_, _≤_, _<_}
 use mathlib.Core.Path.{_≡_}
+use mathlib.Core.Bool.{Bool, true, false}
 use mathlib.Core.List.{List}
 use lib.ListN.{length}
 use lib.Seq.{sets}
@@ -23,7 +24,12 @@ pub record Wrote (most : ℕ) (old : List ℕ) (at : ℕ) (bytes new : List ℕ)
   pub ends : next ≡ at + length bytes
   pub short : length bytes ≤ most
 
--- the same where `most` bytes have room from `at` on; where they have none, nothing is written and the place stays
+-- r says whether n bytes fit from `at` on, where there are `size`
+pub record RoomFor (size at n : ℕ) (r : Bool) : Type 0 where
+  pub room : r ≡ true → at + n ≤ size
+  pub full : r ≡ false → size < at + n
+
+-- bytes are written where `most` have room from `at` on; where they have none, nothing is written and the place stays
 pub record Put (most : ℕ) (old : List ℕ) (at : ℕ) (bytes new : List ℕ) (next : ℕ) : Type 0 where
   pub room : at + most ≤ length old → Wrote most old at bytes new next
   pub none : length old < at + most → (new ≡ old) × (next ≡ at)

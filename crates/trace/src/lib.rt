@@ -12,7 +12,7 @@ ghost use lib.ListN.{length, getD};
 ghost use Rattle.definition.specs.Words.{bitOf};
 ghost use Rattle.definition.specs.Trace.{be, overrideOf, kind01, kind02, kind03, kind04, kind05, kind06, kind07, kind08, kind0B, byTraceKind, recordOf, hexDigit, hex, digit, decimal, spaced, newline, text};
 ghost use Rattle.trace.specs.Records.{recordIn};
-ghost use Rattle.trace.specs.Lines.{lineIn, Wrote, Put};
+ghost use Rattle.trace.specs.Lines.{lineIn, Wrote, RoomFor, Put};
 
 // What a record's body says.
 pub enum Record {
@@ -487,15 +487,63 @@ fn put_text(out: &mut [u8], at: usize, line: Line) -> usize
     }
 }
 
+// Whether n bytes have room from `at` on.
+pub fn has_room(out: &[u8], at: usize, n: usize) -> bool
+    ensures { λ r. ⌜ RoomFor (length (now (out .entry))) at n r ⌝ }
+{
+    if out.len() < n {
+        return false;
+    }
+    at <= out.len() - n
+}
+
 // A line from the place `at` on, where 44 bytes have room there; the result is the place after it. Where they have none, nothing is written.
 pub fn put_line(out: &mut [u8], at: usize, line: Line) -> usize
     ensures { λ r. ⌜ Put 44 (now (out .entry)) at (text (lineIn line)) (now (out .exit)) r ⌝ }
 {
-    if out.len() < 44 {
-        return at;
+    if has_room(out, at, 44) {
+        return put_text(out, at, line);
     }
-    if out.len() - 44 < at {
-        return at;
+    at
+}
+
+// The bytes of the line that follows a good version byte.
+fn version_text(out: &mut [u8], at: usize) -> usize
+    requires { ⌜ at + 3 ≤ length (now out) ⌝ }
+    ensures { λ r. ⌜ Wrote 3 (now (out .entry)) at (118 ∷ 49 ∷ newline) (now (out .exit)) r ⌝ }
+{
+    let second = put_byte(out, at, b'v');
+    let third = put_byte(out, second, b'1');
+    put_byte(out, third, b'\n')
+}
+
+// That line, where it has room.
+pub fn put_version(out: &mut [u8], at: usize) -> usize
+    ensures { λ r. ⌜ Put 3 (now (out .entry)) at (118 ∷ 49 ∷ newline) (now (out .exit)) r ⌝ }
+{
+    if has_room(out, at, 3) {
+        return version_text(out, at);
     }
-    put_text(out, at, line)
+    at
+}
+
+// The bytes of the last line of a run that was not stopped.
+fn end_text(out: &mut [u8], at: usize) -> usize
+    requires { ⌜ at + 4 ≤ length (now out) ⌝ }
+    ensures { λ r. ⌜ Wrote 4 (now (out .entry)) at (101 ∷ 110 ∷ 100 ∷ newline) (now (out .exit)) r ⌝ }
+{
+    let second = put_byte(out, at, b'e');
+    let third = put_byte(out, second, b'n');
+    let fourth = put_byte(out, third, b'd');
+    put_byte(out, fourth, b'\n')
+}
+
+// That line, where it has room.
+pub fn put_end(out: &mut [u8], at: usize) -> usize
+    ensures { λ r. ⌜ Put 4 (now (out .entry)) at (101 ∷ 110 ∷ 100 ∷ newline) (now (out .exit)) r ⌝ }
+{
+    if has_room(out, at, 4) {
+        return end_text(out, at);
+    }
+    at
 }

@@ -14,8 +14,8 @@ use lib.Seq.{length-take-le, take-append-le, take-append-add, take-all}
 use Rattle.definition.specs.Words.{if_then_else_, anyOf}
 use Rattle.definition.specs.Refusal.{crossed}
 use Rattle.definition.specs.Trace.{State, Front, Body, Short, Ended, frontOf, recordOf, isMalformed, firstRegisters, firstState, newline, playFrom, play}
-use Rattle.trace.specs.Lines.{Wrote}
-use Rattle.trace.proofs.Writes.{same-length, front}
+use Rattle.trace.specs.Lines.{Wrote, Put}
+use Rattle.trace.proofs.Writes.{next-near, same-length, front}
 use Rattle.cache.specs.Atc030.{entriesOf, cacheOf}
 use Rattle.cache.specs.Atc040.{slotsOf, cache040Of}
 use Rattle.replay.specs.Playing.{rangesOf, stateOf, Bad, RanIn}
@@ -29,8 +29,10 @@ use Rattle.whole.specs.declared.Played.the-variants as played
 
 -- ---- one line
 -- a line was written where there was room
-pub written : {most at next : ℕ} {old new bytes : List ℕ} → Wrote most old at bytes new next → next ≤ length old → Shows (take at old ++ bytes) new (played.Lines next)
-written w h = (omega (arith, same-length w), front w h)
+pub put : {most at next : ℕ} {old new bytes : List ℕ} → Put most old at bytes new next → at + most ≤ length old → Shows (take at old ++ bytes) new (played.Lines next)
+put p h =
+    let w = p .room h in
+    (omega (arith, same-length w, h, next-near w), front w (omega (arith, h, next-near w)))
 
 -- there was no room
 pub crowded : (old bytes : List ℕ) (at : ℕ) → length old < at + 44 → length old < length (take at old ++ bytes) + 44

@@ -1,7 +1,6 @@
 -- What it is to have written a trace's lines.
 use Prim.Native.Nat.{ℕ, _+_, _≤_, _<_}
 use mathlib.Core.Path.{_≡_}
-use mathlib.Core.Bool.{Bool, true, false}
 use mathlib.Core.List.{List, _∷_, _++_}
 use lib.Dec.{eqb}
 use lib.ListN.{length, take}
@@ -12,11 +11,6 @@ use Rattle.replay.specs.declared.run.Why.{Why}
 use Rattle.replay.specs.declared.run.Why.the-variants as why
 use Rattle.whole.specs.declared.Played.{Played}
 use Rattle.whole.specs.declared.Played.the-variants as played
-
--- r says whether a line, of at most 44 bytes, fits from `at` on
-pub record RoomFor (size at : ℕ) (r : Bool) : Type 0 where
-  pub room : r ≡ true → at + 44 ≤ size
-  pub full : r ≡ false → size < at + 44
 
 -- the lines are at the start of the output; or they and one line more do not fit
 abbrev pub Shows : List ℕ → List ℕ → Played → Type 0

@@ -5,7 +5,7 @@ ghost use Prim.Native.Nat.{suc};
 ghost use mathlib.Core.List.{_++_};
 ghost use lib.ListN.{length, take};
 ghost use Rattle.definition.specs.Trace.{firstState, playFrom, play as Trace·play};
-ghost use Rattle.whole.specs.Shown.{RoomFor, Shows, refused, finished, Closes};
+ghost use Rattle.whole.specs.Shown.{Shows, refused, finished, Closes};
 
 // The lines are so many bytes at the start of the output; or there was no room for them.
 pub enum Played {
@@ -13,21 +13,11 @@ pub enum Played {
     NoRoom,
 }
 
-// Whether a line fits from `at` on.
-fn has_room(out: &[u8], at: usize) -> bool
-    ensures { λ r. ⌜ RoomFor (length (now (out .entry))) at r ⌝ }
-{
-    if out.len() < 44 {
-        return false;
-    }
-    at <= out.len() - 44
-}
-
 // Refusal 7, the last line.
 fn malformed(out: &mut [u8], at: usize) -> Played
     ensures { λ r. ⌜ Shows (take at (now (out .entry)) ++ refused) (now (out .exit)) r ⌝ }
 {
-    if has_room(out, at) {
+    if trace::has_room(out, at, 44) {
         return Played::Lines(trace::put_line(out, at, Line::R { number: 7 }));
     }
     Played::NoRoom
@@ -40,7 +30,7 @@ fn finish(out: &mut [u8], at: usize, left: usize) -> Played
     if left != 0 {
         return malformed(out, at);
     }
-    if has_room(out, at) {
+    if trace::has_room(out, at, 44) {
         return Played::Lines(trace::put_end(out, at));
     }
     Played::NoRoom

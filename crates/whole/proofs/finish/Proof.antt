@@ -1,7 +1,6 @@
 use native.Mathlib.Omega.{arith}
 use borrow.Author.Tests.{ne-eqb, eq-eqb}
-use Rattle.trace.proofs.Writes.{next-near}
-use Rattle.whole.proofs.Showing.{written, crowded}
+use Rattle.whole.proofs.Showing.{put, crowded}
 use borrow.Author.Needs.{needs}
 use Rattle.whole.proofs.finish.Statement.{statement}
 use Rattle.whole.proofs.finish.Tie as tie
@@ -19,13 +18,13 @@ has-room-requires : tie.Need-has-room-requires
 has-room-requires c κs = search needs
 
 put-end-requires : tie.Need-put-end-requires
-put-end-requires c κs = omega (arith, c .before .before .has-room .ensures .room (c .before .if2 .taken))
+put-end-requires c κs = search needs
 
 same-length-2 : tie.Need-same-length-2
 same-length-2 c = search needs
 
 returns-2 : tie.Need-returns-2
-returns-2 c = rw (eq-eqb (c .before .before .before .before .before .before .before .before .before .args .left) 0 (c .before .before .before .before .before .before .before .if1 .left)) (written (c .before .before .put-end .ensures) (omega (arith, next-near (c .before .before .put-end .ensures), c .before .before .before .before .before .has-room .ensures .room (c .before .before .before .before .if2 .taken))))
+returns-2 c = rw (eq-eqb (c .before .before .before .before .before .before .before .before .before .args .left) 0 (c .before .before .before .before .before .before .before .if1 .left)) (put (c .before .before .put-end .ensures) (omega (arith, c .before .before .before .before .before .has-room .ensures .room (c .before .before .before .before .if2 .taken))))
 
 same-length-3 : tie.Need-same-length-3
 same-length-3 c = search needs

@@ -1,6 +1,4 @@
-use native.Mathlib.Omega.{arith}
-use Rattle.trace.proofs.Writes.{next-near}
-use Rattle.whole.proofs.Showing.{written, crowded}
+use Rattle.whole.proofs.Showing.{put, crowded}
 use borrow.Author.Needs.{needs}
 use Rattle.whole.proofs.malformed.Statement.{statement}
 use Rattle.whole.proofs.malformed.Tie as tie
@@ -9,13 +7,13 @@ has-room-requires : tie.Need-has-room-requires
 has-room-requires c κs = search needs
 
 put-line-requires : tie.Need-put-line-requires
-put-line-requires c κs = c .before .before .has-room .ensures .room (c .before .if1 .taken)
+put-line-requires c κs = search needs
 
 same-length : tie.Need-same-length
 same-length c = search needs
 
 returns : tie.Need-returns
-returns c = written (c .before .before .put-line .ensures) (omega (arith, next-near (c .before .before .put-line .ensures), c .before .before .before .before .before .has-room .ensures .room (c .before .before .before .before .if1 .taken)))
+returns c = put (c .before .before .put-line .ensures) (c .before .before .before .before .before .has-room .ensures .room (c .before .before .before .before .if1 .taken))
 
 same-length-2 : tie.Need-same-length-2
 same-length-2 c = search needs

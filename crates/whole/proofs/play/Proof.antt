@@ -71,7 +71,7 @@ same-length-3 : tie.Need-same-length-3
 same-length-3 c = search needs
 
 returns-4 : tie.Need-returns-4
-returns-4 c = behind-version _ (c .before .before .before .before .before .before .before .before .before .before .before .before .before .if2 .left) _ _ (c .before .before .before .before .before .play-records .ensures) _ _ (c .before .before .before .before .before .before .before .before .before .before .put-version .ensures) (omega arith) (c .before .n .given .1)
+returns-4 c = behind-version _ (c .before .before .before .before .before .before .before .before .before .before .before .before .before .if2 .left) _ _ (c .before .before .before .before .before .play-records .ensures) _ _ (c .before .before .before .before .before .before .before .before .before .before .put-version .ensures .room (omega arith)) (omega arith) (c .before .n .given .1)
 
 same-length-4 : tie.Need-same-length-4
 same-length-4 c = search needs

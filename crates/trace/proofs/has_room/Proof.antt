@@ -3,8 +3,8 @@ use mathlib.Core.Path.{_≡_}
 use native.Mathlib.Omega.{arith}
 use borrow.Author.Tests.{leb-true, leb-false}
 use borrow.Author.Needs.{needs}
-use Rattle.whole.proofs.has_room.Statement.{statement}
-use Rattle.whole.proofs.has_room.Tie as tie
+use Rattle.trace.proofs.has_room.Statement.{statement}
+use Rattle.trace.proofs.has_room.Tie as tie
 
 returns : tie.Need-returns
 returns c = record { room = λ e. (let z : _≡_ {A = ℕ} 0 1 = cc in absurd (omega arith)); full = λ _. omega arith }
