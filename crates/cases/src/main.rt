@@ -91,12 +91,6 @@ fn compared(t: Tally, name: &[u8], played: &[u8], expected: &[u8], out: &mut [u8
 
 // ---- A case.
 
-// Starts a case's line: its name and a colon.
-fn put_name(out: &mut [u8; 4096], at: usize, name: &[u8]) -> usize {
-    let to = put_text(out, at, name);
-    put_text(out, to, b": ")
-}
-
 // The case failed, and its line ends here.
 fn failed(t: Tally, out: &mut [u8; 4096], at: usize) -> Tally {
     let mut next = t;
@@ -108,17 +102,14 @@ fn failed(t: Tally, out: &mut [u8; 4096], at: usize) -> Tally {
 
 // A file of the case gave no bytes.
 fn unheld(t: Tally, name: &[u8], after: &[u8], held: Held, out: &mut [u8; 4096]) -> Tally {
-    let mut to = put_name(out, t.at, name);
-    to = put_text(out, to, name);
-    to = put_text(out, to, after);
-    to = put_text(out, to, b" ");
-    to = files::put_why(out, to, held);
-    failed(t, out, to)
+    let to = files::put_file(out, t.at, name, after);
+    let end = files::put_why(out, to, held);
+    failed(t, out, end)
 }
 
 // There is no room for the lines of the case.
 fn no_room(t: Tally, name: &[u8], out: &mut [u8; 4096]) -> Tally {
-    let to = put_name(out, t.at, name);
+    let to = files::put_name(out, t.at, name);
     let end = put_text(out, to, b"its lines are too many");
     failed(t, out, end)
 }
@@ -134,7 +125,7 @@ fn put_counts(out: &mut [u8; 4096], at: usize, lines: u64, differ: u64) -> usize
 // The case was compared: `of` has its lines alone.
 fn told(t: Tally, of: Tally, name: &[u8], out: &mut [u8; 4096]) -> Tally {
     let mut next = t;
-    let mut to = put_name(out, of.at, name);
+    let mut to = files::put_name(out, of.at, name);
     to = put_counts(out, to, of.lines, of.differ);
     to = put_text(out, to, b"\n");
     next.at = streams::passed_on(out, to);

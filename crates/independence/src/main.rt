@@ -49,12 +49,6 @@ fn plus(n: u64, so: bool) -> u64 {
     n
 }
 
-// Starts a line of the report: the pair's name and a colon.
-fn put_name(out: &mut [u8; 4096], at: usize, name: &[u8]) -> usize {
-    let to = put_text(out, at, name);
-    put_text(out, to, b": ")
-}
-
 // ---- A watched access.
 
 // A row: the record of the first and of the second replay, and where the walk's answer starts.
@@ -110,7 +104,7 @@ fn tell_access(
     out: &mut [u8; 4096],
     at: usize,
 ) -> usize {
-    let mut place = put_name(out, at, name);
+    let mut place = files::put_name(out, at, name);
     place = put_text(out, place, b"records ");
     place = put_decimal(out, place, one as u64);
     place = put_text(out, place, b" and ");
@@ -128,7 +122,7 @@ fn tell_access(
 // A row that is none counts as a watched access that differs.
 fn malformed_row(s: Shown, name: &[u8], out: &mut [u8; 4096]) -> Shown {
     let mut next = s;
-    let to = put_name(out, s.at, name);
+    let to = files::put_name(out, s.at, name);
     let end = put_text(out, to, b"a row is malformed\n");
     next.at = streams::passed_on(out, end);
     next.watched = plus(s.watched, true);
@@ -263,7 +257,7 @@ fn put_records(out: &mut [u8; 4096], at: usize, text: &[u8]) -> usize {
 
 // The pair's line.
 fn tell_pair(name: &[u8], s: Shown, first: &[u8], second: &[u8], out: &mut [u8; 4096]) -> usize {
-    let mut to = put_name(out, s.at, name);
+    let mut to = files::put_name(out, s.at, name);
     to = put_decimal(out, to, s.watched);
     to = put_text(out, to, b" watched accesses among ");
     to = put_records(out, to, first);
@@ -280,7 +274,7 @@ fn tell_pair(name: &[u8], s: Shown, first: &[u8], second: &[u8], out: &mut [u8; 
 
 // The heading of a pair that is not steady says which condition is broken.
 fn tell_heading(name: &[u8], rows: &[u8], out: &mut [u8; 4096], at: usize) -> usize {
-    let mut to = put_name(out, at, name);
+    let mut to = files::put_name(out, at, name);
     to = lines::put_part(out, to, rows, 0, lines::line_end(rows, 0));
     put_text(out, to, b"\n")
 }
@@ -369,24 +363,16 @@ fn failed(t: Tally, out: &mut [u8; 4096], at: usize) -> Tally {
     }
 }
 
-// Starts the line of a pair with a file that failed.
-fn put_file(out: &mut [u8; 4096], at: usize, name: &[u8], after: &[u8]) -> usize {
-    let mut to = put_name(out, at, name);
-    to = put_text(out, to, name);
-    to = put_text(out, to, after);
-    put_text(out, to, b" ")
-}
-
 // A replay of the pair was not played to its end.
 fn unplayed(t: Tally, name: &[u8], after: &[u8], side: Side, out: &mut [u8; 4096]) -> Tally {
-    let to = put_file(out, t.at, name, after);
+    let to = files::put_file(out, t.at, name, after);
     let end = sides::put_side(out, to, side);
     failed(t, out, end)
 }
 
 // The pair's rows could not be read.
 fn unheld(t: Tally, name: &[u8], held: Held, out: &mut [u8; 4096]) -> Tally {
-    let to = put_file(out, t.at, name, b".watched");
+    let to = files::put_file(out, t.at, name, b".watched");
     let end = files::put_why(out, to, held);
     failed(t, out, end)
 }

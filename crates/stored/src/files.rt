@@ -41,6 +41,20 @@ pub fn read_file(path: &[u8], buffer: &mut [u8]) -> Held {
     held
 }
 
+// Starts a line of a report: a name and a colon.
+pub fn put_name(out: &mut [u8], at: usize, name: &[u8]) -> usize {
+    let to = streams::put_text(out, at, name);
+    streams::put_text(out, to, b": ")
+}
+
+// Starts the line of a file that failed, whose name is `name` with `after` behind it.
+pub fn put_file(out: &mut [u8], at: usize, name: &[u8], after: &[u8]) -> usize {
+    let mut to = put_name(out, at, name);
+    to = streams::put_text(out, to, name);
+    to = streams::put_text(out, to, after);
+    streams::put_text(out, to, b" ")
+}
+
 // Why a file gave no bytes.
 pub fn put_why(out: &mut [u8], at: usize, held: Held) -> usize {
     match held {
