@@ -1,7 +1,7 @@
 //! Stored cases: small traces by theme, with the oracle's lines.
 
 use crate::builder::Builder;
-use crate::examples::twelve;
+use crate::examples::{Example, differences, twelve};
 use crate::malformed::WAYS;
 use crate::paper::{Paper, Slip};
 use crate::random::Random;
@@ -54,12 +54,13 @@ fn shows(slip: Slip, bytes: &[u8], lines: &[String]) -> bool {
 }
 
 /// Writes so many cases, and says what they cover. The twelve examples and the ways
-/// of refusal 7 come first, then the themes, again and again with other numbers.
+/// of refusal 7 come first, then the themes, again and again with other numbers; last the
+/// inputs of docs/DIFFERENCES.md, whatever the count.
 pub fn cases(folder: &Path, count: usize, seed: u64) -> std::io::Result<bool> {
     fs::create_dir_all(folder)?;
     let mut shown = Shown { covered: BTreeSet::new(), unseen: Slip::ALL.to_vec() };
     let mut seeds = Random::new(seed);
-    let fixed = examples().chain(malformed(&mut seeds)).take(count).collect::<Vec<_>>();
+    let fixed = named(twelve()).chain(malformed(&mut seeds)).take(count).collect::<Vec<_>>();
     let left = count - fixed.len();
     for (name, bytes) in fixed {
         store(folder, &name, &bytes, &mut shown)?;
@@ -74,8 +75,11 @@ pub fn cases(folder: &Path, count: usize, seed: u64) -> std::io::Result<bool> {
         let best = candidates.max_by_key(|bytes| shown.gain(bytes)).expect("a candidate");
         store(folder, &name, &best, &mut shown)?;
     }
+    for (name, bytes) in named(differences()) {
+        store(folder, &format!("difference_{name}"), &bytes, &mut shown)?;
+    }
     let missing: Vec<&&str> = COVERED.iter().filter(|what| !shown.covered.contains(**what)).collect();
-    println!("{count} cases written; not covered: {missing:?}");
+    println!("{count} cases and {} differences written; not covered: {missing:?}", differences().len());
     println!("slips that their lines don't show: {} of {} {:?}", shown.unseen.len(), Slip::ALL.len(), shown.unseen);
     Ok(missing.is_empty())
 }
@@ -88,8 +92,8 @@ fn store(folder: &Path, name: &str, bytes: &[u8], shown: &mut Shown) -> std::io:
     fs::write(folder.join(format!("{name}.expected")), text)
 }
 
-fn examples() -> impl Iterator<Item = (String, Vec<u8>)> {
-    twelve().into_iter().map(|example| (example.name.to_string(), encode(&example.records)))
+fn named(examples: Vec<Example>) -> impl Iterator<Item = (String, Vec<u8>)> {
+    examples.into_iter().map(|example| (example.name.to_string(), encode(&example.records)))
 }
 
 fn malformed(seeds: &mut Random) -> impl Iterator<Item = (String, Vec<u8>)> {
