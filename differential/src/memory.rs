@@ -64,22 +64,5 @@ impl AddressBus for TableMemory {
         self.fetch(address).ok_or(BusFault { kind: BusFaultKind::BusError, address })
     }
 
-    fn read_byte(&mut self, _: u32) -> u8 {
-        unreachable!("tables are read in longs that may fail")
-    }
-    fn read_word(&mut self, _: u32) -> u16 {
-        unreachable!("tables are read in longs that may fail")
-    }
-    fn read_long(&mut self, _: u32) -> u32 {
-        unreachable!("tables are read in longs that may fail")
-    }
-    fn write_byte(&mut self, _: u32, _: u8) {
-        unreachable!("tables are never written")
-    }
-    fn write_word(&mut self, _: u32, _: u16) {
-        unreachable!("tables are never written")
-    }
-    fn write_long(&mut self, _: u32, _: u32) {
-        unreachable!("tables are never written")
-    }
+    crate::core::cpu::longs_that_may_fail_alone!();
 }

@@ -54,3 +54,30 @@ impl CpuCore {
         u32::MAX
     }
 }
+
+/// The methods of a bus that `src/mmu` never calls: it reads longs that may fail, and nothing else.
+#[allow(unused_macros)]
+macro_rules! longs_that_may_fail_alone {
+    () => {
+        fn read_byte(&mut self, _: u32) -> u8 {
+            unreachable!("tables are read in longs that may fail")
+        }
+        fn read_word(&mut self, _: u32) -> u16 {
+            unreachable!("tables are read in longs that may fail")
+        }
+        fn read_long(&mut self, _: u32) -> u32 {
+            unreachable!("tables are read in longs that may fail")
+        }
+        fn write_byte(&mut self, _: u32, _: u8) {
+            unreachable!("tables are never written")
+        }
+        fn write_word(&mut self, _: u32, _: u16) {
+            unreachable!("tables are never written")
+        }
+        fn write_long(&mut self, _: u32, _: u32) {
+            unreachable!("tables are never written")
+        }
+    };
+}
+#[allow(unused_imports)]
+pub(crate) use longs_that_may_fail_alone;
