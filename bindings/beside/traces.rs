@@ -126,17 +126,22 @@ fn state_of(caches: &Caches) -> State {
     }
 }
 
+/// The library asks for the longs itself: here only their number is known.
+fn tell(memory: &mut TableMemory, count: u32) {
+    memory.asked.extend(std::iter::repeat_n(0, count as usize));
+}
+
 impl Machine for Door {
     fn translate(&mut self, registers: &Registers, access: &Access, memory: &mut TableMemory) -> Answer {
         let (pmmu, tables) = self.lent(memory);
         let answer = pmmu.translate(&registers_of(registers), &access_of(access), tables);
         match answer {
             Ok(found) => {
-                memory.count += found.count;
+                tell(memory, found.count);
                 Answer::Address(found.address)
             }
             Err(Error::Fault(Fault { kind, cause, address, count })) => {
-                memory.count += count;
+                tell(memory, count);
                 Answer::Fault { kind: kind as u8, cause: cause as u8, address }
             }
             Err(Error::Refused(refusal)) => panic!("{refusal}"),
@@ -146,7 +151,7 @@ impl Machine for Door {
     fn load(&mut self, registers: &Registers, code: u8, write: bool, address: u32, memory: &mut TableMemory) {
         let (pmmu, tables) = self.lent(memory);
         let count = pmmu.load(&registers_of(registers), code, write, address, tables).expect("nothing to refuse");
-        memory.count += count;
+        tell(memory, count);
     }
 
     fn test(
@@ -161,7 +166,7 @@ impl Machine for Door {
         let (_, tables) = self.lent(memory);
         let found = Pmmu::test(&registers_of(registers), code, write, level, address, tables);
         let found = found.expect("nothing to refuse");
-        memory.count += found.count;
+        tell(memory, found.count);
         (found.mmusr, found.address)
     }
 
