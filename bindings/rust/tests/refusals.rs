@@ -1,29 +1,19 @@
 //! Each number of refusal at each call that can give it, in their order; and that a
 //! refusal leaves the caches.
 
+mod common;
+
+use common::LOGICAL;
 use pmmu::{Access, Caches, Error, Family, Pmmu, Range, Refusal, Registers, Tables};
 
-const LOGICAL: u32 = 0x0204_1ABC;
 const NO_FAMILY: Family = Family(50);
 
 fn registers(family: Family) -> Registers {
-    Registers {
-        family,
-        present: true,
-        enabled: true,
-        tc: 0x80C0_7760,
-        crp_limit: 0x8000_0002,
-        crp_address: 0x1000,
-        ..Registers::default()
-    }
+    Registers { family, ..common::registers() }
 }
 
 fn longs() -> Vec<u32> {
-    let mut longs = vec![0; 0x1000];
-    longs[0x1004 / 4] = 0x2002;
-    longs[0x2004 / 4] = 0x3002;
-    longs[0x3004 / 4] = 0x5_5001;
-    longs
+    common::longs(&[])
 }
 
 /// A cache with an entry in it.
