@@ -19,7 +19,8 @@ use Rattle.inplace.specs.Chain.{Arrays, cachesIn, Translates, Passes, tr
 use Rattle.inplace.proofs.Staged.{load-beside}
 
 -- ---- one call
-beside : {x : Cache030} {y : Cache040} (c : Caches) → x ≡ c .c030 → y ≡ c .c040 → pairWith x y ≡ c
+-- a pair of caches is its two
+pub beside : {x : Cache030} {y : Cache040} (c : Caches) → x ≡ c .c030 → y ≡ c .c040 → pairWith x y ≡ c
 beside c p q = rw (p, q) refl
 
 -- the arrays at exit are the caches that the definition's call leaves

@@ -27,6 +27,7 @@ use Rattle.cache.specs.Atc040.{cache040Of}
 use Rattle.inplace.specs.Stages.{shownTranslated, shownLoaded, shownTested}
 use Rattle.inplace.specs.InPlace.{cachesOf, pairWith, AnsweredIn, LoadedIn, TestedIn, FlushedIn, FlushedIn030, FlushedIn040}
 use Rattle.inplace.proofs.Staged.{load-beside}
+use Rattle.inplace.proofs.Watched.{beside}
 use Rattle.replay.specs.Playing.{CalledIn, Tests}
 
 module _ (g : Registers) (m : Memory) {l : Line} where
@@ -45,9 +46,6 @@ module _ (g : Registers) (m : Memory) {l : Line} where
         prints = f ∙ rw (q .answers, q .counts) refl;
         leaves = beside (load g code write address m (pairWith c k) .caches) (q .leaves) (sym e ∙ sym (load-beside g code write address m (pairWith c k)));
       }
-    where
-      beside : {x : Cache030} {y : Cache040} (d : Caches) → x ≡ d .c030 → y ≡ d .c040 → pairWith x y ≡ d
-      beside d p r = rw (p, r) refl
 
   pub of-test : (code : ℕ) (write : Bool) (level address : ℕ) {t : Test} {n : ℕ}
       → TestedIn (shownTested (test g code write level address m)) t n → lineIn l ≡ testLine n t → Tests g m code write level address l
