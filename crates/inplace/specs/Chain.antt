@@ -1,4 +1,5 @@
 -- Calls in place, one after the other: each link is what one call's contract promises of the six arrays at its entry and at its exit.
+-- translate_in, load_in and test_in promise it where the caller's `three` is true of the ranges, so a chain speaks of callers that say it rightly.
 use Prim.Native.Nat.{ℕ}
 use mathlib.Core.Path.{_≡_}
 use mathlib.Core.Bool.{Bool}
