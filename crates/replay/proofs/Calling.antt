@@ -21,6 +21,8 @@ use Rattle.definition.specs.declared.Test.{Test}
 use Rattle.definition.specs.declared.Probe.{Probe}
 use Rattle.definition.specs.declared.Flush.{Flush}
 use Rattle.trace.specs.Lines.{lineIn}
+use Rattle.trace.specs.Records.{callIn}
+use Rattle.trace.specs.declared.Call.{Call as Made}
 use Rattle.trace.specs.declared.Line.{Line}
 use Rattle.cache.specs.Atc030.{cacheOf}
 use Rattle.cache.specs.Atc040.{cache040Of}
@@ -81,3 +83,13 @@ module _ (g : Registers) (m : Memory) {l : Line} where
       → CalledIn (calling g m (pairWith (cacheOf ts ps ss ms) k) (calls.flushingFrame frame)) l ts ps ss ms ks bs
   unfolding calling
   of-flush-frame frame k q e = record { prints = e ∙ ap flushLine (q .answers); leaves = q .leaves }
+
+-- a PTEST: the caches stay
+pub tested : (g : Registers) (m : Memory) (ts ps ss ms ks bs : List ℕ) {code level address : ℕ} {write : Bool} {l : Line} → Tests g m code write level address l
+    → CalledIn (calling g m (cachesOf ts ps ss ms ks bs) (calls.testing code write level address)) l ts ps ss ms ks bs
+tested g m ts ps ss ms ks bs t = record { prints = t .prints (cachesOf ts ps ss ms ks bs); leaves = t .leaves (cachesOf ts ps ss ms ks bs) }
+
+-- a call that was told apart
+pub by-call : (g : Registers) (m : Memory) (c : Caches) {x y : Made} {l : Line} {ts ps ss ms ks bs : List ℕ} → x ≡ y
+    → CalledIn (calling g m c (callIn y)) l ts ps ss ms ks bs → CalledIn (calling g m c (callIn x)) l ts ps ss ms ks bs
+by-call g m c e p = rw e p

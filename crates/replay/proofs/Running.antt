@@ -13,10 +13,13 @@ use lib.ListN.{length, getD, take, drop, length-drop}
 use lib.Seq.{drop-cons, drop-drop}
 use Rattle.definition.specs.Words.{if_then_else_}
 use Rattle.definition.specs.Calls as calls
-use Rattle.definition.specs.Trace.{State, Front, Body, Short, Ended, frontOf, Record, recordOf, isMalformed, stepOf, text, newline, goesOn, onFront, playFrom}
+use Rattle.definition.specs.Trace.{State, Front, Body, Short, Ended, frontOf, Record, Calls, Malformed, recordOf, isMalformed, stepOf, text, newline, goesOn, onFront, playFrom}
 use Rattle.trace.specs.Lines.{lineIn, Wrote}
-use Rattle.trace.specs.Records.{recordIn}
+use Rattle.trace.specs.Records.{callIn, settingIn, recordIn}
 use Rattle.trace.specs.declared.Line.{Line}
+use Rattle.trace.specs.declared.Call.{Call}
+use Rattle.trace.specs.declared.Setting.{Setting}
+use Rattle.trace.specs.declared.Setting.the-variants as setting
 use Rattle.trace.specs.declared.Record.{Record as Said}
 use Rattle.trace.proofs.Writes.{nothing, then, same-length, next-near}
 use Rattle.replay.specs.declared.Kept.{Kept}
@@ -77,16 +80,31 @@ module _ (b : List ℕ) (at : ℕ) {x : Whole} where
   unfolding Fronts
   whole-at e f = subst (Fronts b at) e f
 
+-- ---- a record, once it is told apart
+module _ {x : Said} {r : Record} (e : recordIn x ≡ r) where
+  pub said-call : {c : Call} → x ≡ Said.Call c → Calls (callIn c) ≡ r
+  said-call t = sym (ap recordIn t) ∙ e
+
+  pub said-setting : {c : Setting} → x ≡ Said.Set c → settingIn c ≡ r
+  said-setting t = sym (ap recordIn t) ∙ e
+
+  pub said-malformed : x ≡ Said.Malformed → Malformed ≡ r
+  said-malformed t = sym (ap recordIn t) ∙ e
+
+pub setting-is-good : (x : Setting) → isMalformed (settingIn x) ≡ false
+setting-is-good (setting.Registers g) = refl
+setting-is-good (setting.Long address value) = refl
+setting-is-good (setting.Range range) = refl
+
 -- ---- a run goes on
 pub begins : (s : State) (b out : List ℕ) → Going s b out s 0 out 0
 begins s b out = record { printed = []; most = 0; runs = none; writes = nothing out 0; reads = omega arith; fits = omega arith }
 
 module _ (s : State) (b out : List ℕ) (s′ : State) {read wrote : ℕ} {out′ : List ℕ} (g : Going s b out s′ read out′ wrote) where
   -- one record more
-  pub goes-on : (said : Said) {start end next : ℕ} {l : Line} {k : Kept} {longs ts ps ss ms ks bs out″ : List ℕ}
-      → Stands b read start end → recordIn said ≡ recordOf (take (end - start) (drop start b)) → isMalformed (recordIn said) ≡ false
-      → PlayedIn (stepOf s′ (recordIn said)) l k longs ts ps ss ms ks bs → wrote + 44 ≤ length out′
-      → Wrote 44 out′ wrote (text (lineIn l)) out″ next
+  pub goes-on : (said : Record) {start end next : ℕ} {l : Line} {k : Kept} {longs ts ps ss ms ks bs out″ : List ℕ}
+      → Stands b read start end → said ≡ recordOf (take (end - start) (drop start b)) → isMalformed said ≡ false
+      → PlayedIn (stepOf s′ said) l k longs ts ps ss ms ks bs → wrote + 44 ≤ length out′ → Wrote 44 out′ wrote (text (lineIn l)) out″ next
       → Going s b out (stateOf k longs ts ps ss ms ks bs) end out″ next
   goes-on said {start} {end} {next} {l} f e m p room w =
       record {
@@ -108,10 +126,10 @@ module _ (s : State) (b out : List ℕ) (s′ : State) {read wrote : ℕ} {out�
   unfolding Fronts
   stops-input f = record { going = g; stops = f }
 
-  pub stops-malformed : (said : Said) {start end : ℕ} → Stands b read start end
-      → recordIn said ≡ recordOf (take (end - start) (drop start b)) → isMalformed (recordIn said) ≡ true → RanIn s b out s′ read out′ wrote Why.Malformed
-  stops-malformed said {start} {end} f e m =
-      record { going = g; stops = record { body = take (end - start) (drop start b); after = drop end b; is = f .front; bad = sym (ap isMalformed e) ∙ m } }
+  pub stops-malformed : {start end : ℕ} → Stands b read start end → Malformed ≡ recordOf (take (end - start) (drop start b))
+      → RanIn s b out s′ read out′ wrote Why.Malformed
+  stops-malformed {start} {end} f e =
+      record { going = g; stops = record { body = take (end - start) (drop start b); after = drop end b; is = f .front; bad = sym (ap isMalformed e) } }
 
 -- ---- runs are the definition's: what is left plays on from where they stopped
 abbrev pub plays : State → List ℕ → List ℕ

@@ -17,11 +17,11 @@ use Rattle.definition.specs.Trace.{State, memoryOf, Loads, Calls, Stores, Adds,
 use Rattle.definition.specs.declared.Registers.{Registers}
 use Rattle.definition.specs.declared.Range.{Range}
 use Rattle.trace.specs.Lines.{lineIn}
-use Rattle.trace.specs.Records.{recordIn}
+use Rattle.trace.specs.Records.{settingIn}
 use Rattle.trace.specs.declared.Line.{Line}
-use Rattle.trace.specs.declared.Record.{Record}
+use Rattle.trace.specs.declared.Setting.{Setting}
 use Rattle.replay.specs.declared.Kept.{Kept}
-use Rattle.replay.specs.Playing.{rangesOf, stateOf, CalledIn, Tests, StoredIn, PlayedIn}
+use Rattle.replay.specs.Playing.{rangesOf, stateOf, CalledIn, StoredIn, PlayedIn}
 
 -- ---- registers
 module _ (k : Kept) (g : Registers) {x : Bool} (is : x ≡ noFamily (g .family)) {longs ts ps ss ms ks bs : List ℕ} where
@@ -98,20 +98,7 @@ pub called : (k : Kept) (call : Call) (longs : List ℕ) (ts ps ss ms ks bs : Li
 unfolding stepOf
 called k call longs ts ps ss ms ks bs c = record { prints = c .prints; leaves = rw (c .leaves) refl }
 
--- a PTEST: the caches stay
-pub tested : (k : Kept) (longs ts ps ss ms ks bs : List ℕ) {code level address : ℕ} {write : Bool} {l : Line}
-    → Tests (k .registers) (memoryOf (stateOf k longs ts ps ss ms ks bs)) code write level address l
-    → PlayedIn (stepOf (stateOf k longs ts ps ss ms ks bs) (Calls (calls.testing code write level address))) l k longs ts ps ss ms ks bs
-tested k longs ts ps ss ms ks bs t =
-    called k _ longs ts ps ss ms ks bs (record { prints = t .prints (stateOf k longs ts ps ss ms ks bs .caches); leaves = t .leaves (stateOf k longs ts ps ss ms ks bs .caches) })
-
--- a record that was told apart
-pub by-record : (s : State) {x y : Record} {l : Line} {k : Kept} {longs ts ps ss ms ks bs : List ℕ} → x ≡ y
-    → PlayedIn (stepOf s (recordIn y)) l k longs ts ps ss ms ks bs → PlayedIn (stepOf s (recordIn x)) l k longs ts ps ss ms ks bs
-by-record s e p = rw e p
-
--- a malformed one
-pub malformed : (k : Kept) {longs ts ps ss ms ks bs : List ℕ}
-    → PlayedIn (stepOf (stateOf k longs ts ps ss ms ks bs) (recordIn Record.Malformed)) (Line.R 7) k longs ts ps ss ms ks bs
-unfolding stepOf
-malformed k = record { prints = refl; leaves = refl }
+-- a setting that was told apart
+pub by-setting : (s : State) {x y : Setting} {l : Line} {k : Kept} {longs ts ps ss ms ks bs : List ℕ} → x ≡ y
+    → PlayedIn (stepOf s (settingIn y)) l k longs ts ps ss ms ks bs → PlayedIn (stepOf s (settingIn x)) l k longs ts ps ss ms ks bs
+by-setting s e p = rw e p

@@ -1,4 +1,5 @@
 // The calls that a record makes, each with the line that it prints.
+use crate::Kept;
 use definition::Access;
 use definition::Flush;
 use definition::Load;
@@ -7,6 +8,7 @@ use definition::Range;
 use definition::Registers;
 use definition::Test;
 use definition::Translation;
+use trace::Call;
 use trace::Line;
 ghost use mathlib.Core.Path.{_≡_};
 ghost use lib.ListN.{take};
@@ -15,8 +17,9 @@ ghost use Rattle.definition.specs.Memory.{memory};
 ghost use Rattle.definition.specs.Refusal.{crossed};
 ghost use Rattle.definition.specs.Calls.{access, loading, testing, probing, flushingAll, flushingCode, flushingPage, flushingFrame, translationLine, loadLine, testLine, probeLine, flushLine, calling};
 ghost use Rattle.trace.specs.Lines.{lineIn};
+ghost use Rattle.trace.specs.Records.{callIn};
 ghost use Rattle.inplace.specs.InPlace.{cachesOf};
-ghost use Rattle.replay.specs.Playing.{CalledIn, Tests};
+ghost use Rattle.replay.specs.Playing.{rangesOf, CalledIn, Tests};
 
 // A address count, or F kind cause address count.
 fn translation_line(answer: Translation, count: u32) -> Line
@@ -63,7 +66,7 @@ fn test_line(answer: Test, count: u32) -> Line
 }
 
 // A address 0, or N.
-pub fn probe_line(answer: Probe) -> Line
+fn probe_line(answer: Probe) -> Line
     ensures { λ r. ⌜ lineIn r ≡ probeLine answer ⌝ }
 {
     match answer {
@@ -74,7 +77,7 @@ pub fn probe_line(answer: Probe) -> Line
 }
 
 // K.
-pub fn flush_line(answer: Flush) -> Line
+fn flush_line(answer: Flush) -> Line
     ensures { λ r. ⌜ lineIn r ≡ flushLine answer ⌝ }
 {
     match answer {
@@ -84,7 +87,7 @@ pub fn flush_line(answer: Flush) -> Line
 }
 
 // An access. `three` says whether one of the ranges is crossed.
-pub fn access_line(
+fn access_line(
     tags: &mut [u64; 22],
     pages: &mut [u64; 22],
     stamps: &mut [u64; 22],
@@ -120,7 +123,7 @@ pub fn access_line(
 }
 
 // A PLOAD. The 68040 cache stays.
-pub fn load_call(
+fn load_call(
     tags: &mut [u64; 22],
     pages: &mut [u64; 22],
     stamps: &mut [u64; 22],
@@ -158,7 +161,7 @@ pub fn load_call(
 }
 
 // A PTEST: no cache is touched.
-pub fn test_call(
+fn test_call(
     longs: &[u32],
     list: [Range; 16],
     n: usize,
@@ -174,4 +177,115 @@ pub fn test_call(
     let o = inplace::test::test_in(longs, 0, list, n, three, g, code, write, level, address);
     let answer = o.answer;
     test_line(answer, o.count)
+}
+
+// Makes a call: its line. `three` says whether one of the ranges is crossed.
+pub fn make(
+    tags: &mut [u64; 22],
+    pages: &mut [u64; 22],
+    stamps: &mut [u64; 22],
+    marks: &mut [u64; 3],
+    keys: &mut [u64; 64],
+    bases: &mut [u64; 64],
+    longs: &[u32],
+    kept: Kept,
+    three: bool,
+    call: Call,
+) -> Line
+    ensures { λ r. ⌜ (three ≡ anyOf crossed (rangesOf kept) → CalledIn (calling (kept .registers) (memory (now (longs .entry)) 0 (rangesOf kept)) (cachesOf (now (tags .entry)) (now (pages .entry)) (now (stamps .entry)) (now (marks .entry)) (now (keys .entry)) (now (bases .entry))) (callIn call)) r (now (tags .exit)) (now (pages .exit)) (now (stamps .exit)) (now (marks .exit)) (now (keys .exit)) (now (bases .exit))) ⌝ }
+{
+    let g = kept.registers;
+    let list = kept.list;
+    let n = kept.n;
+    match call {
+        Call::Access(a) => access_line(
+            tags,
+            pages,
+            stamps,
+            marks,
+            keys,
+            bases,
+            longs,
+            list,
+            n,
+            three,
+            g,
+            a,
+        ),
+        Call::Load {
+            code,
+            write,
+            address,
+        } => load_call(
+            tags,
+            pages,
+            stamps,
+            marks,
+            keys,
+            bases,
+            longs,
+            list,
+            n,
+            three,
+            g,
+            code,
+            write,
+            address,
+        ),
+        Call::Test {
+            code,
+            write,
+            level,
+            address,
+        } => test_call(longs, list, n, three, g, code, write, level, address),
+        Call::FlushAll => {
+            let answer = inplace::flush::flush_all_in(tags, pages, stamps, marks, keys, bases);
+            flush_line(answer)
+        }
+        Call::FlushCode { code, mask } => {
+            let answer = inplace::flush::flush_code_in(tags, pages, stamps, marks, code, mask);
+            flush_line(answer)
+        }
+        Call::FlushPage {
+            code,
+            mask,
+            address,
+        } => {
+            let answer = inplace::flush::flush_page_in(
+                tags,
+                pages,
+                stamps,
+                marks,
+                code,
+                mask,
+                address,
+            );
+            flush_line(answer)
+        }
+        Call::FlushFrame { frame } => {
+            let answer = inplace::flush::flush_frame_in(keys, bases, frame);
+            flush_line(answer)
+        }
+        Call::Probe {
+            own,
+            instruction,
+            write,
+            address,
+        } => {
+            let answer = inplace::probe::probe_in(
+                tags,
+                pages,
+                stamps,
+                marks,
+                keys,
+                bases,
+                g,
+                own,
+                instruction,
+                write,
+                address,
+            );
+            probe_line(answer)
+        }
+    }
 }

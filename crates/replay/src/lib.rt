@@ -1,7 +1,7 @@
 // The replay: what each record of a trace does and prints, over state that the caller keeps. No input and no output.
-pub mod calls;
+mod calls;
 pub mod run;
-pub mod step;
+mod settings;
 
 use definition::Range;
 use definition::Registers;

@@ -1,14 +1,13 @@
 // A run over a buffer: the records that stand in it whole, one after the other.
 use crate::Kept;
-use crate::step;
+use crate::calls;
+use crate::settings;
 use trace::Record;
 ghost use mathlib.Core.Path.{_≡_};
 ghost use Prim.Native.Nat.{_≤_};
 ghost use lib.ListN.{length};
 ghost use Rattle.definition.specs.Words.{anyOf};
 ghost use Rattle.definition.specs.Refusal.{crossed};
-ghost use Rattle.definition.specs.Trace.{isMalformed};
-ghost use Rattle.trace.specs.Records.{recordIn};
 ghost use Rattle.replay.specs.Playing.{rangesOf, stateOf, Fronts, RanIn};
 
 // A whole record at a place of the buffer: where its body starts and ends.
@@ -52,26 +51,6 @@ fn front(input: &[u8], at: usize) -> Whole
     }
 }
 
-// Whether the record is malformed: refusal 7.
-fn is_malformed(said: Record) -> bool
-    ensures { λ r. ⌜ r ≡ isMalformed (recordIn said) ⌝ }
-{
-    match said {
-        Record::Malformed => true,
-        Record::Registers(_) => false,
-        Record::Access(_) => false,
-        Record::Load { .. } => false,
-        Record::Test { .. } => false,
-        Record::FlushAll => false,
-        Record::FlushCode { .. } => false,
-        Record::FlushPage { .. } => false,
-        Record::FlushFrame { .. } => false,
-        Record::Store { .. } => false,
-        Record::Range(_) => false,
-        Record::Probe { .. } => false,
-    }
-}
-
 // Plays the whole records of `input` from its start on, with a line of `out` for each. `three` says whether one of the ranges
 // is crossed; no record changes that.
 pub fn run(
@@ -111,30 +90,37 @@ pub fn run(
                 };
             }
             Whole::Body { start, end } => {
-                let said = trace::decode(&input[start..end]);
-                if is_malformed(said) {
-                    return Ran {
-                        kept: now,
-                        read,
-                        wrote,
-                        why: Why::Malformed,
-                    };
+                match trace::decode(&input[start..end]) {
+                    Record::Malformed => {
+                        return Ran {
+                            kept: now,
+                            read,
+                            wrote,
+                            why: Why::Malformed,
+                        };
+                    }
+                    Record::Set(setting) => {
+                        let s = settings::set(longs, now, setting);
+                        now = s.kept;
+                        let line = s.line;
+                        wrote = trace::put_line(out, wrote, line);
+                    }
+                    Record::Call(call) => {
+                        let line = calls::make(
+                            tags,
+                            pages,
+                            stamps,
+                            marks,
+                            keys,
+                            bases,
+                            longs,
+                            now,
+                            three,
+                            call,
+                        );
+                        wrote = trace::put_line(out, wrote, line);
+                    }
                 }
-                let s = step::perform(
-                    tags,
-                    pages,
-                    stamps,
-                    marks,
-                    keys,
-                    bases,
-                    longs,
-                    now,
-                    three,
-                    said,
-                );
-                let line = s.line;
-                wrote = trace::put_line(out, wrote, line);
-                now = s.kept;
                 read = end;
             }
         }

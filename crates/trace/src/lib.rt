@@ -14,9 +14,8 @@ ghost use Rattle.definition.specs.Trace.{be, overrideOf, kind01, kind02, kind03
 ghost use Rattle.trace.specs.Records.{recordIn};
 ghost use Rattle.trace.specs.Lines.{lineIn, Wrote, RoomFor, Put};
 
-// What a record's body says.
-pub enum Record {
-    Registers(Registers),
+// A call that a record makes.
+pub enum Call {
     Access(Access),
     Load {
         code: u32,
@@ -42,17 +41,25 @@ pub enum Record {
     FlushFrame {
         frame: u32,
     },
-    Store {
-        address: u32,
-        value: u32,
-    },
-    Range(Range),
     Probe {
         own: bool,
         instruction: bool,
         write: bool,
         address: u32,
     },
+}
+
+// What a record sets for the calls after it: the registers, a long of the tables, one more range.
+pub enum Setting {
+    Registers(Registers),
+    Long { address: u32, value: u32 },
+    Range(Range),
+}
+
+// What a record's body says.
+pub enum Record {
+    Call(Call),
+    Set(Setting),
     Malformed,
 }
 
@@ -118,7 +125,7 @@ fn registers_of(b: &[u8]) -> Record
     if flags >= 4 {
         return Record::Malformed;
     }
-    Record::Registers(Registers {
+    Record::Set(Setting::Registers(Registers {
         family: byte_at(b, 0),
         present: flag(flags, 0),
         enabled: flag(flags, 1),
@@ -137,7 +144,7 @@ fn registers_of(b: &[u8]) -> Record
         itt1: long_at(b, 34),
         dtt0: long_at(b, 38),
         dtt1: long_at(b, 42),
-    })
+    }))
 }
 
 // An override or FF.
@@ -161,7 +168,7 @@ fn access_of(b: &[u8]) -> Record
     if flags >= 32 {
         return Record::Malformed;
     }
-    Record::Access(Access {
+    Record::Call(Call::Access(Access {
         address: long_at(b, 2),
         write: flag(flags, 0),
         supervisor: flag(flags, 1),
@@ -169,7 +176,7 @@ fn access_of(b: &[u8]) -> Record
         own: flag(flags, 3),
         code: override_of(byte_at(b, 1)),
         recorded: flag(flags, 4),
-    })
+    }))
 }
 
 // Whether a write byte is 0 or 1.
@@ -190,11 +197,11 @@ fn load_of(b: &[u8]) -> Record
     if !is_write(write) {
         return Record::Malformed;
     }
-    Record::Load {
+    Record::Call(Call::Load {
         code: byte_at(b, 0),
         write: flag(write, 0),
         address: long_at(b, 2),
-    }
+    })
 }
 
 // 04: code, write, level, address.
@@ -208,12 +215,12 @@ fn test_of(b: &[u8]) -> Record
     if !is_write(write) {
         return Record::Malformed;
     }
-    Record::Test {
+    Record::Call(Call::Test {
         code: byte_at(b, 0),
         write: flag(write, 0),
         level: byte_at(b, 2),
         address: long_at(b, 3),
-    }
+    })
 }
 
 // 03 and 04: PLOAD and PTEST.
@@ -234,7 +241,7 @@ fn flush_all_of(b: &[u8]) -> Record
     if b.len() != 0 {
         return Record::Malformed;
     }
-    Record::FlushAll
+    Record::Call(Call::FlushAll)
 }
 
 // 06: code, mask.
@@ -244,10 +251,10 @@ fn flush_code_of(b: &[u8]) -> Record
     if b.len() != 2 {
         return Record::Malformed;
     }
-    Record::FlushCode {
+    Record::Call(Call::FlushCode {
         code: byte_at(b, 0),
         mask: byte_at(b, 1),
-    }
+    })
 }
 
 // 07: code, mask, address.
@@ -257,11 +264,11 @@ fn flush_page_of(b: &[u8]) -> Record
     if b.len() != 6 {
         return Record::Malformed;
     }
-    Record::FlushPage {
+    Record::Call(Call::FlushPage {
         code: byte_at(b, 0),
         mask: byte_at(b, 1),
         address: long_at(b, 2),
-    }
+    })
 }
 
 // 08: 040 frame, a long.
@@ -271,9 +278,9 @@ fn flush_frame_of(b: &[u8]) -> Record
     if b.len() != 4 {
         return Record::Malformed;
     }
-    Record::FlushFrame {
+    Record::Call(Call::FlushFrame {
         frame: long_at(b, 0),
-    }
+    })
 }
 
 // 05 to 08: the flushes.
@@ -300,12 +307,12 @@ fn longs_of(kind: u32, b: &[u8]) -> Record
     let first = long_at(b, 0);
     let last = long_at(b, 4);
     if kind == 9 {
-        return Record::Store {
+        return Record::Set(Setting::Long {
             address: first,
             value: last,
-        };
+        });
     }
-    Record::Range(Range { first, last })
+    Record::Set(Setting::Range(Range { first, last }))
 }
 
 // 0B: flags (3 CPU state, 2 instruction, 0 write), address.
@@ -322,12 +329,12 @@ fn probe_of(b: &[u8]) -> Record
     if flag(flags, 1) {
         return Record::Malformed;
     }
-    Record::Probe {
+    Record::Call(Call::Probe {
         own: flag(flags, 3),
         instruction: flag(flags, 2),
         write: flag(flags, 0),
         address: long_at(b, 1),
-    }
+    })
 }
 
 // One record's body, kind first.

@@ -6,7 +6,9 @@ use mathlib.Core.Path.{_≡_, refl, sym, _∙_}
 use lib.ListN.{length}
 use Rattle.definition.specs.Words.{anyOf}
 use Rattle.definition.specs.Refusal.{crossed}
+use Rattle.trace.specs.Records.{callIn}
 use Rattle.replay.specs.Playing.{rangesOf, stateOf, Going}
+use Rattle.replay.proofs.Stepping as step
 use Rattle.replay.proofs.Running as law
 use Rattle.replay.proofs.run.run.Statement.{statement}
 use Rattle.replay.proofs.run.run.Tie as tie
@@ -64,8 +66,8 @@ part-decode-end c = let f = law.whole-at _ _ (c .before .start .given .1) (c .be
 decode-requires : tie.Need-decode-requires Inv-loop μ-loop
 decode-requires c κs = search needs
 
-is-malformed-requires : tie.Need-is-malformed-requires Inv-loop μ-loop
-is-malformed-requires c κs = search needs
+enum-told-2 : tie.Need-enum-told-2 Inv-loop μ-loop
+enum-told-2 c = search needs
 
 same-length-5 : tie.Need-same-length-5 Inv-loop μ-loop
 same-length-5 c = search needs
@@ -74,19 +76,57 @@ same-length-6 : tie.Need-same-length-6 Inv-loop μ-loop
 same-length-6 c = search needs
 
 returns-3 : tie.Need-returns-3 Inv-loop μ-loop
-returns-3 c = (λ h. law.stops-malformed _ _ _ _ (c .before .before .before .before .before .before .before .before .before .loop .inv .5 h) (c .before .before .decode .result) (law.whole-at _ _ (c .before .before .before .before .before .start .given .1) (c .before .before .before .before .before .before .before .front .ensures)) (c .before .before .decode .ensures) (sym (c .before .is-malformed .ensures) ∙ c .if2 .taken), c .before .before .before .before .before .before .before .before .before .loop .inv .4)
+returns-3 c =
+    let d = c .before .before in
+    (λ h. law.stops-malformed _ _ _ _ (d .before .before .before .before .before .before .before .loop .inv .5 h) (law.whole-at _ _ (d .before .before .before .start .given .1) (d .before .before .before .before .before .front .ensures)) (law.said-malformed (d .decode .ensures) (c .enum-told2 .given .1)), d .before .before .before .before .before .before .before .loop .inv .4)
 
-perform-requires : tie.Need-perform-requires Inv-loop μ-loop
-perform-requires c κs = search needs
+enum-known-setting : tie.Need-enum-known-setting Inv-loop μ-loop
+enum-known-setting c = search needs
+
+set-requires : tie.Need-set-requires Inv-loop μ-loop
+set-requires c κs = search needs
 
 put-line-requires : tie.Need-put-line-requires Inv-loop μ-loop
 put-line-requires c κs = search needs
 
+enum-known-call : tie.Need-enum-known-call Inv-loop μ-loop
+enum-known-call c = search needs
+
+make-requires : tie.Need-make-requires Inv-loop μ-loop
+make-requires c κs = search needs
+
+put-line-requires-2 : tie.Need-put-line-requires-2 Inv-loop μ-loop
+put-line-requires-2 c κs = search needs
+
 loop-less : tie.Need-loop-less Inv-loop μ-loop
-loop-less c = let f = law.whole-at _ _ (c .before .before .before .before .before .before .before .before .before .before .before .before .before .before .before .before .before .before .before .before .start .given .1) (c .before .before .before .before .before .before .before .before .before .before .before .before .before .before .before .before .before .before .before .before .before .before .front .ensures) in omega arith
+loop-less c =
+    let d = c .before .before .before .before .before .before .before .before .before .before .before .before in
+    let f = law.whole-at _ _ (d .before .before .before .start .given .1) (d .before .before .before .before .before .front .ensures) in
+    omega arith
 
 loop-again : tie.Need-loop-again Inv-loop μ-loop
-loop-again c = (c .before .before .before .before .before .before .before .perform .kept .1 .1 .1 .1 .1 .1 .0 ∙ c .before .before .before .before .before .before .before .before .before .before .before .before .before .before .before .before .before .before .before .before .before .before .before .before .loop .inv .0, writes.same-length (c .before .before .before .put-line .ensures .room (omega (arith, c .before .before .before .before .before .before .before .before .before .before .before .before .before .before .before .before .before .before .before .before .before .before .before .if1 .left, c .before .before .before .before .before .before .before .before .before .before .before .before .before .before .before .before .before .before .before .before .before .before .before .before .loop .inv .1, c .before .before .before .before .before .before .before .before .before .before .before .before .before .before .before .before .before .before .before .before .before .before .before .before .loop .inv .3))) ∙ c .before .before .before .before .before .before .before .before .before .before .before .before .before .before .before .before .before .before .before .before .before .before .before .before .loop .inv .1, (law.whole-at _ _ (c .before .before .before .before .before .before .before .before .before .before .before .before .before .before .before .before .before .before .before .before .start .given .1) (c .before .before .before .before .before .before .before .before .before .before .before .before .before .before .before .before .before .before .before .before .before .before .front .ensures)) .within, omega (arith, writes.next-near (c .before .before .before .put-line .ensures .room (omega (arith, c .before .before .before .before .before .before .before .before .before .before .before .before .before .before .before .before .before .before .before .before .before .before .before .if1 .left, c .before .before .before .before .before .before .before .before .before .before .before .before .before .before .before .before .before .before .before .before .before .before .before .before .loop .inv .1, c .before .before .before .before .before .before .before .before .before .before .before .before .before .before .before .before .before .before .before .before .before .before .before .before .loop .inv .3))), c .before .before .before .before .before .before .before .before .before .before .before .before .before .before .before .before .before .before .before .before .before .before .before .if1 .left, c .before .before .before .before .before .before .before .before .before .before .before .before .before .before .before .before .before .before .before .before .before .before .before .before .loop .inv .1, c .before .before .before .before .before .before .before .before .before .before .before .before .before .before .before .before .before .before .before .before .before .before .before .before .loop .inv .3), c .before .before .before .before .before .before .before .perform .ensures .1 ∙ c .before .before .before .before .before .before .before .before .before .before .before .before .before .before .before .before .before .before .before .before .before .before .before .before .loop .inv .4, λ h. law.goes-on _ _ _ _ (c .before .before .before .before .before .before .before .before .before .before .before .before .before .before .before .before .before .before .before .before .before .before .before .before .loop .inv .5 h) (c .before .before .before .before .before .before .before .before .before .before .before .before .before .before .before .before .before .decode .result) (law.whole-at _ _ (c .before .before .before .before .before .before .before .before .before .before .before .before .before .before .before .before .before .before .before .before .start .given .1) (c .before .before .before .before .before .before .before .before .before .before .before .before .before .before .before .before .before .before .before .before .before .before .front .ensures)) (c .before .before .before .before .before .before .before .before .before .before .before .before .before .before .before .before .before .decode .ensures) (sym (c .before .before .before .before .before .before .before .before .before .before .before .before .before .before .before .before .is-malformed .ensures) ∙ c .before .before .before .before .before .before .before .before .before .before .before .before .before .before .before .if2 .left) (c .before .before .before .before .before .before .before .perform .ensures .0 (h ∙ sym (c .before .before .before .before .before .before .before .before .before .before .before .before .before .before .before .before .before .before .before .before .before .before .before .before .loop .inv .4))) (omega (arith, c .before .before .before .before .before .before .before .before .before .before .before .before .before .before .before .before .before .before .before .before .before .before .before .if1 .left, c .before .before .before .before .before .before .before .before .before .before .before .before .before .before .before .before .before .before .before .before .before .before .before .before .loop .inv .1, c .before .before .before .before .before .before .before .before .before .before .before .before .before .before .before .before .before .before .before .before .before .before .before .before .loop .inv .3)) (c .before .before .before .put-line .ensures .room (omega (arith, c .before .before .before .before .before .before .before .before .before .before .before .before .before .before .before .before .before .before .before .before .before .before .before .if1 .left, c .before .before .before .before .before .before .before .before .before .before .before .before .before .before .before .before .before .before .before .before .before .before .before .before .loop .inv .1, c .before .before .before .before .before .before .before .before .before .before .before .before .before .before .before .before .before .before .before .before .before .before .before .before .loop .inv .3))))
+loop-again c =
+    let d = c .before .before .before .before .before .before .before .before .before .before .before .before in
+    let at = d .before .before .before .before .before .before .before .loop in
+    let held = at .inv in
+    let f = law.whole-at _ _ (d .before .before .before .start .given .1) (d .before .before .before .before .before .front .ensures) in
+    let w = c .before .before .put-line .ensures .room (omega (arith, d .before .before .before .before .before .before .if1 .left, held .1, held .3)) in
+    (c .before .before .before .before .before .before .before .set .kept .0 ∙ held .0, writes.same-length w ∙ held .1, f .within, omega (arith, writes.next-near w, d .before .before .before .before .before .before .if1 .left, held .1, held .3), c .before .before .before .before .before .before .before .set .ensures .1 ∙ held .4, λ h. law.goes-on _ _ _ _ (held .5 h) _ f (law.said-setting (d .decode .ensures) (c .before .before .before .before .before .before .before .before .before .before .setting .given .1)) (law.setting-is-good (c .before .before .before .before .before .before .before .before .before .before .setting .given .0 .0)) (c .before .before .before .before .before .before .before .set .ensures .0 _ _ _ _ _ _) (omega (arith, d .before .before .before .before .before .before .if1 .left, held .1, held .3)) w)
+
+loop-less-2 : tie.Need-loop-less-2 Inv-loop μ-loop
+loop-less-2 c =
+    let d = c .before .before .before .before .before .before .before .before .before .before .before .before .before .before .before in
+    let f = law.whole-at _ _ (d .before .before .before .start .given .1) (d .before .before .before .before .before .front .ensures) in
+    omega arith
+
+loop-again-2 : tie.Need-loop-again-2 Inv-loop μ-loop
+loop-again-2 c =
+    let d = c .before .before .before .before .before .before .before .before .before .before .before .before .before .before .before in
+    let at = d .before .before .before .before .before .before .before .loop in
+    let held = at .inv in
+    let f = law.whole-at _ _ (d .before .before .before .start .given .1) (d .before .before .before .before .before .front .ensures) in
+    let w = c .before .before .put-line2 .ensures .room (omega (arith, d .before .before .before .before .before .before .if1 .left, held .1, held .3)) in
+    (held .0, writes.same-length w ∙ held .1, f .within, omega (arith, writes.next-near w, d .before .before .before .before .before .before .if1 .left, held .1, held .3), held .4, λ h. law.goes-on _ _ _ _ (held .5 h) _ f (law.said-call (d .decode .ensures) (c .before .before .before .before .before .before .before .before .before .before .before .before .before .call .given .1)) refl (step.called (at .now) (callIn (c .before .before .before .before .before .before .before .before .before .before .before .before .before .call .given .0 .0)) (at .longs) (at .tags) (at .pages) (at .stamps) (at .marks) (at .keys) (at .bases) (c .before .before .before .before .make .ensures (h ∙ sym (held .4)))) (omega (arith, d .before .before .before .before .before .before .if1 .left, held .1, held .3)) w)
 
 pub run-spec : {M : Type 1} → statement M
 run-spec =
@@ -109,11 +149,17 @@ run-spec =
     part-decode-start
     part-decode-end
     decode-requires
-    is-malformed-requires
+    enum-told-2
     same-length-5
     same-length-6
     returns-3
-    perform-requires
+    enum-known-setting
+    set-requires
     put-line-requires
+    enum-known-call
+    make-requires
+    put-line-requires-2
     loop-less
-    loop-again)
+    loop-again
+    loop-less-2
+    loop-again-2)

@@ -1,8 +1,8 @@
 use Rattle.replay.proofs.Stepping as law
 use mathlib.Core.Path.{refl}
 use borrow.Author.Needs.{needs}
-use Rattle.replay.proofs.step.set_registers.Statement.{statement}
-use Rattle.replay.proofs.step.set_registers.Tie as tie
+use Rattle.replay.proofs.settings.set_registers.Statement.{statement}
+use Rattle.replay.proofs.settings.set_registers.Tie as tie
 
 no-family-requires : tie.Need-no-family-requires
 no-family-requires c κs = search needs

@@ -2,8 +2,8 @@ use Rattle.replay.proofs.Stepping as law
 use mathlib.Core.Path.{refl}
 use native.Mathlib.Omega.{arith}
 use borrow.Author.Needs.{needs}
-use Rattle.replay.proofs.step.add_range.Statement.{statement}
-use Rattle.replay.proofs.step.add_range.Tie as tie
+use Rattle.replay.proofs.settings.add_range.Statement.{statement}
+use Rattle.replay.proofs.settings.add_range.Tie as tie
 
 returns : tie.Need-returns
 returns c = (λ longs ts ps ss ms ks bs. law.add-crossed _ _ (c .if1 .taken), refl)

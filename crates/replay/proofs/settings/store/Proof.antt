@@ -1,7 +1,7 @@
 use Rattle.replay.proofs.Stepping as law
 use borrow.Author.Needs.{needs}
-use Rattle.replay.proofs.step.store.Statement.{statement}
-use Rattle.replay.proofs.step.store.Tie as tie
+use Rattle.replay.proofs.settings.store.Statement.{statement}
+use Rattle.replay.proofs.settings.store.Tie as tie
 
 returns : tie.Need-returns
 returns c = law.store-odd _ _ _ (c .if1 .taken)
