@@ -5,7 +5,7 @@ use crate::original::Original;
 use crate::replay::{Output, replay};
 use crate::trace::stretches;
 use std::fs::{self, File};
-use std::io::Read;
+use std::io::{Read, Write};
 use std::path::{Path, PathBuf};
 use std::process::{Child, Command, Stdio};
 use std::thread;
@@ -16,6 +16,8 @@ const PATIENCE: Duration = Duration::from_secs(20);
 const NOT_ENDED: &str = "(the player did not end)";
 /// More output than any trace gives.
 const MOST_OUTPUT: u64 = 16 << 20;
+/// The largest of a trace's pieces.
+const PIECE: usize = 250;
 /// Failing traces that are shrunk and told in full.
 const TOLD: usize = 3;
 
@@ -32,6 +34,23 @@ pub struct Tally {
     pub passed: usize,
     pub failed: usize,
     pub records: usize,
+}
+
+/// How a trace reaches the player: as a file, or through a pipe in pieces of 1 to
+/// `PIECE` bytes.
+#[derive(Clone, Copy)]
+enum Way {
+    File,
+    Pieces,
+}
+
+impl Way {
+    fn words(self) -> &'static str {
+        match self {
+            Way::File => "as a file",
+            Way::Pieces => "in pieces",
+        }
+    }
 }
 
 /// The first line that differs; a side that has ended has none.
@@ -53,48 +72,62 @@ impl Comparer {
         if self.states { "states" } else { "lines" }
     }
 
-    /// Compares the traces of the seeds from `seed` until so many records were compared.
+    /// Compares the traces of the seeds from `seed` until so many records were compared. By
+    /// lines also a long trace, as a file and in small pieces.
     pub fn run(&self, seed: u64, records: usize) -> Tally {
         let mut tally = Tally::default();
         for seed in seed.. {
             if tally.records >= records {
                 break;
             }
-            let bytes = generate::trace(seed);
-            let wanted = self.oracle(&bytes);
-            tally.records += wanted.records;
-            match self.difference_from(&wanted, &bytes) {
-                None => tally.passed += 1,
-                Some(difference) => {
-                    tally.failed += 1;
-                    println!("difference ({}): seed {seed}", self.mode());
-                    if difference.not_ended {
-                        // Each further run could take as long: enough is seen.
-                        self.tell_place(&bytes, &difference);
-                        println!("  the player did not end: no more traces are tried");
-                        break;
-                    }
-                    if tally.failed <= TOLD {
-                        self.tell(seed, &bytes, &difference);
-                    }
-                }
+            if !self.compared(seed, &generate::trace(seed), Way::File, &mut tally) {
+                return tally;
+            }
+        }
+        if !self.states {
+            let bytes = generate::long(seed);
+            for way in [Way::File, Way::Pieces] {
+                self.compared(seed, &bytes, way, &mut tally);
             }
         }
         tally
+    }
+
+    /// Compares one trace. Whether the player ended by itself: if not, each further run
+    /// could take as long, and enough is seen.
+    fn compared(&self, seed: u64, bytes: &[u8], way: Way, tally: &mut Tally) -> bool {
+        let wanted = self.oracle(bytes);
+        tally.records += wanted.records;
+        let Some(difference) = self.difference_from(&wanted, bytes, way) else {
+            tally.passed += 1;
+            return true;
+        };
+        tally.failed += 1;
+        println!("difference ({}): seed {seed}, {} bytes {}", self.mode(), bytes.len(), way.words());
+        if difference.not_ended {
+            self.tell_place(bytes, &difference);
+            println!("  the player did not end: no more traces are tried");
+        } else if tally.failed <= TOLD {
+            self.tell(seed, bytes, &difference);
+        }
+        !difference.not_ended
     }
 
     fn oracle(&self, bytes: &[u8]) -> Output {
         replay(&mut Original::default(), bytes, self.states)
     }
 
-    /// Where the player's output is not the oracle's.
+    /// Where the player's output is not the oracle's, for a trace as a file.
     fn difference(&self, bytes: &[u8]) -> Option<Difference> {
-        self.difference_from(&self.oracle(bytes), bytes)
+        self.difference_from(&self.oracle(bytes), bytes, Way::File)
     }
 
-    fn difference_from(&self, wanted: &Output, bytes: &[u8]) -> Option<Difference> {
+    fn difference_from(&self, wanted: &Output, bytes: &[u8], way: Way) -> Option<Difference> {
         let wanted = &wanted.lines;
-        let text = self.play(bytes);
+        let text = match way {
+            Way::File => self.play(bytes),
+            Way::Pieces => self.play_pieces(bytes),
+        };
         let not_ended = text.ends_with(NOT_ENDED);
         let mut text: Vec<String> = text.split('\n').map(String::from).collect();
         // The last line ends with a line feed too: without one it differs.
@@ -123,17 +156,45 @@ impl Comparer {
         }
     }
 
-    /// Says where, shrinks the trace and keeps the short one.
+    /// The same, with the trace in small pieces.
+    fn play_pieces(&self, bytes: &[u8]) -> String {
+        let spawned = Command::new(&self.player).stdin(Stdio::piped()).stdout(Stdio::piped()).spawn();
+        let mut child = match spawned {
+            Ok(child) => child,
+            Err(error) => return format!("(the player could not be run: {error})"),
+        };
+        let mut input = child.stdin.take().expect("a pipe was asked for");
+        let bytes = bytes.to_vec();
+        let writer = thread::spawn(move || {
+            let mut rest = &bytes[..];
+            for size in (1..=PIECE).cycle() {
+                let (piece, left) = rest.split_at(size.min(rest.len()));
+                // A player that ends early closes the pipe: its lines tell.
+                if piece.is_empty() || input.write_all(piece).is_err() {
+                    return;
+                }
+                rest = left;
+            }
+        });
+        let text = finished(child);
+        let _ = writer.join();
+        text
+    }
+
+    /// Says where, shrinks the trace and keeps the short one. A long trace is kept as it
+    /// is: it may fail by where a buffer ends, which dropping records moves.
     fn tell(&self, seed: u64, bytes: &[u8], difference: &Difference) {
         self.tell_place(bytes, difference);
-        let short = self.shrunk(bytes, difference);
+        let short = if bytes.len() < generate::LONG { self.shrunk(bytes, difference) } else { bytes.to_vec() };
         let file = self.folder.join(format!("failing_{}_{seed}.trace", self.mode()));
         match fs::write(&file, &short) {
-            Ok(()) => println!("  shrunk to {} records: {}", stretches(&short).len(), file.display()),
+            Ok(()) => println!("  kept with {} records: {}", stretches(&short).len(), file.display()),
             Err(error) => println!("  could not write {}: {error}", file.display()),
         }
-        if let Some(difference) = self.difference(&short) {
-            self.tell_place(&short, &difference);
+        if short.len() < bytes.len() {
+            if let Some(difference) = self.difference(&short) {
+                self.tell_place(&short, &difference);
+            }
         }
     }
 

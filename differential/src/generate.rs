@@ -5,21 +5,44 @@ use crate::malformed::WAYS;
 use crate::themes::{THEMES, mixed};
 use crate::trace::encode;
 
+/// More bytes than a player holds at once: its buffer has at most 128 KiB.
+pub const LONG: usize = 400_000;
+
 /// A trace of 60 to 360 records: five of ten mixed, four of one theme, one malformed.
 pub fn trace(seed: u64) -> Vec<u8> {
     let mut b = Builder::new(seed, 0);
     b.limit = b.random.within(60, 360) as usize;
-    match b.random.below(10) {
-        0..=4 => mixed(&mut b),
-        5..=8 => {
-            let theme = b.random.below(THEMES.len() as u64) as usize;
-            THEMES[theme].1(&mut b);
-        }
-        _ => {
-            b.limit = b.random.within(5, 60) as usize;
-            let way = b.random.below(WAYS.len() as u64) as usize;
-            return WAYS[way].1(&mut b);
-        }
+    let tenth = b.random.below(10);
+    if tenth < 9 {
+        return well_formed(b, tenth);
+    }
+    b.limit = b.random.within(5, 60) as usize;
+    let way = b.random.below(WAYS.len() as u64) as usize;
+    WAYS[way].1(&mut b)
+}
+
+/// Below 5 mixed, else of one theme.
+fn well_formed(mut b: Builder, tenth: u64) -> Vec<u8> {
+    if tenth < 5 {
+        mixed(&mut b);
+    } else {
+        let theme = b.random.below(THEMES.len() as u64) as usize;
+        THEMES[theme].1(&mut b);
     }
     encode(&b.records)
+}
+
+/// A trace that no player holds at once: the records of well-formed traces one after
+/// the other, those of the seeds from `seed` on.
+pub fn long(seed: u64) -> Vec<u8> {
+    let mut bytes = encode(&[]);
+    for seed in seed.. {
+        let mut b = Builder::new(seed, 0);
+        b.limit = b.random.within(60, 360) as usize;
+        bytes.extend(&well_formed(b, seed % 9)[1..]);
+        if bytes.len() >= LONG {
+            break;
+        }
+    }
+    bytes
 }
