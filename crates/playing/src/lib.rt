@@ -1,8 +1,15 @@
 // The driver of the players: standard input through a buffer, the replay's lines through another, and with `states` also both
-// caches after each record. What it plays is the replay's, which is proved; this is input and output.
+// caches after each record. It is proved that no record is lost and none is played twice where the buffer ends.
 mod states;
 
-ghost use Prim.Native.Nat.{_≤_};
+ghost use mathlib.Core.Path.{_≡_};
+ghost use mathlib.Core.Bool.{true, false};
+ghost use Prim.Native.Nat.{_≤_, _-_};
+ghost use lib.ListN.{length, take, drop};
+ghost use Rattle.definition.specs.Words.{anyOf};
+ghost use Rattle.definition.specs.Refusal.{crossed};
+ghost use Rattle.replay.specs.Playing.{rangesOf, stateOf};
+ghost use Rattle.playing.specs.Driving.{Went, Waits, Turned};
 use libc::STDERR_FILENO;
 use libc::STDIN_FILENO;
 use replay::Kept;
@@ -33,10 +40,10 @@ fn finish(have: usize) {
 }
 
 // The bytes from `from` to `have` move to the front of the buffer: how many they are.
-fn shifted(buffer: &mut [u8], from: usize, have: usize) -> usize {
-    if buffer.len() < have || have < from {
-        return 0;
-    }
+fn shifted(buffer: &mut [u8], from: usize, have: usize) -> usize
+    requires { ⌜ (from ≤ have) × (have ≤ length (now buffer)) ⌝ }
+    ensures { λ r. ⌜ (r ≡ have - from) × (take r (now (buffer .exit)) ≡ take r (drop from (now (buffer .entry)))) ⌝ }
+{
     let left = have - from;
     let mut i = 0;
     while i < left {
@@ -106,7 +113,10 @@ fn some(
     out: &mut [u8],
     line: &mut [u8],
     states: bool,
-) -> Played {
+) -> Played
+    requires { ⌜ anyOf crossed (rangesOf kept) ≡ false ⌝ }
+    ensures { λ r. ⌜ (anyOf crossed (rangesOf (r .kept)) ≡ false) × (r .read ≤ length (now (input .entry))) × Went (r .next) (stateOf kept (now (longs .entry)) (now (tags .entry)) (now (pages .entry)) (now (stamps .entry)) (now (marks .entry)) (now (keys .entry)) (now (bases .entry))) (now (input .entry)) (stateOf (r .kept) (now (longs .exit)) (now (tags .exit)) (now (pages .exit)) (now (stamps .exit)) (now (marks .exit)) (now (keys .exit)) (now (bases .exit))) (r .read) ⌝ }
+{
     let ran = replay::run::run(
         tags,
         pages,
@@ -142,7 +152,9 @@ fn some(
 }
 
 // It is over.
-fn over(kept: Kept) -> Waiting {
+fn over(kept: Kept) -> Waiting
+    ensures { λ r. ⌜ (r .kept ≡ kept) × (r .on ≡ false) ⌝ }
+{
     Waiting {
         kept,
         have: 0,
@@ -151,7 +163,10 @@ fn over(kept: Kept) -> Waiting {
 }
 
 // The bytes from `at` on wait at the front of the buffer for more input.
-fn resting(buffer: &mut [u8], kept: Kept, at: usize, have: usize) -> Waiting {
+fn resting(buffer: &mut [u8], kept: Kept, at: usize, have: usize) -> Waiting
+    requires { ⌜ (at ≤ have) × (have ≤ length (now buffer)) ⌝ }
+    ensures { λ r. ⌜ (r .kept ≡ kept) × (r .on ≡ true) × (r .have ≡ have - at) × (take (r .have) (now (buffer .exit)) ≡ take (r .have) (drop at (now (buffer .entry)))) ⌝ }
+{
     let left = shifted(buffer, at, have);
     Waiting {
         kept,
@@ -175,11 +190,14 @@ fn drained(
     out: &mut [u8],
     line: &mut [u8],
     states: bool,
-) -> Waiting {
+) -> Waiting
+    requires { ⌜ (have ≤ length (now buffer)) × (anyOf crossed (rangesOf kept) ≡ false) ⌝ }
+    ensures { λ r. ⌜ (anyOf crossed (rangesOf (r .kept)) ≡ false) × Waits (r .on) (stateOf kept (now (longs .entry)) (now (tags .entry)) (now (pages .entry)) (now (stamps .entry)) (now (marks .entry)) (now (keys .entry)) (now (bases .entry))) (take have (now (buffer .entry))) (stateOf (r .kept) (now (longs .exit)) (now (tags .exit)) (now (pages .exit)) (now (stamps .exit)) (now (marks .exit)) (now (keys .exit)) (now (bases .exit))) (now (buffer .exit)) (r .have) ⌝ }
+{
     let mut now = kept;
     let mut at = 0;
     let mut turns = u64::MAX;
-    while turns > 0 && at <= have && have <= buffer.len() {
+    while turns > 0 {
         let s = some(
             tags,
             pages,
@@ -197,9 +215,6 @@ fn drained(
         now = s.kept;
         let read = s.read;
         let next = s.next;
-        if have - at < read {
-            return over(now);
-        }
         at += read;
         match next {
             Next::More => {}
@@ -234,7 +249,10 @@ fn turn(
     out: &mut [u8],
     line: &mut [u8],
     states: bool,
-) -> Waiting {
+) -> Waiting
+    requires { ⌜ anyOf crossed (rangesOf (w .kept)) ≡ false ⌝ }
+    ensures { λ r. ⌜ (anyOf crossed (rangesOf (r .kept)) ≡ false) × Turned (r .on) (stateOf (w .kept) (now (longs .entry)) (now (tags .entry)) (now (pages .entry)) (now (stamps .entry)) (now (marks .entry)) (now (keys .entry)) (now (bases .entry))) (take (w .have) (now (buffer .entry))) (stateOf (r .kept) (now (longs .exit)) (now (tags .exit)) (now (pages .exit)) (now (stamps .exit)) (now (marks .exit)) (now (keys .exit)) (now (bases .exit))) (now (buffer .exit)) (r .have) ⌝ }
+{
     let kept = w.kept;
     let have = w.have;
     match streams::fill(STDIN_FILENO, buffer, have) {
@@ -246,7 +264,7 @@ fn turn(
             finish(have);
             over(kept)
         }
-        Got::Bytes(n) => drained(
+        Got::Waiting(n) => drained(
             tags,
             pages,
             stamps,
@@ -256,7 +274,7 @@ fn turn(
             longs,
             kept,
             buffer,
-            streams::sum(have, n),
+            n,
             out,
             line,
             states,

@@ -15,8 +15,8 @@ fn read_to_end(fd: i32, buffer: &mut [u8]) -> Held {
     let mut turns = u64::MAX;
     while turns > 0 && have < buffer.len() {
         match streams::fill(fd, buffer, have) {
-            Got::Bytes(n) => {
-                have = streams::sum(have, n);
+            Got::Waiting(n) => {
+                have = n;
             }
             Got::Ended => {
                 return Held::Bytes(have);

@@ -1,18 +1,21 @@
 // Bytes in and out: a buffer filled from a descriptor, a buffer written to standard output, and text put into a buffer.
 use libc::STDERR_FILENO;
 use libc::STDOUT_FILENO;
+ghost use Rattle.streams.specs.Filled.{Filled};
 
 // ---- In.
 
-// What a read gave: bytes, the end of the input, or nothing because it failed.
+// What a read gave: how many bytes wait with those that came, or that the input ended, or that it failed.
 pub enum Got {
-    Bytes(usize),
+    Waiting(usize),
     Ended,
     Failed,
 }
 
-// Reads once, into the buffer from `have` on.
-pub fn fill(fd: i32, buffer: &mut [u8], have: usize) -> Got {
+// Reads once, into the buffer from `have` on. The bytes before stay.
+pub fn fill(fd: i32, buffer: &mut [u8], have: usize) -> Got
+    ensures { λ r. ⌜ Filled (now (buffer .entry)) have r (now (buffer .exit)) ⌝ }
+{
     if buffer.len() < have {
         return Got::Failed;
     }
@@ -23,17 +26,7 @@ pub fn fill(fd: i32, buffer: &mut [u8], have: usize) -> Got {
     if got == 0 {
         return Got::Ended;
     }
-    Got::Bytes(io::count(got, &buffer[have..]))
-}
-
-// How many bytes wait now: a buffer's length bounds both.
-pub fn sum(have: usize, n: usize) -> usize {
-    if have < 1048576 {
-        if n < 1048576 {
-            return have + n;
-        }
-    }
-    0
+    Got::Waiting(have + io::count(got, &buffer[have..]))
 }
 
 // ---- Out.

@@ -1,7 +1,12 @@
+use Rattle.playing.proofs.Driving as law
 use lib.Seq.{length-take-le, length-front}
 use Prim.Native.Nat.{_≤_, _<_, _-_}
 use mathlib.Core.Path.{_≡_, sym, _∙_}
 use lib.ListN.{length}
+use mathlib.Core.Bool.{false}
+use Rattle.definition.specs.Words.{anyOf}
+use Rattle.definition.specs.Refusal.{crossed}
+use Rattle.replay.specs.Playing.{rangesOf}
 use native.Mathlib.Omega.{arith}
 use borrow.Author.Needs.{needs}
 use Rattle.playing.proofs.play.Statement.{statement}
@@ -9,7 +14,7 @@ use Rattle.playing.proofs.play.Tie as tie
 
 abbrev Inv-loop : tie.InvT-loop
 Inv-loop states tags₀ pages₀ stamps₀ marks₀ keys₀ bases₀ longs₀ buffer₀ out₀ line₀ room w₀ turns₀ tags pages stamps marks keys bases longs buffer out line w turns =
-    (8192 ≡ length longs) × (131072 ≡ length buffer) × (65536 ≡ length out) × (16384 ≡ length line)
+    (8192 ≡ length longs) × (131072 ≡ length buffer) × (65536 ≡ length out) × (16384 ≡ length line) × (anyOf crossed (rangesOf (w .kept)) ≡ false)
 
 abbrev μ-loop : tie.MeasureT-loop
 μ-loop states tags₀ pages₀ stamps₀ marks₀ keys₀ bases₀ longs₀ buffer₀ out₀ line₀ room w₀ turns₀ tags pages stamps marks keys bases longs buffer out line w turns =
@@ -28,7 +33,7 @@ first-requires : tie.Need-first-requires Inv-loop μ-loop
 first-requires c κs = search needs
 
 loop-holds : tie.Need-loop-holds Inv-loop μ-loop
-loop-holds c = (search needs, search needs, search needs, search needs)
+loop-holds c = (search needs, search needs, search needs, search needs, law.none-kept (c .first .result) (c .first .ensures .1))
 
 slice-aggregate-turn : tie.Need-slice-aggregate-turn Inv-loop μ-loop
 slice-aggregate-turn c = c .before .before .before .before .before .before .before .before .before .loop .inv .0
@@ -46,7 +51,7 @@ slice-aggregate-turn-4 : tie.Need-slice-aggregate-turn-4 Inv-loop μ-loop
 slice-aggregate-turn-4 c = c .before .before .before .before .before .before .before .before .before .before .before .before .loop .inv .3
 
 turn-requires : tie.Need-turn-requires Inv-loop μ-loop
-turn-requires c κs = search needs
+turn-requires c κs = c .before .before .before .before .before .before .before .before .before .before .before .before .loop .inv .4
 
 sub-turns : tie.Need-sub-turns Inv-loop μ-loop
 sub-turns c = omega (arith, c .before .before .before .before .before .before .before .before .before .before .before .before .before .before .before .before .loop-test .taken)
@@ -55,7 +60,7 @@ loop-less : tie.Need-loop-less Inv-loop μ-loop
 loop-less c = omega (arith, c .before .before .before .before .before .before .before .before .before .before .before .before .before .before .before .before .loop-test .taken)
 
 loop-again : tie.Need-loop-again Inv-loop μ-loop
-loop-again c = (c .before .before .before .before .before .before .before .before .before .before .before .before .before .before .before .before .before .loop .inv .0 ∙ sym (c .before .before .before .before .turn .kept .1 .1 .1 .1 .1 .1 .0), c .before .before .before .before .before .before .before .before .before .before .before .before .before .before .before .before .before .loop .inv .1 ∙ sym (c .before .before .before .before .turn .kept .1 .1 .1 .1 .1 .1 .1 .1 .0), c .before .before .before .before .before .before .before .before .before .before .before .before .before .before .before .before .before .loop .inv .2 ∙ sym (length-front (c .before .before .before .before .before .before .before .before .before .before .before .before .before .before .before .before .before .loop .out) (c .before .before .before .before .turn .last .1 .1 .1 .1 .1 .1 .1 .1 .1 .0) (c .before .before .before .before .before .before .before .before .before .before .before .before .before .before .before .before .before .before .before .room-for .result) (c .before .before .before .before .turn .kept .1 .1 .1 .1 .1 .1 .1 .1 .1 .0)), c .before .before .before .before .before .before .before .before .before .before .before .before .before .before .before .before .before .loop .inv .3 ∙ sym (c .before .before .before .before .turn .kept .1 .1 .1 .1 .1 .1 .1 .1 .1 .1 .0))
+loop-again c = (c .before .before .before .before .before .before .before .before .before .before .before .before .before .before .before .before .before .loop .inv .0 ∙ sym (c .before .before .before .before .turn .kept .1 .1 .1 .1 .1 .1 .0), c .before .before .before .before .before .before .before .before .before .before .before .before .before .before .before .before .before .loop .inv .1 ∙ sym (c .before .before .before .before .turn .kept .1 .1 .1 .1 .1 .1 .1 .1 .0), c .before .before .before .before .before .before .before .before .before .before .before .before .before .before .before .before .before .loop .inv .2 ∙ sym (length-front (c .before .before .before .before .before .before .before .before .before .before .before .before .before .before .before .before .before .loop .out) (c .before .before .before .before .turn .last .1 .1 .1 .1 .1 .1 .1 .1 .1 .0) (c .before .before .before .before .before .before .before .before .before .before .before .before .before .before .before .before .before .before .before .room-for .result) (c .before .before .before .before .turn .kept .1 .1 .1 .1 .1 .1 .1 .1 .1 .0)), c .before .before .before .before .before .before .before .before .before .before .before .before .before .before .before .before .before .loop .inv .3 ∙ sym (c .before .before .before .before .turn .kept .1 .1 .1 .1 .1 .1 .1 .1 .1 .1 .0), c .before .before .before .before .turn .ensures .0)
 
 returns-2 : tie.Need-returns-2 Inv-loop μ-loop
 returns-2 c = search needs

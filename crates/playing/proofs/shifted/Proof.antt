@@ -1,18 +1,18 @@
-use Prim.Native.Nat.{_≤_, _<_, _-_}
-use mathlib.Core.Path.{_≡_}
-use lib.ListN.{length}
+use Rattle.playing.proofs.Driving as law
+use Prim.Native.Nat.{_≤_, _-_}
+use mathlib.Core.Path.{_≡_, refl, sym, _∙_}
+use native.Mathlib.Omega.{arith}
+use lib.ListN.{length, take, drop, length-set}
 use borrow.Author.Needs.{needs}
 use Rattle.playing.proofs.shifted.Statement.{statement}
 use Rattle.playing.proofs.shifted.Tie as tie
 
 abbrev Inv-loop : tie.InvT-loop
-Inv-loop buffer₀ from have left i₀ buffer i = (i ≤ left) × (length buffer ≡ length buffer₀)
+Inv-loop buffer₀ from have left i₀ buffer i =
+    (i ≤ left) × (length buffer ≡ length buffer₀) × (take i buffer ≡ take i (drop from buffer₀)) × (drop i buffer ≡ drop i buffer₀)
 
 abbrev μ-loop : tie.MeasureT-loop
 μ-loop buffer₀ from have left i₀ buffer i = left - i
-
-returns : tie.Need-returns Inv-loop μ-loop
-returns c = search needs
 
 sub-left : tie.Need-sub-left Inv-loop μ-loop
 sub-left c = search needs
@@ -36,13 +36,18 @@ loop-less : tie.Need-loop-less Inv-loop μ-loop
 loop-less c = search needs
 
 loop-again : tie.Need-loop-again Inv-loop μ-loop
-loop-again c = search needs
+loop-again c =
+    let held = c .before .before .loop .inv in
+    let at = c .before .before .before .args in
+    (omega arith, length-set (c .before .before .loop .buffer) (c .before .before .loop .i) _ ∙ held .1, law.moved-more (at .from) (c .before .before .loop .i) _ _ (held .1) (omega arith) (held .3) (held .2), law.stays-more (at .from) (c .before .before .loop .i) _ _ (held .1) (omega arith) (held .3))
 
 same-length : tie.Need-same-length Inv-loop μ-loop
 same-length c = search needs
 
-returns-2 : tie.Need-returns-2 Inv-loop μ-loop
-returns-2 c = search needs
+returns : tie.Need-returns Inv-loop μ-loop
+returns c =
+    let held = c .before .loop .inv in
+    (refl, law.moved-all (c .before .before .args .from) _ (c .before .loop .i) _ _ (held .0) (c .loop-test .left) (held .2))
 
 pub shifted-spec : {M : Type 1} → statement M
 shifted-spec =
@@ -50,7 +55,6 @@ shifted-spec =
     (tie.spec
     Inv-loop
     μ-loop
-    returns
     sub-left
     loop-holds
     add-buffer
@@ -60,4 +64,4 @@ shifted-spec =
     loop-less
     loop-again
     same-length
-    returns-2)
+    returns)

@@ -1,4 +1,6 @@
+use Rattle.playing.proofs.Driving as law
 use mathlib.Core.Path.{_∙_}
+use native.Mathlib.Omega.{arith}
 use borrow.Author.Needs.{needs}
 use Rattle.playing.proofs.turn.Statement.{statement}
 use Rattle.playing.proofs.turn.Tie as tie
@@ -27,29 +29,26 @@ over-requires-2 c κs = search needs
 enum-known-n : tie.Need-enum-known-n
 enum-known-n c = search needs
 
-sum-requires : tie.Need-sum-requires
-sum-requires c κs = search needs
-
 drained-requires : tie.Need-drained-requires
-drained-requires c κs = search needs
+drained-requires c κs = (omega (arith, law.waiting (c .before .before .before .before .before .before .before .before .before .before .before .n .given .1) (c .before .before .before .before .before .before .before .before .before .before .before .before .before .before .before .fill .ensures) .1, c .before .before .before .before .before .before .before .before .before .before .before .before .before .before .before .fill .kept .1 .0), c .before .before .before .before .before .before .before .before .before .before .before .before .before .before .before .before .before .before .before .before .before .before .pre)
 
 same-length : tie.Need-same-length
 same-length c = search needs
 
 returns : tie.Need-returns
-returns c = search needs
+returns c = (law.crossed-stays (c .over .ensures .0) (c .before .before .before .before .before .before .before .before .before .before .before .before .before .pre), law.turned-over (c .over .ensures .1))
 
 same-length-2 : tie.Need-same-length-2
 same-length-2 c = search needs
 
 returns-2 : tie.Need-returns-2
-returns-2 c = search needs
+returns-2 c = (law.crossed-stays (c .over2 .ensures .0) (c .before .before .before .before .before .before .before .before .before .before .before .before .before .pre), law.turned-over (c .over2 .ensures .1))
 
 same-length-3 : tie.Need-same-length-3
 same-length-3 c = search needs
 
 same-length-4 : tie.Need-same-length-4
-same-length-4 c = c .before .before .before .before .before .before .before .before .drained .kept .1 .1 .1 .1 .1 .1 .1 .1 .0 ∙ c .before .before .before .before .before .before .before .before .before .before .before .before .before .before .before .before .before .before .before .before .before .before .before .before .before .fill .kept .1 .0
+same-length-4 c = c .before .before .before .before .before .before .before .before .drained .kept .1 .1 .1 .1 .1 .1 .1 .1 .0 ∙ c .before .before .before .before .before .before .before .before .before .before .before .before .before .before .before .before .before .before .before .before .before .before .before .before .fill .kept .1 .0
 
 same-length-5 : tie.Need-same-length-5
 same-length-5 c = search needs
@@ -58,7 +57,7 @@ same-length-6 : tie.Need-same-length-6
 same-length-6 c = search needs
 
 returns-3 : tie.Need-returns-3
-returns-3 c = search needs
+returns-3 c = (c .before .before .before .before .before .before .before .before .drained .ensures .0, law.turned _ _ _ _ (c .before .before .before .before .before .before .before .before .before .before .before .before .before .before .before .before .before .before .before .before .before .before .before .before .fill .ensures .stay) (law.waiting (c .before .before .before .before .before .before .before .before .before .before .before .before .before .before .before .before .before .before .before .before .n .given .1) (c .before .before .before .before .before .before .before .before .before .before .before .before .before .before .before .before .before .before .before .before .before .before .before .before .fill .ensures) .0) (c .before .before .before .before .before .before .before .before .drained .ensures .1))
 
 pub turn-spec : {M : Type 1} → statement M
 turn-spec =
@@ -72,7 +71,6 @@ turn-spec =
     finish-requires
     over-requires-2
     enum-known-n
-    sum-requires
     drained-requires
     same-length
     returns

@@ -20,9 +20,6 @@ fill-requires c κs = search needs
 enum-known-n : tie.Need-enum-known-n Inv-loop μ-loop
 enum-known-n c = search needs
 
-sum-requires : tie.Need-sum-requires Inv-loop μ-loop
-sum-requires c κs = search needs
-
 enum-told : tie.Need-enum-told Inv-loop μ-loop
 enum-told c = search needs
 
@@ -71,7 +68,6 @@ read-to-end-spec =
     loop-holds
     fill-requires
     enum-known-n
-    sum-requires
     enum-told
     same-length
     returns
