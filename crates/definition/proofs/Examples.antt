@@ -5,19 +5,17 @@ use mathlib.Core.List.{List, [], _∷_, _++_, map}
 use mathlib.Core.Bool.{Bool, true, false}
 use lib.ListN.{set, replicate}
 use Rattle.definition.specs.Words.{anyOf, allOf, countOf, firstOf}
-use Rattle.definition.specs.Memory.{Memory, memory, touchesOf}
+use Rattle.definition.specs.Memory.{Memory, memory}
 use Rattle.definition.specs.Transparent.{transparent}
 use Rattle.definition.specs.Walk030.{readOf, widthsOf, walkFrom, shiftOf}
 use Rattle.definition.specs.Walk040.{walk040}
-use Rattle.definition.specs.Cache030.{matching, rested, touched, hitOf, afterHit, shifted, oldest, victim, inserted, flushedAll, flushedCode, flushedPage}
-use Rattle.definition.specs.Cache040.{hit040, inserted040, flushedAll040, flushedFrame}
+use Rattle.definition.specs.Cache030.{matching, rested, touched, hitOf, afterHit, shifted, oldest, victim, inserted}
+use Rattle.definition.specs.Cache040.{hit040, inserted040}
 use Rattle.definition.specs.Refusal.{refusalOf}
 use Rattle.definition.specs.Translate.{Caches, emptyCaches, search030, translate030, translate040, inOrder, translate}
-use Rattle.definition.specs.Load.{loadInOrder, load}
 use Rattle.definition.specs.Test.{testInOrder, test}
 use Rattle.definition.specs.Probe.{probeInOrder, probe}
-use Rattle.definition.specs.Flush.{flushAll, flushCode, flushPage, flushFrame}
-use Rattle.definition.specs.Calls.{Call, access, testing, probing, Line, A, F, T, N, Called, calling}
+use Rattle.definition.specs.Calls.{Call, access, testing, probing, Line, A, F, T, N, calling}
 use Rattle.definition.specs.declared.Registers.{Registers}
 use Rattle.definition.specs.declared.Override.{Override}
 use Rattle.definition.specs.declared.Shift.{Shift}

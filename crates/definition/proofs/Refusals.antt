@@ -1,6 +1,6 @@
 -- Document 01's refusals, of the definitions: the order, refused exactly when the first of it applies, and what a refusal leaves. Assumes nothing.
 use Prim.Native.Nat.{ℕ, _/_, _^_}
-use mathlib.Core.Path.{_≡_, refl, ap, _∙_}
+use mathlib.Core.Path.{_≡_, refl, ap}
 use mathlib.Core.List.{List, [], _∷_, map}
 use mathlib.Core.Bool.{Bool, true, false, not, _&&_}
 use mathlib.Core.Logic.{_⊎_, inl, inr, ⊎-elim}
@@ -10,15 +10,15 @@ use Rattle.definition.specs.Words.{if_then_else_, bitOf}
 use Rattle.definition.specs.Registers.{on, asSupervisor, asInstruction, walkCode, comparedCode, codeOf}
 use Rattle.definition.specs.Memory.{Memory}
 use Rattle.definition.specs.Transparent.{transparent, transparent030}
-use Rattle.definition.specs.Walk030.{shiftOf, physicalOf, walk030, everyLevel}
+use Rattle.definition.specs.Walk030.{shiftOf, walk030, everyLevel}
 use Rattle.definition.specs.Walk040.{walk040, pageBits}
-use Rattle.definition.specs.Cache030.{Cache030, hitOf, afterHit, flushedPage}
+use Rattle.definition.specs.Cache030.{Cache030, hitOf, afterHit}
 use Rattle.definition.specs.Cache040.{hit040}
 use Rattle.definition.specs.Refusal.{Check, Checks, firstThat, ordered, refusalOf, unless}
-use Rattle.definition.specs.Translate.{Caches, Translated, Searched, hitAddress, joined, atOnce, onPage030, onEnd030, concluded030, search030, onHit030, with030, translate030, onEnd040, concluded040, onHit040, translate040, inOrder, translateChecks, translate}
-use Rattle.definition.specs.Load.{Loaded, loaded, stopped, searchedFor, afterDrop, loadInOrder, loadChecks, load}
-use Rattle.definition.specs.Test.{Tested, tested, statusOf, testInOrder, testChecks, test}
-use Rattle.definition.specs.Probe.{probed, probe030, probe040, probeInOrder, probeChecks, probe}
+use Rattle.definition.specs.Translate.{Caches, Translated, Searched, hitAddress, joined, atOnce, onEnd030, search030, onHit030, with030, translate030, onEnd040, onHit040, translate040, inOrder, translateChecks, translate}
+use Rattle.definition.specs.Load.{Loaded, loaded, stopped, loadInOrder, loadChecks, load}
+use Rattle.definition.specs.Test.{Tested, tested, testInOrder, testChecks, test}
+use Rattle.definition.specs.Probe.{probed, probe030, probeInOrder, probeChecks, probe}
 use Rattle.definition.specs.Flush.{Flushed, flushed, flushUnless}
 use Rattle.definition.specs.Calls.{Line, A, F, L, T, K, N, R}
 use Rattle.definition.specs.Trace.{State, Played, played, keeping}

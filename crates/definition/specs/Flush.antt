@@ -1,7 +1,6 @@
 -- Document 01, 'The caches': the four flushes as calls.
 use Prim.Native.Nat.{ℕ}
-use mathlib.Core.Bool.{Bool, true, false, _||_}
-use Rattle.definition.specs.Words.{if_then_else_}
+use mathlib.Core.Bool.{Bool, false, _||_}
 use Rattle.definition.specs.Cache030.{Cache030, flushedAll, flushedCode, flushedPage}
 use Rattle.definition.specs.Cache040.{Cache040, flushedAll040, flushedFrame}
 use Rattle.definition.specs.Refusal.{Checks, badCache, badFrame, aboveSeven, unless}

@@ -1,8 +1,7 @@
 -- Document 01, 'The caches': the probe.
-use Prim.Native.Nat.{ℕ, _/_, _%_, _^_}
-use mathlib.Core.Bool.{Bool, true, false, not}
+use Prim.Native.Nat.{ℕ, _/_, _^_}
+use mathlib.Core.Bool.{Bool, false, not}
 use lib.Dec.{eqb}
-use lib.Bits.{bitOr}
 use Rattle.definition.specs.Words.{if_then_else_}
 use Rattle.definition.specs.Registers.{on, codeOf}
 use Rattle.definition.specs.Transparent.{transparent}

@@ -2,11 +2,11 @@
 use Prim.Native.Nat.{ℕ}
 use mathlib.Core.Path.{_≡_}
 use mathlib.Core.Logic.{_⊎_}
-use mathlib.Core.List.{List, [], _∷_, _++_}
+use mathlib.Core.List.{List, [], _∷_}
 use Rattle.definition.specs.Memory.{Memory, fetchOf}
 use Rattle.definition.specs.Refusal.{refusalOf}
-use Rattle.definition.specs.Translate.{Caches, emptyCaches, Translated, translate, translateChecks, cacheless}
-use Rattle.definition.specs.Calls.{Call, Called, calling}
+use Rattle.definition.specs.Translate.{Caches, emptyCaches, translate, translateChecks, cacheless}
+use Rattle.definition.specs.Calls.{Call, calling}
 use Rattle.definition.specs.declared.Registers.{Registers}
 use Rattle.definition.specs.declared.Access.{Access}
 use Rattle.definition.specs.declared.Translation.{Translation}

@@ -1,7 +1,7 @@
 -- Document 01, 'The 68030 walk': PTEST.
 use Prim.Native.Nat.{ℕ, _+_, _%_}
 use mathlib.Core.List.{List, []}
-use mathlib.Core.Bool.{Bool, true, false, not, _&&_, _||_}
+use mathlib.Core.Bool.{Bool, false, not, _&&_, _||_}
 use lib.Dec.{eqb}
 use Rattle.definition.specs.Words.{if_then_else_, bitOf}
 use Rattle.definition.specs.Memory.{Memory}

@@ -1,7 +1,7 @@
 -- Document 01, 'Translation order', and what the walks' ends give.
 use Prim.Native.Nat.{ℕ, _+_, _-_, _/_, _%_, _^_}
-use mathlib.Core.List.{List, [], _∷_}
-use mathlib.Core.Bool.{Bool, true, false, not, _&&_}
+use mathlib.Core.List.{List, []}
+use mathlib.Core.Bool.{Bool, false, not, _&&_}
 use lib.Dec.{eqb}
 use lib.Bits.{bitOr}
 use Rattle.definition.specs.Words.{if_then_else_, bitOf}
@@ -23,7 +23,6 @@ use Rattle.definition.specs.declared.End.{End}
 use Rattle.definition.specs.declared.End.the-variants as end
 use Rattle.definition.specs.declared.End040.{End040}
 use Rattle.definition.specs.declared.End040.the-variants as end040
-use Rattle.definition.specs.declared.FaultKind.{FaultKind}
 use Rattle.definition.specs.declared.FaultKind.the-variants as kind
 use Rattle.definition.specs.declared.FaultCause.{FaultCause}
 use Rattle.definition.specs.declared.FaultCause.the-variants as cause

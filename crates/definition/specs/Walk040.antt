@@ -1,7 +1,7 @@
 -- Document 01, 'The 68040 walk, also for family 60'.
 use Prim.Native.Nat.{ℕ, _+_, _*_, _/_, _%_, _^_}
 use mathlib.Core.List.{List, [], _∷_, _++_}
-use mathlib.Core.Bool.{Bool, true, false, _||_}
+use mathlib.Core.Bool.{Bool, _||_}
 use lib.Dec.{ltb, eqb}
 use Rattle.definition.specs.Words.{if_then_else_, bitOf}
 use Rattle.definition.specs.Memory.{Memory, fetchOf}
@@ -12,7 +12,6 @@ use Rattle.definition.specs.declared.End040.the-variants.{Resident, Abse
 use Rattle.definition.specs.declared.FaultCause.{FaultCause}
 use Rattle.definition.specs.declared.FaultCause.the-variants as cause
 use Rattle.definition.specs.declared.Registers.{Registers}
-use Rattle.definition.specs.declared.Root.{Root}
 
 -- how a walk ended, with the address of each long that it asked for
 pub record Outcome040 : Type 0 where
