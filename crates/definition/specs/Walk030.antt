@@ -165,7 +165,7 @@ outcomeOf m tc root address code limit = walkSteps m root limit (stepsOf tc addr
 abbrev pub walk030 : Memory → Registers → ℕ → ℕ → ℕ → Outcome
 walk030 m g address code limit = outcomeOf m (g .tc) (rootOf g code) address code limit
 
--- more levels than any walk has: the function code's and four widths
+-- as many levels as any walk can have: the function code's and four widths
 abbrev pub everyLevel : ℕ
 everyLevel = 5
 
