@@ -17,20 +17,6 @@ use Rattle.cache.specs.Packed.{bit, odd, dropTag}
 use Rattle.cache.specs.Atc030.{entryOf, entriesOf, cacheOf, Sized, Stepped, Looked, keyOf, matchIn, heldIn, placeOf, ranked, restStamps, restClock, usedStamps, usedMarks}
 use Rattle.cache.proofs.Entries.{Level, key-matches, key-entry, drop-tag, entries-length, entries-get, entries-set, entries-first, entries-stamps, entries-tags, smaller-is, oldest-is}
 
--- ---- what a caller reads of the marks
-module _ (ts ps ss ms : List ℕ) where
-  pub recent-is : cacheOf ts ps ss ms .recent ≡ getD ms 0 0
-  unfolding cacheOf
-  recent-is = refl
-
-  pub clock-is : cacheOf ts ps ss ms .clock ≡ getD ms 1 0
-  unfolding cacheOf
-  clock-is = refl
-
-  pub shift-is : cacheOf ts ps ss ms .shift ≡ getD ms 2 0
-  unfolding cacheOf
-  shift-is = refl
-
 -- ---- lengths
 length-rest : (k : ℕ) (ss : List ℕ) → length (restStamps k ss) ≡ length ss
 unfolding ranked
