@@ -297,7 +297,7 @@ fn begins() -> bool {
     false
 }
 
-// How many bytes a run may write: with `states` one line.
+// How many bytes a run may write. With `states` one line: a line is written where 44 bytes have room, and has two or more.
 fn room_for(states: bool) -> usize
     ensures { λ r. ⌜ r ≤ 65536 ⌝ }
 {
