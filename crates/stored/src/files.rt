@@ -31,7 +31,7 @@ fn read_to_end(fd: i32, buffer: &mut [u8]) -> Held {
 }
 
 // The bytes of a file, from the start of the buffer on.
-pub fn read_file(path: &[u8], buffer: &mut [u8]) -> Held {
+fn read_file(path: &[u8], buffer: &mut [u8]) -> Held {
     let fd = os::open_read(path);
     if fd < 0 {
         return Held::Unopened;

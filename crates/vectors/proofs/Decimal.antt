@@ -20,7 +20,7 @@ unfolding numberFrom
 one-digit start v i d rest h k = rw (digit-glyph d h, lt-leb 10 d h, lt-leb (2 ^ 32) (v * 10 + d) k)
 
 -- the last k digits of n come after those that make v
-pub all-digits : (start k v i n : ℕ) (rest : List ℕ) → n < 10 ^ k → v * 10 ^ k + n < 2 ^ 32 → numberFrom start v i (digits 10 k n ++ rest) ≡ numberFrom start (v * 10 ^ k + n) (i + k) rest
+all-digits : (start k v i n : ℕ) (rest : List ℕ) → n < 10 ^ k → v * 10 ^ k + n < 2 ^ 32 → numberFrom start v i (digits 10 k n ++ rest) ≡ numberFrom start (v * 10 ^ k + n) (i + k) rest
 all-digits start zero v i n rest h b =
     let e : v * 1 + n ≡ v = omega arith in
     let f : i + 0 ≡ i = omega arith in

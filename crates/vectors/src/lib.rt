@@ -81,7 +81,7 @@ pub fn read_number(text: &[u8], c: Cursor) -> Number
 }
 
 // The row at a cursor: its numbers are put at the start of `numbers`, which has to have room for them.
-pub fn read_row(text: &[u8], c: Cursor, numbers: &mut [u32]) -> Row
+fn read_row(text: &[u8], c: Cursor, numbers: &mut [u32]) -> Row
     ensures { λ r. ⌜ shown r (now (numbers .exit)) ≡ rowAt (now (text .entry)) (length (now (numbers .entry))) (c .at) ⌝ }
     ensures { λ r. ⌜ Within r (length (now (numbers .entry))) (length (now (text .entry))) (c .at) ⌝ }
 {
