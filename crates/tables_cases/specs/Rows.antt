@@ -1,5 +1,5 @@
 -- A row's parts.
-use Prim.Native.Nat.{ℕ, _+_, _*_, _≤_}
+use Prim.Native.Nat.{_+_, _*_, _≤_}
 use Rattle.tables_cases.specs.declared.rows.Parts.{Parts}
 use Rattle.tables_cases.specs.declared.rows.Parts.the-variants as parts
 

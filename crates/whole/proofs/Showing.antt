@@ -1,5 +1,5 @@
 -- A trace's lines in a buffer: the last line, the records' lines, and the version's line before them. Assumes nothing.
-use Prim.Native.Nat.{ℕ, zero, suc, _+_, _-_, _*_, _≤_, _<_}
+use Prim.Native.Nat.{ℕ, _+_, _-_, _*_, _≤_, _<_}
 use mathlib.Core.Path.{_≡_, refl, ap, sym, subst, _∙_}
 use mathlib.Core.List.{List, [], _∷_, _++_}
 use mathlib.Core.Bool.{Bool, true, false}
@@ -8,12 +8,12 @@ use native.Mathlib.Omega.{arith}
 use native.Mathlib.Decide.{decLe}
 use native.Mathlib.Nat.{min-eq-right}
 use borrow.Author.Tests.{ne-eqb, eq-eqb}
-use lib.Dec.{leb, eqb}
+use lib.Dec.{leb}
 use lib.ListN.{length, getD, take, drop, replicate, length-append, length-take, length-drop}
 use lib.Seq.{length-take-le, take-append-le, take-append-add, take-all}
 use Rattle.definition.specs.Words.{if_then_else_, anyOf}
 use Rattle.definition.specs.Refusal.{crossed}
-use Rattle.definition.specs.Trace.{State, Front, Body, Short, Ended, frontOf, recordOf, isMalformed, firstRegisters, firstState, newline, playFrom, play}
+use Rattle.definition.specs.Trace.{State, Body, Short, Ended, frontOf, firstRegisters, firstState, newline, playFrom, play}
 use Rattle.trace.specs.Lines.{Wrote, Put}
 use Rattle.trace.proofs.Writes.{next-near, same-length, front}
 use Rattle.cache.specs.Atc030.{entriesOf, cacheOf}
@@ -101,7 +101,7 @@ unfolding play
 play-other [] h = refl
 play-other (x ∷ b) h = rw (ne-eqb x 1 h)
 
-pub play-good : (b : List ℕ) → getD b 0 0 ≡ 1 → play b ≡ 118 ∷ 49 ∷ newline ++ plays firstState (drop 1 b)
+play-good : (b : List ℕ) → getD b 0 0 ≡ 1 → play b ≡ 118 ∷ 49 ∷ newline ++ plays firstState (drop 1 b)
 unfolding play
 play-good [] e = absurd (omega arith)
 play-good (x ∷ b) e = rw (eq-eqb x 1 e)

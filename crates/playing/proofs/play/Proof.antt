@@ -1,6 +1,5 @@
 use Rattle.playing.proofs.Driving as law
 use lib.Seq.{length-take-le, length-front}
-use Prim.Native.Nat.{_≤_, _<_, _-_}
 use mathlib.Core.Path.{_≡_, sym, _∙_}
 use lib.ListN.{length}
 use mathlib.Core.Bool.{false}

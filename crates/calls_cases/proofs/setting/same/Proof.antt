@@ -1,7 +1,6 @@
 -- `calls_cases::setting::same` is safe and ends. The invariant: `i` is at most the length. The measure is what is left of it.
 use Prim.Native.Nat.{_≤_, _-_}
 use mathlib.Core.Path.{_≡_}
-use native.Mathlib.Omega.{arith}
 use borrow.Author.Needs.{needs}
 use lib.ListN.{length}
 use Rattle.calls_cases.proofs.setting.same.Statement.{statement}
