@@ -141,7 +141,7 @@ fn test(t: Trial, level: u32) -> Given {
     let longs = setting::tree();
     let list = setting::ranges(t.first, t.last);
     let g = setting::registers(t.family, t.enabled);
-    let r = inplace::test::test_in(
+    let r = inquiry::test::test_in(
         &longs,
         t.base,
         list,
@@ -180,7 +180,7 @@ fn probe(t: Trial) -> Given {
     let keys = [3u64; 64];
     let bases = [3u64; 64];
     let g = setting::registers(t.family, t.enabled);
-    let answer = inplace::probe::probe_in(
+    let answer = inquiry::probe::probe_in(
         &tags,
         &pages,
         &stamps,
@@ -217,14 +217,7 @@ fn flush_all(t: Trial) -> Given {
     let marks = [t.recent, 3, t.shift];
     let mut keys = [3u64; 64];
     let bases = [3u64; 64];
-    let answer = inplace::flush::flush_all_in(
-        &mut tags,
-        &pages,
-        &stamps,
-        &marks,
-        &mut keys,
-        &bases,
-    );
+    let answer = flush::flush_all_in(&mut tags, &pages, &stamps, &marks, &mut keys, &bases);
     let stays = stays_030(&tags, &pages, &stamps, &marks, t.recent, t.shift);
     let beside = stays_040(&keys, &bases);
     Given {
@@ -239,7 +232,7 @@ fn flush_code(t: Trial, mask: u32) -> Given {
     let pages = [3u64; 22];
     let stamps = [3u64; 22];
     let marks = [t.recent, 3, t.shift];
-    let answer = inplace::flush::flush_code_in(&mut tags, &pages, &stamps, &marks, t.code, mask);
+    let answer = flush::flush_code_in(&mut tags, &pages, &stamps, &marks, t.code, mask);
     let stays = stays_030(&tags, &pages, &stamps, &marks, t.recent, t.shift);
     Given {
         number: flush_number(answer),
@@ -253,7 +246,7 @@ fn flush_page(t: Trial, mask: u32) -> Given {
     let pages = [3u64; 22];
     let stamps = [3u64; 22];
     let marks = [t.recent, 3, t.shift];
-    let answer = inplace::flush::flush_page_in(&mut tags, &pages, &stamps, &marks, t.code, mask, 0);
+    let answer = flush::flush_page_in(&mut tags, &pages, &stamps, &marks, t.code, mask, 0);
     let stays = stays_030(&tags, &pages, &stamps, &marks, t.recent, t.shift);
     Given {
         number: flush_number(answer),
@@ -265,7 +258,7 @@ fn flush_page(t: Trial, mask: u32) -> Given {
 fn flush_frame(frame: u32) -> Given {
     let mut keys = [3u64; 64];
     let bases = [3u64; 64];
-    let answer = inplace::flush::flush_frame_in(&mut keys, &bases, frame);
+    let answer = flush::flush_frame_in(&mut keys, &bases, frame);
     let stays = stays_040(&keys, &bases);
     Given {
         number: flush_number(answer),

@@ -21,10 +21,11 @@ use Rattle.tables.specs.declared.Walked040.{Walked040}
 use Rattle.tables.specs.declared.Way.{Way}
 use Rattle.cache.specs.Atc030.{cacheOf, Sized}
 use Rattle.cache.specs.Atc040.{cache040Of, Sized040, Stepped040}
-use Rattle.inplace.specs.declared.Plan.{Plan}
-use Rattle.inplace.specs.declared.Plan.the-variants as plan
+use Rattle.plan.specs.declared.Plan.{Plan}
+use Rattle.plan.specs.declared.Plan.the-variants as plan
 use Rattle.inplace.specs.Stages.{answered, end030, resident040, end040, onWalks, concludeAccess}
-use Rattle.inplace.specs.InPlace.{cachesOf, SizedAll, Ended, Ended040, AnsweredIn}
+use Rattle.plan.specs.Arrays.{cachesOf, SizedAll}
+use Rattle.inplace.specs.InPlace.{Ended, Ended040, AnsweredIn}
 
 -- ---- a resident 68040 page
 module _ (tc address : ℕ) (supervisor write : Bool) {ks bs : List ℕ} where

@@ -3,7 +3,3 @@ pub mod Searching
 pub mod Planning
 pub mod Concluding
 pub mod Translating
-pub mod Testing
-pub mod Probing
-pub mod Flushing
-pub mod Watched

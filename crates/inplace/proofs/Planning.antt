@@ -3,10 +3,8 @@ use Prim.Native.Nat.{ℕ, _/_, _^_, _<_}
 use mathlib.Core.Path.{_≡_, refl, ap, sym, _∙_}
 use mathlib.Core.List.{List}
 use mathlib.Core.Bool.{Bool, true, false, not}
-use native.Mathlib.Omega.{arith}
 use borrow.Author.Tests.{eq-eqb, ne-eqb}
-use Rattle.definition.specs.Words.{if_then_else_, bitOf}
-use Rattle.definition.specs.Registers.{on, codeOf, asSupervisor, asInstruction, walkCode, comparedCode}
+use Rattle.definition.specs.Registers.{on, asSupervisor, asInstruction, walkCode, comparedCode}
 use Rattle.definition.specs.Transparent.{transparent}
 use Rattle.definition.specs.Walk030.{shiftOf}
 use Rattle.definition.specs.Walk040.{pageBits}
@@ -17,27 +15,16 @@ use Rattle.definition.specs.declared.Registers.{Registers}
 use Rattle.definition.specs.declared.Access.{Access}
 use Rattle.cache.specs.Atc030.{cacheOf, Sized}
 use Rattle.cache.specs.Atc040.{cache040Of}
-use Rattle.inplace.specs.declared.Plan.{Plan}
-use Rattle.inplace.specs.Stages.{checksOf, lookPlan040, plan030, planOn, accessRefusal, planAccess}
-use Rattle.inplace.specs.InPlace.{cachesOf, SizedAll, PlannedIn030, PlannedIn}
-
-pub code-small : (supervisor instruction : Bool) → codeOf supervisor instruction < 8
-code-small false false = omega arith
-code-small false true = omega arith
-code-small true false = omega arith
-code-small true true = omega arith
+use Rattle.plan.specs.declared.Plan.{Plan}
+use Rattle.plan.specs.Plans.{checksOf}
+use Rattle.inplace.specs.Stages.{lookPlan040, plan030, planOn, accessRefusal, planAccess}
+use Rattle.plan.specs.Arrays.{cachesOf, SizedAll}
+use Rattle.plan.proofs.Bounds.{code-small}
+use Rattle.inplace.specs.InPlace.{PlannedIn030, PlannedIn}
 
 -- the walk's code is below 8
 pub walk-small : (a : Access) {code : ℕ} → code ≡ walkCode a → code < 8
 walk-small a e = rw e (code-small (asSupervisor a) (asInstruction a))
-
--- a page's bits are below 32
-pub bits-small : (tc : ℕ) {bits : ℕ} → bits ≡ pageBits tc → bits < 32
-bits-small tc e = rw e (go (bitOf tc 14))
-  where
-    go : (b : Bool) → (if b then 13 else 12) < 32
-    go true = omega arith
-    go false = omega arith
 
 module _ (g : Registers) (a : Access) {ts ps ss ms ks bs : List ℕ} (z : SizedAll ts ps ss ms ks bs) {code : ℕ} {i t : Bool}
     (compared : code ≡ comparedCode a) (instruction : i ≡ asInstruction a) (is-tt : t ≡ transparent g (a .address) code i) where

@@ -1,14 +1,10 @@
 -- What the parts of a 68030 search give together. Assumes nothing.
-use Prim.Native.Nat.{ℕ, _+_, _-_, _/_, _%_, _^_, _≤_, _<_}
+use Prim.Native.Nat.{ℕ, _-_, _/_, _%_, _^_, _≤_, _<_}
 use mathlib.Core.Path.{_≡_, refl, ap, sym, _∙_}
 use mathlib.Core.List.{List, []}
 use mathlib.Core.Bool.{Bool, true, false, not, _&&_}
-use native.Mathlib.Omega.{arith}
-use native.Mathlib.Nat.{mod-eq-of-lt}
-use borrow.Author.Tests.{leb-true}
-use lib.Dec.{leb}
 use Rattle.definition.specs.Words.{if_then_else_, bitOf}
-use Rattle.definition.specs.Walk030.{used, widthsOf, isOf, sumOf, shiftFrom, shiftOf, physicalOf}
+use Rattle.definition.specs.Walk030.{shiftOf, physicalOf}
 use Rattle.definition.specs.Cache030.{Cache030, inserted}
 use Rattle.definition.specs.Translate.{Searched, baseOf, violation, busError, configuration, cached, onPage030}
 use Rattle.definition.specs.declared.Shift.{Shift}
@@ -22,29 +18,10 @@ use Rattle.definition.specs.declared.Translation.{Translation}
 use Rattle.tables.specs.declared.Way.{Way}
 use Rattle.tables.specs.declared.Walked.{Walked}
 use Rattle.cache.specs.Atc030.{cacheOf, Sized, Stepped, Looked}
-use Rattle.inplace.specs.declared.Plan.{Plan}
+use Rattle.plan.specs.declared.Plan.{Plan}
+use Rattle.plan.proofs.Bounds.{in-three-bits}
 use Rattle.inplace.specs.Stages.{lookPlan, plan030, missingCause, permittedOf, page030, end030}
 use Rattle.inplace.specs.InPlace.{PlannedIn030, Ended}
-
--- the page shift is below 32
-from-small : (sum s : ℕ) → shiftFrom sum ≡ Bits s → s < 32
-from-small sum s e = go (leb 1 sum) (leb sum 31) refl e
-  where
-    bits : (n : ℕ) → Bits n ≡ Bits s → n ≡ s
-    bits n e = cc
-
-    go : (b d : Bool) → leb 1 sum ≡ b → (if b && d then Bits (32 - sum) else NoPage) ≡ Bits s → s < 32
-    go true true h e = omega (arith, bits (32 - sum) e, leb-true 1 sum h)
-    go true false h e = let z : _≡_ {A = ℕ} 0 1 = cc in omega arith
-    go false true h e = let z : _≡_ {A = ℕ} 0 1 = cc in omega arith
-    go false false h e = let z : _≡_ {A = ℕ} 0 1 = cc in omega arith
-
-pub shift-small : (tc : ℕ) {r : Shift} {s : ℕ} → r ≡ shiftOf tc → r ≡ Bits s → s < 32
-shift-small tc {r} {s} e f = from-small (isOf tc + sumOf (used (widthsOf tc))) s (sym e ∙ f)
-
--- a code below 8 is the code that a look or an insert takes
-pub in-three-bits : {code : ℕ} → code < 8 → code % 8 ≡ code
-in-three-bits h = mod-eq-of-lt h
 
 module _ {ts ps ss ms : List ℕ} (code address : ℕ) {r s : Shift} (is : r ≡ s) where
   -- ---- the plan

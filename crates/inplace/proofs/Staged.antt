@@ -16,7 +16,7 @@ use Rattle.definition.specs.Cache040.{Cache040, hit040}
 use Rattle.definition.specs.Refusal.{badBase, badRange, refusalOf}
 use Rattle.definition.specs.Translate.{Caches, Translated, translated, atOnce, Searched, searched, violation, cached, onEnd030, concluded030, search030, onHit030, with030, beside, translate030, onEnd040, concluded040, onHit040, translate040, inOrder, translateChecks, translate}
 use Rattle.definition.specs.Load.{Loaded, loaded, stopped, searchedFor, loadInOrder, loadChecks, load}
-use Rattle.definition.specs.Test.{Tested, tested, flag, statusOf, testInOrder, testChecks, test}
+use Rattle.definition.specs.Test.{tested, flag, statusOf}
 use Rattle.definition.specs.declared.Registers.{Registers}
 use Rattle.definition.specs.declared.Access.{Access}
 use Rattle.definition.specs.declared.Shift.{Shift}
@@ -33,9 +33,10 @@ use Rattle.definition.specs.declared.Load.{Load}
 use Rattle.definition.specs.declared.Test.{Test}
 use Rattle.tables.specs.Walked.{shown, shown040, walksOf}
 use Rattle.tables.specs.declared.Way.{Way}
-use Rattle.inplace.specs.declared.Plan.{Plan}
+use Rattle.plan.specs.declared.Plan.{Plan}
 use Rattle.inplace.specs.InPlace.{AnsweredIn}
-use Rattle.inplace.specs.Stages.{Planned, planned, Planned030, planned030, wayOf, with030Of, with040Of, besidePlan, lookPlan, plan030, lookPlan040, plan040, planOn, accessRefusal, planAccess, Answered, answered, shownTranslated, end030, Searched040, searched040, resident040, end040, onWalks, concludeAccess, loadPlan, loadRefusal, planLoad, LoadEnded, shownLoaded, loadWalks, concludeLoad, testRefusal, planTest, TestAnswered, shownTested, testWalks, concludeTest}
+use Rattle.plan.specs.Plans.{wayOf}
+use Rattle.inplace.specs.Stages.{Planned, planned, Planned030, planned030, with030Of, with040Of, besidePlan, lookPlan, plan030, lookPlan040, plan040, planOn, accessRefusal, planAccess, Answered, answered, shownTranslated, end030, Searched040, searched040, resident040, end040, onWalks, concludeAccess, loadPlan, loadRefusal, planLoad, LoadEnded, shownLoaded, loadWalks, concludeLoad}
 
 -- ---- an end's answer and cache don't depend on what was asked for
 module _ (tc : ℕ) (c : Cache030) (code address : ℕ) (write wp sup : Bool) (asked : List ℕ) where
@@ -164,18 +165,3 @@ module _ (g : Registers) (code : ℕ) (write : Bool) (address : ℕ) (m : Memory
       stays : (b : Bool) (x y : Loaded) → x .caches .c040 ≡ c .c040 → y .caches .c040 ≡ c .c040 → (if b then x else y) .caches .c040 ≡ c .c040
       stays true x y h k = h
       stays false x y h k = k
-
--- ---- test
-module _ (g : Registers) (code : ℕ) (write : Bool) (level address : ℕ) (m : Memory) where
-  abbrev pub finishTest : Plan → TestAnswered
-  finishTest p = concludeTest code p (walksOf m g address (wayOf p))
-
-  test-if : (b : Bool) (x y : Plan) (t u : Tested) → finishTest x ≡ shownTested t → finishTest y ≡ shownTested u
-      → finishTest (if b then x else y) ≡ shownTested (if b then t else u)
-  test-if true x y t u h k = h
-  test-if false x y t u h k = k
-
-  pub test-staged : finishTest (planTest g code level address (badBase m) (badRange m)) ≡ shownTested (test g code write level address m)
-  unfolding test testInOrder planTest testRefusal testWalks concludeTest
-  test-staged =
-      test-if (eqb (refusalOf (testChecks g code level m)) 0) _ _ _ _ (test-if (eqb level 0) _ _ _ _ refl refl) refl

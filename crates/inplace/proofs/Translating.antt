@@ -27,12 +27,14 @@ use Rattle.tables.specs.declared.Walks.the-variants as walks
 use Rattle.tables.specs.declared.Walked.{Walked}
 use Rattle.tables.specs.declared.Walked040.{Walked040}
 use Rattle.cache.specs.Atc030.{cacheOf, Sized, Stepped}
-use Rattle.inplace.specs.declared.Plan.{Plan}
-use Rattle.inplace.specs.declared.Plan.the-variants as plan
-use Rattle.inplace.specs.Stages.{checksOf, Planned030, planned030, wayOf, planAccess, shownTranslated, onWalks, concludeAccess, end030, loadPlan, loadRefusal, planLoad, shownLoaded, loadWalks, concludeLoad}
-use Rattle.inplace.specs.InPlace.{cachesOf, pairWith, PlannedIn, PlannedIn030, Ended, AnsweredIn, LoadedIn}
+use Rattle.plan.specs.declared.Plan.{Plan}
+use Rattle.plan.specs.declared.Plan.the-variants as plan
+use Rattle.plan.specs.Plans.{checksOf, wayOf}
+use Rattle.inplace.specs.Stages.{Planned030, planned030, planAccess, shownTranslated, onWalks, concludeAccess, end030, loadPlan, loadRefusal, planLoad, shownLoaded, loadWalks, concludeLoad}
+use Rattle.plan.specs.Arrays.{cachesOf, pairWith}
+use Rattle.inplace.specs.InPlace.{PlannedIn, PlannedIn030, Ended, AnsweredIn, LoadedIn}
 use Rattle.inplace.proofs.Staged.{translated-by, load-staged}
-use Rattle.inplace.proofs.Searching.{in-three-bits}
+use Rattle.plan.proofs.Bounds.{in-three-bits}
 use Rattle.inplace.proofs.Concluding.{concluded-refused, concluded-settled, concluded-walk}
 
 -- ---- translate

@@ -3,7 +3,7 @@
 use Prim.Native.Nat.{ℕ, _+_, _/_, _^_}
 use mathlib.Core.Path.{_≡_}
 use mathlib.Core.List.{List, []}
-use mathlib.Core.Bool.{Bool, true, false, not, _&&_, _||_}
+use mathlib.Core.Bool.{Bool, true, false, not, _&&_}
 use lib.Dec.{eqb}
 use lib.ListN.{length}
 use Rattle.definition.specs.Words.{if_then_else_}
@@ -13,10 +13,9 @@ use Rattle.definition.specs.Walk030.{everyLevel, shiftOf}
 use Rattle.definition.specs.Walk040.{pageBits, frameOf, physical040}
 use Rattle.definition.specs.Cache030.{Cache030, hitOf, afterHit, flushedPage}
 use Rattle.definition.specs.Cache040.{Cache040, hit040, inserted040}
-use Rattle.definition.specs.Refusal.{Checks, noFamily, not030, aboveSeven, badCache, badOverride, refusalOf}
+use Rattle.definition.specs.Refusal.{noFamily, not030, aboveSeven, badCache, badOverride, refusalOf}
 use Rattle.definition.specs.Translate.{Caches, Translated, Searched, hitAddress, joined, violation, busError, onPage030, onEnd030}
 use Rattle.definition.specs.Load.{Loaded, stopped}
-use Rattle.definition.specs.Test.{Tested, flag, mmusrOf}
 use Rattle.definition.specs.declared.Registers.{Registers}
 use Rattle.definition.specs.declared.Access.{Access}
 use Rattle.definition.specs.declared.Shift.{Shift}
@@ -29,19 +28,13 @@ use Rattle.definition.specs.declared.FaultCause.{FaultCause}
 use Rattle.definition.specs.declared.FaultCause.the-variants as cause
 use Rattle.definition.specs.declared.Translation.{Translation}
 use Rattle.definition.specs.declared.Load.{Load}
-use Rattle.definition.specs.declared.Test.{Test}
 use Rattle.tables.specs.declared.Way.{Way}
-use Rattle.tables.specs.declared.Way.the-variants as way
 use Rattle.tables.specs.declared.Walks.{Walks}
 use Rattle.tables.specs.declared.Walks.the-variants as walks
 use Rattle.tables.specs.declared.Walked.{Walked}
-use Rattle.inplace.specs.declared.Plan.{Plan}
-use Rattle.inplace.specs.declared.Plan.the-variants as plan
-
--- the checks of a library call, in the order in which they are given
-abbrev pub checksOf : Bool → Bool → Bool → Bool → Bool → Bool → Checks
-checksOf one six five two three four =
-    record { one = one; two = two; three = three; four = four; five = five; six = six; eight = false }
+use Rattle.plan.specs.declared.Plan.{Plan}
+use Rattle.plan.specs.declared.Plan.the-variants as plan
+use Rattle.plan.specs.Plans.{checksOf}
 
 -- a plan, and the caches after it
 pub record Planned : Type 0 where
@@ -58,11 +51,6 @@ pub record Planned030 : Type 0 where
 
 abbrev pub planned030 : Plan → Cache030 → Planned030
 planned030 p c = record { plan = p; cache = c }
-
-abbrev pub wayOf : Plan → Way
-wayOf (plan.Refused n) = way.Idle
-wayOf (plan.Settled x) = way.Idle
-wayOf (plan.Walk w) = w
 
 -- the 68030 cache of a pair replaced
 abbrev pub with030Of : Caches → Cache030 → Caches
@@ -222,37 +210,3 @@ unfoldable pub concludeLoad : ℕ → ℕ → ℕ → Bool → Cache030 → Plan
 concludeLoad tc code address write c (plan.Refused n) w = loadEnded (Load.Refused n) 0 c
 concludeLoad tc code address write c (plan.Settled x) w = loadEnded Load.Loaded 0 c
 concludeLoad tc code address write c (plan.Walk x) w = loadWalks tc code address write c w
-
--- ---- test
-unfoldable pub testRefusal : Registers → ℕ → ℕ → Bool → Bool → ℕ
-testRefusal g code level two three =
-    refusalOf (checksOf (noFamily (g .family)) (not030 (g .family)) (aboveSeven code || aboveSeven level) two three false)
-
-unfoldable pub planTest : Registers → ℕ → ℕ → ℕ → Bool → Bool → Plan
-planTest g code level address two three =
-    if eqb (testRefusal g code level two three) 0
-    then if eqb level 0
-    then Plan.Settled (flag (transparent030 g address code) 0x0040)
-    else Plan.Walk (Way.By030 code level)
-    else Plan.Refused (testRefusal g code level two three)
-
-pub record TestAnswered : Type 0 where
-  pub answer : Test
-  pub count : ℕ
-
-abbrev pub testAnswered : Test → ℕ → TestAnswered
-testAnswered t n = record { answer = t; count = n }
-
-abbrev pub shownTested : Tested → TestAnswered
-shownTested t = testAnswered (t .answer) (length (t .asked))
-
-unfoldable pub testWalks : ℕ → Walks → TestAnswered
-testWalks code walks.Idle = testAnswered (Test.Status 0 0) 0
-testWalks code (walks.By030 w) =
-    testAnswered (Test.Status (mmusrOf code (w .wp) (w .sup) (w .levels) (w .end)) (w .last)) (w .asked)
-testWalks code (walks.By040 w) = testAnswered (Test.Status 0 0) 0
-
-unfoldable pub concludeTest : ℕ → Plan → Walks → TestAnswered
-concludeTest code (plan.Refused n) w = testAnswered (Test.Refused n) 0
-concludeTest code (plan.Settled x) w = testAnswered (Test.Status x 0) 0
-concludeTest code (plan.Walk x) w = testWalks code w

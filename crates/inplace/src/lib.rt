@@ -1,31 +1,4 @@
-// The calls of document 01 in place, over arrays that the caller keeps: translate, load, test, probe and the four flushes.
-// A call that walks has three stages: it plans (refusals, transparent registers, cache), walks, and concludes (fault or address, insert).
-pub mod checks;
-pub mod flush;
+// Translate and load of document 01 in place, over arrays that the caller keeps. Each plans, walks and concludes (crate `plan`).
 pub mod load;
-pub mod probe;
 mod search;
-pub mod test;
 pub mod translate;
-
-use tables::Way;
-ghost use mathlib.Core.Path.{_≡_};
-ghost use Rattle.inplace.specs.Stages.{wayOf};
-
-// What is settled before the tables are asked: a refusal, a number (an address or a status), or the walk to make.
-pub enum Plan {
-    Refused(u32),
-    Settled(u32),
-    Walk(Way),
-}
-
-// The walk that a plan wants, if it wants one.
-pub fn way_of(plan: Plan) -> Way
-    ensures { λ r. ⌜ r ≡ wayOf plan ⌝ }
-{
-    match plan {
-        Plan::Refused(_) => Way::Idle,
-        Plan::Settled(_) => Way::Idle,
-        Plan::Walk(way) => way,
-    }
-}

@@ -1,6 +1,4 @@
 // Load: 'PLOAD, only with an enabled PMMU, drops the page (mask 7), stops if there is no page shift or TT0 or TT1 matches, and searches and caches.'
-use crate::Plan;
-use crate::checks;
 use crate::search;
 use cache::atc030::bad_cache;
 use cache::atc030::flush_page;
@@ -8,6 +6,8 @@ use definition::Load;
 use definition::Range;
 use definition::Registers;
 use definition::Shift;
+use plan::Plan;
+use plan::checks;
 use tables::Walks;
 use tables::Way;
 ghost use mathlib.Core.Path.{_≡_};
@@ -22,7 +22,8 @@ ghost use Rattle.definition.specs.Cache040.{Cache040};
 ghost use Rattle.definition.specs.Load.{stopped, load};
 ghost use Rattle.cache.specs.Atc030.{cacheOf, Sized};
 ghost use Rattle.inplace.specs.Stages.{loadPlan, planLoad, loadWalks, concludeLoad, shownLoaded};
-ghost use Rattle.inplace.specs.InPlace.{pairWith, PlannedIn030, LoadedIn};
+ghost use Rattle.plan.specs.Arrays.{pairWith};
+ghost use Rattle.inplace.specs.InPlace.{PlannedIn030, LoadedIn};
 
 // An answer with its count.
 pub struct LoadOutcome {
@@ -174,7 +175,7 @@ pub fn load_in(
 {
     let two = tables::bad_base(longs.len(), base);
     let plan = plan_load(tags, pages, stamps, marks, two, three, g, code, address);
-    let way = crate::way_of(plan);
+    let way = plan::way_of(plan);
     let walks = tables::walk_kept(longs, base, list, n, g, address, way);
     conclude_load(
         tags,

@@ -1,5 +1,4 @@
 // A 68030 search: what is planned before the walk, and what the walk's end gives. Translate and load share it.
-use crate::Plan;
 use cache::atc030::insert;
 use cache::atc030::look;
 use definition::End;
@@ -8,6 +7,7 @@ use definition::FaultKind;
 use definition::Hit;
 use definition::Shift;
 use definition::Translation;
+use plan::Plan;
 use tables::Walked;
 use tables::Way;
 ghost use mathlib.Core.Path.{_≡_};

@@ -1,6 +1,4 @@
 // Translate: 'No PMMU or not enabled: the address itself. .. Then transparent registers, cache, walk.'
-use crate::Plan;
-use crate::checks;
 use crate::search;
 use cache::atc030::bad_cache;
 use cache::atc040::insert_040;
@@ -12,6 +10,8 @@ use definition::Hit;
 use definition::Range;
 use definition::Registers;
 use definition::Translation;
+use plan::Plan;
+use plan::checks;
 use tables::Walks;
 use tables::Way;
 ghost use mathlib.Core.Path.{_≡_};
@@ -25,7 +25,8 @@ ghost use Rattle.definition.specs.Walk040.{pageBits};
 ghost use Rattle.definition.specs.Cache040.{hit040};
 ghost use Rattle.cache.specs.Atc040.{cache040Of, Sized040};
 ghost use Rattle.inplace.specs.Stages.{lookPlan040, planOn, planAccess, resident040, end040, onWalks, concludeAccess, shownTranslated};
-ghost use Rattle.inplace.specs.InPlace.{cachesOf, SizedAll, PlannedIn, Ended040, AnsweredIn};
+ghost use Rattle.plan.specs.Arrays.{cachesOf, SizedAll};
+ghost use Rattle.inplace.specs.InPlace.{PlannedIn, Ended040, AnsweredIn};
 
 // An answer with its count: how many longs were asked for.
 pub struct Outcome {

@@ -18,10 +18,12 @@ use Rattle.tables.specs.Walked.{walksOf}
 use Rattle.tables.specs.declared.Way.{Way}
 use Rattle.tables.specs.declared.Walks.{Walks}
 use Rattle.cache.specs.Atc030.{cacheOf}
-use Rattle.inplace.specs.declared.Plan.{Plan}
-use Rattle.inplace.specs.declared.Plan.the-variants as plan
-use Rattle.inplace.specs.Stages.{wayOf, planAccess, shownTranslated, concludeAccess, planLoad, shownLoaded, concludeLoad}
-use Rattle.inplace.specs.InPlace.{cachesOf, pairWith, PlannedIn, PlannedIn030, AnsweredIn, LoadedIn}
+use Rattle.plan.specs.declared.Plan.{Plan}
+use Rattle.plan.specs.declared.Plan.the-variants as plan
+use Rattle.plan.specs.Plans.{wayOf}
+use Rattle.inplace.specs.Stages.{planAccess, shownTranslated, concludeAccess, planLoad, shownLoaded, concludeLoad}
+use Rattle.plan.specs.Arrays.{cachesOf, pairWith}
+use Rattle.inplace.specs.InPlace.{PlannedIn, PlannedIn030, AnsweredIn, LoadedIn}
 use Rattle.inplace.proofs.Staged.{translated-by}
 use Rattle.inplace.proofs.Translating.{in-refused, in-settled, load-by}
 use Rattle.lent.specs.Settled.{isSettled, settledAnswer}

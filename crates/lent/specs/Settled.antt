@@ -2,8 +2,8 @@
 use Prim.Native.Nat.{ℕ}
 use mathlib.Core.Bool.{Bool, true, false}
 use Rattle.definition.specs.declared.Translation.{Translation}
-use Rattle.inplace.specs.declared.Plan.{Plan}
-use Rattle.inplace.specs.declared.Plan.the-variants as plan
+use Rattle.plan.specs.declared.Plan.{Plan}
+use Rattle.plan.specs.declared.Plan.the-variants as plan
 
 abbrev pub isSettled : Plan → Bool
 isSettled (plan.Refused n) = true

@@ -4,12 +4,12 @@ use definition::Access;
 use definition::Range;
 use definition::Registers;
 use definition::Translation;
-use inplace::Plan;
-use inplace::checks;
 use inplace::load;
 use inplace::load::LoadOutcome;
 use inplace::translate;
 use inplace::translate::Outcome;
+use plan::Plan;
+use plan::checks;
 use tables::Walks;
 ghost use mathlib.Core.Path.{_≡_};
 ghost use Prim.Native.Nat.{_%_};
@@ -20,7 +20,8 @@ ghost use Rattle.definition.specs.Cache040.{Cache040};
 ghost use Rattle.cache.specs.Atc030.{cacheOf};
 ghost use Rattle.inplace.specs.Stages.{planAccess, shownTranslated, planLoad, concludeLoad, shownLoaded};
 ghost use Rattle.lent.specs.Settled.{isSettled, settledAnswer};
-ghost use Rattle.inplace.specs.InPlace.{cachesOf, pairWith, PlannedIn, PlannedIn030, AnsweredIn, LoadedIn};
+ghost use Rattle.plan.specs.Arrays.{cachesOf, pairWith};
+ghost use Rattle.inplace.specs.InPlace.{PlannedIn, PlannedIn030, AnsweredIn, LoadedIn};
 
 // ---- Translate.
 
@@ -104,7 +105,7 @@ pub fn translate_lent(
         return settled(plan);
     }
     let address = address_of(a);
-    let way = inplace::way_of(plan);
+    let way = plan::way_of(plan);
     let walks = tables::walk_for(longs, base, ranges, g, address, way);
     translate::conclude_access(tags, pages, stamps, marks, keys, bases, g, a, plan, walks)
 }
@@ -176,7 +177,7 @@ pub fn load_lent(
     let two = checks::bad_longs(longs, base);
     let three = tables::any_crossed(ranges);
     let plan = planned_load(tags, pages, stamps, marks, two, three, g, code, address);
-    let way = inplace::way_of(plan);
+    let way = plan::way_of(plan);
     let walks = tables::walk_for(longs, base, ranges, g, address, way);
     concluded_load(
         tags,

@@ -26,12 +26,14 @@ use Rattle.mmu.specs.declared.by_value.PlannedPair.{PlannedPair}
 use Rattle.mmu.specs.declared.by_value.Translated.{Translated}
 use Rattle.mmu.specs.declared.by_value.Loaded.{Loaded}
 use Rattle.mmu.specs.declared.by_value.Flushed.{Flushed}
-use Rattle.inplace.specs.Stages.{wayOf, planAccess, shownTranslated, concludeAccess, planLoad, shownLoaded, concludeLoad}
-use Rattle.inplace.specs.InPlace.{PlannedIn, PlannedIn030, AnsweredIn, LoadedIn, FlushedIn030, FlushedIn040}
+use Rattle.plan.specs.Plans.{wayOf}
+use Rattle.inplace.specs.Stages.{planAccess, shownTranslated, concludeAccess, planLoad, shownLoaded, concludeLoad}
+use Rattle.inplace.specs.InPlace.{PlannedIn, PlannedIn030, AnsweredIn, LoadedIn}
+use Rattle.flush.specs.Flushed.{FlushedIn030, FlushedIn040}
 use Rattle.mmu.specs.ByValue.{translatedWith, TranslatedBy, loadedWith, LoadedBy, flushedWith, FlushedBy, Beside}
 use Rattle.inplace.proofs.Staged.{translated-by, load-beside}
 use Rattle.inplace.proofs.Translating.{load-by}
-pub use Rattle.inplace.proofs.Testing.{test-by}
+pub use Rattle.inquiry.proofs.Testing.{test-by}
 
 -- a pair of arrays
 abbrev pub arrays : List ℕ → List ℕ → List ℕ → List ℕ → List ℕ → List ℕ → CachePair

@@ -22,12 +22,11 @@ use Rattle.definition.proofs.Refusals.{numbers, inTranslation, translate-refuse
 use Rattle.cache.specs.Pair.{pairOf, Whole}
 use Rattle.cache.specs.declared.CachePair.{CachePair}
 use Rattle.cache.proofs.Pairs.{pair-same}
-use Rattle.inplace.specs.declared.test.TestOutcome.{TestOutcome}
+use Rattle.inquiry.specs.declared.test.TestOutcome.{TestOutcome}
 use Rattle.mmu.specs.declared.by_value.Translated.{Translated}
 use Rattle.mmu.specs.declared.by_value.Loaded.{Loaded}
 use Rattle.mmu.specs.declared.by_value.Flushed.{Flushed}
-use Rattle.inplace.specs.Stages.{shownTested}
-use Rattle.inplace.specs.InPlace.{TestedIn}
+use Rattle.inquiry.specs.Tested.{shownTested, TestedIn}
 use Rattle.mmu.specs.ByValue.{TranslatedBy, LoadedBy, FlushedBy}
 
 module _ (g : Registers) (a : Access) (m : Memory) (c : CachePair) (r : Translated) (k : TranslatedBy (translate g a m (pairOf c)) r) where

@@ -9,12 +9,11 @@ use Rattle.definition.specs.declared.Test.{Test}
 use Rattle.definition.specs.declared.Probe.{Probe}
 use Rattle.definition.specs.declared.Flush.{Flush}
 use Rattle.cache.proofs.Pairs.{pair-same}
-use Rattle.inplace.specs.declared.test.TestOutcome.{TestOutcome}
+use Rattle.inquiry.specs.declared.test.TestOutcome.{TestOutcome}
 use Rattle.mmu.specs.declared.by_value.Translated.{Translated}
 use Rattle.mmu.specs.declared.by_value.Loaded.{Loaded}
 use Rattle.mmu.specs.declared.by_value.Flushed.{Flushed}
-use Rattle.inplace.specs.Stages.{TestAnswered}
-use Rattle.inplace.specs.InPlace.{TestedIn}
+use Rattle.inquiry.specs.Tested.{TestAnswered, TestedIn}
 use Rattle.mmu.specs.ByValue.{translatedWith, TranslatedBy, loadedWith, LoadedBy, flushedWith, FlushedBy}
 
 pub translate-single : (t : TranslatedOf) (r s : Translated) → TranslatedBy t r → TranslatedBy t s → r ≡ s

@@ -8,14 +8,13 @@ use definition::Probe;
 use definition::Range;
 use definition::Registers;
 use definition::Translation;
-use inplace::Plan;
-use inplace::checks;
-use inplace::flush;
 use inplace::load;
-use inplace::probe;
-use inplace::test;
-use inplace::test::TestOutcome;
 use inplace::translate;
+use inquiry::probe;
+use inquiry::test;
+use inquiry::test::TestOutcome;
+use plan::Plan;
+use plan::checks;
 use tables::Walks;
 use tables::Way;
 ghost use mathlib.Core.Path.{_≡_};
@@ -27,8 +26,10 @@ ghost use Rattle.definition.specs.Test.{test as testOf};
 ghost use Rattle.definition.specs.Probe.{probe as probeOf};
 ghost use Rattle.definition.specs.Flush.{flushAll, flushCode, flushPage, flushFrame};
 ghost use Rattle.cache.specs.Pair.{pairOf};
-ghost use Rattle.inplace.specs.Stages.{wayOf, planAccess, concludeAccess, planLoad, concludeLoad, shownTested};
-ghost use Rattle.inplace.specs.InPlace.{PlannedIn, PlannedIn030, AnsweredIn, LoadedIn, TestedIn};
+ghost use Rattle.plan.specs.Plans.{wayOf};
+ghost use Rattle.inplace.specs.Stages.{planAccess, concludeAccess, planLoad, concludeLoad};
+ghost use Rattle.inquiry.specs.Tested.{shownTested, TestedIn};
+ghost use Rattle.inplace.specs.InPlace.{PlannedIn, PlannedIn030, AnsweredIn, LoadedIn};
 ghost use Rattle.mmu.specs.ByValue.{TranslatedBy, LoadedBy, FlushedBy, Beside};
 
 // An answer, its count and the next caches.
@@ -62,7 +63,7 @@ fn wanted(p: PlannedPair) -> Way
     ensures { λ r. ⌜ r ≡ wayOf (p .plan) ⌝ }
 {
     let plan = p.plan;
-    inplace::way_of(plan)
+    plan::way_of(plan)
 }
 
 // ---- Translate.
@@ -296,7 +297,7 @@ pub fn test(
     let two = checks::bad_longs(longs, base);
     let three = tables::any_crossed(ranges);
     let plan = test::plan_test(two, three, g, code, level, address);
-    let way = inplace::way_of(plan);
+    let way = plan::way_of(plan);
     let walks = tables::walk_for(longs, base, ranges, g, address, way);
     test::conclude_test(code, plan, walks)
 }

@@ -55,33 +55,34 @@ use Rattle.definition.specs.Load.{load as loadOf}
 use Rattle.definition.specs.Cache040.{Cache040}
 use Rattle.cache.specs.Atc030.{cacheOf}
 use Rattle.inplace.specs.Stages.{planLoad, concludeLoad, shownLoaded}
-use Rattle.inplace.specs.InPlace.{pairWith, PlannedIn030, LoadedIn}
+use Rattle.plan.specs.Arrays.{pairWith}
+use Rattle.inplace.specs.InPlace.{PlannedIn030, LoadedIn}
 use Rattle.definition.specs.Refusal.{badBase}
 use Rattle.definition.specs.Words.{anyOf}
 use Rattle.definition.specs.Refusal.{crossed}
 use Rattle.tables.specs.Walked.{walksOf}
-use Rattle.inplace.specs.Stages.{wayOf}
+use Rattle.plan.specs.Plans.{wayOf}
 use Rattle.definition.specs.declared.Range.{Range}
 use Rattle.definition.proofs.Range as row-Range
 use Rattle.definition.specs.declared.Registers.{Registers}
 use Rattle.definition.proofs.Registers as row-Registers
 use Rattle.definition.proofs.Registers.Laws as law-Registers
-use Rattle.inplace.specs.declared.Plan.{Plan}
-use Rattle.inplace.proofs.Plan as row-Plan
-use Rattle.inplace.proofs.Plan.Laws as law-Plan
 use Rattle.inplace.specs.declared.load.LoadOutcome.{LoadOutcome}
 use Rattle.inplace.proofs.load.LoadOutcome as row-LoadOutcome
 use Rattle.inplace.proofs.load.LoadOutcome.Laws as law-LoadOutcome
+use Rattle.plan.specs.declared.Plan.{Plan}
+use Rattle.plan.proofs.Plan as row-Plan
+use Rattle.plan.proofs.Plan.Laws as law-Plan
 use Rattle.tables.specs.declared.Walks.{Walks}
 use Rattle.tables.proofs.Walks as row-Walks
 use Rattle.tables.proofs.Walks.Laws as law-Walks
 use Rattle.tables.specs.declared.Way.{Way}
 use Rattle.tables.proofs.Way as row-Way
 use Rattle.tables.proofs.Way.Laws as law-Way
-use Rattle.inplace.proofs.checks.bad_longs as c0
-use Rattle.inplace.proofs.checks.bad_longs.Symbol as c0-def
-use Rattle.inplace.proofs.checks.bad_longs.Symbol.{name as #inplace·checks·bad-longs}
-use Rattle.inplace.proofs.checks.bad_longs.Met as c0-thm
+use Rattle.plan.proofs.checks.bad_longs as c0
+use Rattle.plan.proofs.checks.bad_longs.Symbol as c0-def
+use Rattle.plan.proofs.checks.bad_longs.Symbol.{name as #plan·checks·bad-longs}
+use Rattle.plan.proofs.checks.bad_longs.Met as c0-thm
 use Rattle.tables.proofs.any_crossed as c1
 use Rattle.tables.proofs.any_crossed.Symbol as c1-def
 use Rattle.tables.proofs.any_crossed.Symbol.{name as #tables·any-crossed}
@@ -90,10 +91,10 @@ use Rattle.lent.proofs.planned_load as c2
 use Rattle.lent.proofs.planned_load.Symbol as c2-def
 use Rattle.lent.proofs.planned_load.Symbol.{name as #lent·planned-load}
 use Rattle.lent.proofs.planned_load.Met as c2-thm
-use Rattle.inplace.proofs.way_of as c3
-use Rattle.inplace.proofs.way_of.Symbol as c3-def
-use Rattle.inplace.proofs.way_of.Symbol.{name as #inplace·way-of}
-use Rattle.inplace.proofs.way_of.Met as c3-thm
+use Rattle.plan.proofs.way_of as c3
+use Rattle.plan.proofs.way_of.Symbol as c3-def
+use Rattle.plan.proofs.way_of.Symbol.{name as #plan·way-of}
+use Rattle.plan.proofs.way_of.Met as c3-thm
 use Rattle.tables.proofs.walk_for as c4
 use Rattle.tables.proofs.walk_for.Symbol as c4-def
 use Rattle.tables.proofs.walk_for.Symbol.{name as #tables·walk-for}
@@ -202,7 +203,7 @@ module _ {M : Type 1} (𝓤 : URA M) (H : Heap 𝓤) (A : Atoms 𝓤) (W : Given
   goes-5 κ10 q10 κ11 q11 κ12 q12 κ13 q13 a0 v0 a1 v1 a2 v2 a3 v3 a4 v4 a5 v5 a6 v6 a7 v7 a8 v8 a9 v9 i4 i5 i6 i7 i8 i9 =
       qed W (‵ (flft κ10 q10) ∷ ‵ (flft κ11 q11) ∷ ‵ (flft κ12 q12) ∷ ‵ (flft κ13 q13) ∷ ‵ ((MutRef (named 0) κ10 (Array u64 22)) .own a0 (v0 ∷ [])) ∷ ‵ ((MutRef (named 1) κ11 (Array u64 22)) .own a1 (v1 ∷ [])) ∷ ‵ ((MutRef (named 2) κ12 (Array u64 22)) .own a2 (v2 ∷ [])) ∷ ‵ ((MutRef (named 3) κ13 (Array u64 3)) .own a3 (v3 ∷ [])) ∷ []) ∵ nothing ! $ owned ! row-Walks.the-row (Is row-Walks.the-row) (EL.makes row-Walks.the-type law-Walks.the-plain 𝓤 H A) a9 _ i9 $ fjoin ! $ owned ! row-Plan.the-row (Is row-Plan.the-row) (EL.makes row-Plan.the-type law-Plan.the-plain 𝓤 H A) a8 _ i8 $ fjoin ! $ owned ! u32 (Is u32) (uint-makes 𝓤 H A W w32) a7 _ i7 $ fjoin ! $ owned ! Boolean (Is Boolean) (bool-makes 𝓤 H A W) a6 _ i6 $ fjoin ! $ owned ! u32 (Is u32) (uint-makes 𝓤 H A W w32) a5 _ i5 $ fjoin ! $ owned ! row-Registers.the-row (Is row-Registers.the-row) (LL.makes row-Registers.the-type law-Registers.the-plain 𝓤 H A) a4 _ i4 $ fjoin ! $ move ! (8 ∷ 0 ∷ []) $ fjoin ! $ move ! (7 ∷ 0 ∷ []) $ fjoin ! $ move ! (6 ∷ 0 ∷ []) $ fjoin ! $ move ! (5 ∷ 0 ∷ []) $ fjoin ! $ nothing ! $ move ! (5 ∷ 0 ∷ []) $ join ! $ move ! (4 ∷ 0 ∷ []) $ join ! $ move ! (3 ∷ 0 ∷ []) $ join ! $ move ! (2 ∷ 0 ∷ []) $ join ! $ join ! $ frame ! $ done !
 
-  module _ (𝓣 : Tables 𝓤 H) (known-0 : Triple 𝓤 (𝓣 .C #inplace·checks·bad-longs) (C0 𝓤 H A mem run)) (known-1 : Triple 𝓤 (𝓣 .C #tables·any-crossed) (C1 𝓤 H A mem run)) (known-2 : Triple 𝓤 (𝓣 .C #lent·planned-load) (C2 𝓤 H A mem run)) (known-3 : Triple 𝓤 (𝓣 .C #inplace·way-of) (C3 𝓤 H A mem run)) (known-4 : Triple 𝓤 (𝓣 .C #tables·walk-for) (C4 𝓤 H A mem run)) (known-5 : Triple 𝓤 (𝓣 .C #lent·concluded-load) (C5 𝓤 H A mem run)) where
+  module _ (𝓣 : Tables 𝓤 H) (known-0 : Triple 𝓤 (𝓣 .C #plan·checks·bad-longs) (C0 𝓤 H A mem run)) (known-1 : Triple 𝓤 (𝓣 .C #tables·any-crossed) (C1 𝓤 H A mem run)) (known-2 : Triple 𝓤 (𝓣 .C #lent·planned-load) (C2 𝓤 H A mem run)) (known-3 : Triple 𝓤 (𝓣 .C #plan·way-of) (C3 𝓤 H A mem run)) (known-4 : Triple 𝓤 (𝓣 .C #tables·walk-for) (C4 𝓤 H A mem run)) (known-5 : Triple 𝓤 (𝓣 .C #lent·concluded-load) (C5 𝓤 H A mem run)) where
     abbrev C : Calls 𝓤 H
     C = 𝓣 .C
 
@@ -329,11 +330,11 @@ module _ {M : Type 1} (𝓤 : URA M) (H : Heap 𝓤) (A : Atoms 𝓤) (W : Given
         by ! (exits (ws34 .0) (ws34 .1 .0) (ws34 .1 .1 .0) (ws34 .1 .1 .1 .0) r31 (LL.val row-LoadOutcome.the-type law-LoadOutcome.the-laws r31) (subst (Is row-LoadOutcome.the-row r31) (LL.tells row-LoadOutcome.the-type law-LoadOutcome.the-laws r31 _ is33) is33) (law.loads x8 x9 x11 (cacheOf (now x1) (now x2) (now x3) (now x4)) _ _ e15 x10 (memory (now x5) x6 (now x7)) e3 e7 e20 e24 e32)))))))))))))))))))))))))))))))))))))))))))))))))))))))))))))))))))))
 
 module _ {M : Type 1} (𝓤 : URA M) (H : Heap 𝓤) (A : Atoms 𝓤) (W : Given 𝓤 H A) (mem : Memory → SProp 𝓤) (run : Routine → Fun 𝓤) (𝓣 : Tables 𝓤 H) where
-  self-walks : Triple 𝓤 (𝓣 .C #inplace·checks·bad-longs) (C0 𝓤 H A mem run) → Triple 𝓤 (𝓣 .C #tables·any-crossed) (C1 𝓤 H A mem run) → Triple 𝓤 (𝓣 .C #lent·planned-load) (C2 𝓤 H A mem run) → Triple 𝓤 (𝓣 .C #inplace·way-of) (C3 𝓤 H A mem run) → Triple 𝓤 (𝓣 .C #tables·walk-for) (C4 𝓤 H A mem run) → Triple 𝓤 (𝓣 .C #lent·concluded-load) (C5 𝓤 H A mem run) → AllWalks 𝓤 H A self.ended stayed (WpFn 𝓤 H (𝓣 .C) (𝓣 .Λ) code.function) (self.clauses 𝓤 H A mem run)
+  self-walks : Triple 𝓤 (𝓣 .C #plan·checks·bad-longs) (C0 𝓤 H A mem run) → Triple 𝓤 (𝓣 .C #tables·any-crossed) (C1 𝓤 H A mem run) → Triple 𝓤 (𝓣 .C #lent·planned-load) (C2 𝓤 H A mem run) → Triple 𝓤 (𝓣 .C #plan·way-of) (C3 𝓤 H A mem run) → Triple 𝓤 (𝓣 .C #tables·walk-for) (C4 𝓤 H A mem run) → Triple 𝓤 (𝓣 .C #lent·concluded-load) (C5 𝓤 H A mem run) → AllWalks 𝓤 H A self.ended stayed (WpFn 𝓤 H (𝓣 .C) (𝓣 .Λ) code.function) (self.clauses 𝓤 H A mem run)
   self-walks known-0 known-1 known-2 known-3 known-4 known-5 = walked 𝓤 H A self.ended stayed (self.clauses 𝓤 H A mem run) (WpFn 𝓤 H (𝓣 .C) (𝓣 .Λ) code.function) (λ κs. (ptr-vals, (ptr-vals, (ptr-vals, (ptr-vals, (slice-vals, (uint-vals w32, (slice-vals, (LL.vals row-Registers.the-type law-Registers.the-laws, (uint-vals w32, (bool-vals, (uint-vals w32, tt)))))))))))) (λ κs. (mut-tells (named 0) (κs .0) (Array u64 22), (mut-tells (named 1) (κs .1 .0) (Array u64 22), (mut-tells (named 2) (κs .1 .1 .0) (Array u64 22), (mut-tells (named 3) (κs .1 .1 .1 .0) (Array u64 3), (shr-slice-tells (named 4) (κs .1 .1 .1 .1 .0) u32, (uint-tells w32, (shr-slice-tells (named 5) (κs .1 .1 .1 .1 .1 .0) row-Range.the-row, (LL.tells row-Registers.the-type law-Registers.the-laws, (uint-tells w32, (bool-tells, (uint-tells w32, tt))))))))))))
       (λ κs qs bounds a g are. via 𝓤 _ (fst∗ 𝓤 _ (emp 𝓤)) (walk 𝓤 H A W mem run (κs .0) (κs .1 .0) (κs .1 .1 .0) (κs .1 .1 .1 .0) (κs .1 .1 .1 .1 .0) (κs .1 .1 .1 .1 .1 .0) (qs .0) (qs .1 .0) (qs .1 .1 .0) (qs .1 .1 .1 .0) (qs .1 .1 .1 .1 .0) (qs .1 .1 .1 .1 .1 .0) (a .0) (a .1 .0) (a .1 .1 .0) (a .1 .1 .1 .0) (a .1 .1 .1 .1 .0) (a .1 .1 .1 .1 .1 .0) (a .1 .1 .1 .1 .1 .1 .0) (a .1 .1 .1 .1 .1 .1 .1 .0) (a .1 .1 .1 .1 .1 .1 .1 .1 .0) (a .1 .1 .1 .1 .1 .1 .1 .1 .1 .0) (a .1 .1 .1 .1 .1 .1 .1 .1 .1 .1 .0) (are .0) (are .1 .0) (are .1 .1 .0) (are .1 .1 .1 .0) (are .1 .1 .1 .1 .0) (are .1 .1 .1 .1 .1 .0) (are .1 .1 .1 .1 .1 .1 .0) (are .1 .1 .1 .1 .1 .1 .1 .0) (are .1 .1 .1 .1 .1 .1 .1 .1 .0) (are .1 .1 .1 .1 .1 .1 .1 .1 .1 .0) (are .1 .1 .1 .1 .1 .1 .1 .1 .1 .1 .0) 𝓣 known-0 known-1 known-2 known-3 known-4 known-5))
 
-  self-meets : Triple 𝓤 (𝓣 .C #inplace·checks·bad-longs) (C0 𝓤 H A mem run) → Triple 𝓤 (𝓣 .C #tables·any-crossed) (C1 𝓤 H A mem run) → Triple 𝓤 (𝓣 .C #lent·planned-load) (C2 𝓤 H A mem run) → Triple 𝓤 (𝓣 .C #inplace·way-of) (C3 𝓤 H A mem run) → Triple 𝓤 (𝓣 .C #tables·walk-for) (C4 𝓤 H A mem run) → Triple 𝓤 (𝓣 .C #lent·concluded-load) (C5 𝓤 H A mem run) → Meets 𝓤 H A self.signature (WpFn 𝓤 H (𝓣 .C) (𝓣 .Λ) code.function) (self.spec 𝓤 H A mem run)
+  self-meets : Triple 𝓤 (𝓣 .C #plan·checks·bad-longs) (C0 𝓤 H A mem run) → Triple 𝓤 (𝓣 .C #tables·any-crossed) (C1 𝓤 H A mem run) → Triple 𝓤 (𝓣 .C #lent·planned-load) (C2 𝓤 H A mem run) → Triple 𝓤 (𝓣 .C #plan·way-of) (C3 𝓤 H A mem run) → Triple 𝓤 (𝓣 .C #tables·walk-for) (C4 𝓤 H A mem run) → Triple 𝓤 (𝓣 .C #lent·concluded-load) (C5 𝓤 H A mem run) → Meets 𝓤 H A self.signature (WpFn 𝓤 H (𝓣 .C) (𝓣 .Λ) code.function) (self.spec 𝓤 H A mem run)
   self-meets known-0 known-1 known-2 known-3 known-4 known-5 = walk-meets 𝓤 H A self.ended stayed W (goes-ref 𝓤 H A W 6 0 tt (plain (λ _. (Array u64 22))), (goes-ref 𝓤 H A W 6 1 tt (plain (λ _. (Array u64 22))), (goes-ref 𝓤 H A W 6 2 tt (plain (λ _. (Array u64 22))), (goes-ref 𝓤 H A W 6 3 tt (plain (λ _. (Array u64 3))), (goes-none-slice 𝓤 H A W 6 (4 ∷ []) tt (plain (λ _. u32)) yes, (goes-none 𝓤 H A W 6 (λ _. u32) yes (λ κs x f. refl), (goes-none-slice 𝓤 H A W 6 (5 ∷ []) tt (plain (λ _. row-Range.the-row)) yes, (goes-none 𝓤 H A W 6 (λ _. row-Registers.the-row) yes (λ κs x f. refl), (goes-none 𝓤 H A W 6 (λ _. u32) yes (λ κs x f. refl), (goes-none 𝓤 H A W 6 (λ _. Boolean) yes (λ κs x f. refl), (goes-none 𝓤 H A W 6 (λ _. u32) yes (λ κs x f. refl), tt))))))))))) (self.clauses 𝓤 H A mem run) (WpFn 𝓤 H (𝓣 .C) (𝓣 .Λ) code.function) (WpFn-mono 𝓤 H (W .laws) 𝓣 code.function) (self-walks known-0 known-1 known-2 known-3 known-4 known-5)
 
 pub load-lent-spec : {M : Type 1} → stated.statement M
@@ -342,9 +343,9 @@ load-lent-spec 𝓤 H 𝓜 𝓖 𝓡 =
     entered 𝓤 H (tripleOf 𝓤 H (𝓖 .A) self.signature (self.spec 𝓤 H (𝓖 .A) (𝓜 .mem) (𝓡 .run)))
     (tables 𝓤 H 𝓜 𝓡 code.env .C) (tables 𝓤 H 𝓜 𝓡 code.env .Λ) #lent·load-lent code.function (code.unfolded 𝓤 H 𝓜 𝓡)
     (self-meets 𝓤 H (𝓖 .A) (givenOf 𝓤 H 𝓜 𝓖) (𝓜 .mem) (𝓡 .run) (tablesOf 𝓤 H 𝓜 (tables 𝓤 H 𝓜 𝓡 code.env))
-    (cited 𝓤 H (C0 𝓤 H (𝓖 .A) (𝓜 .mem) (𝓡 .run)) 𝓜 𝓡 code.env #inplace·checks·bad-longs c0-def.routine code.calls-inplace·checks·bad-longs (c0-thm.met 𝓤 H 𝓜 𝓖 𝓡))
+    (cited 𝓤 H (C0 𝓤 H (𝓖 .A) (𝓜 .mem) (𝓡 .run)) 𝓜 𝓡 code.env #plan·checks·bad-longs c0-def.routine code.calls-plan·checks·bad-longs (c0-thm.met 𝓤 H 𝓜 𝓖 𝓡))
     (cited 𝓤 H (C1 𝓤 H (𝓖 .A) (𝓜 .mem) (𝓡 .run)) 𝓜 𝓡 code.env #tables·any-crossed c1-def.routine code.calls-tables·any-crossed (c1-thm.met 𝓤 H 𝓜 𝓖 𝓡))
     (cited 𝓤 H (C2 𝓤 H (𝓖 .A) (𝓜 .mem) (𝓡 .run)) 𝓜 𝓡 code.env #lent·planned-load c2-def.routine code.calls-lent·planned-load (c2-thm.met 𝓤 H 𝓜 𝓖 𝓡))
-    (cited 𝓤 H (C3 𝓤 H (𝓖 .A) (𝓜 .mem) (𝓡 .run)) 𝓜 𝓡 code.env #inplace·way-of c3-def.routine code.calls-inplace·way-of (c3-thm.met 𝓤 H 𝓜 𝓖 𝓡))
+    (cited 𝓤 H (C3 𝓤 H (𝓖 .A) (𝓜 .mem) (𝓡 .run)) 𝓜 𝓡 code.env #plan·way-of c3-def.routine code.calls-plan·way-of (c3-thm.met 𝓤 H 𝓜 𝓖 𝓡))
     (cited 𝓤 H (C4 𝓤 H (𝓖 .A) (𝓜 .mem) (𝓡 .run)) 𝓜 𝓡 code.env #tables·walk-for c4-def.routine code.calls-tables·walk-for (c4-thm.met 𝓤 H 𝓜 𝓖 𝓡))
     (cited 𝓤 H (C5 𝓤 H (𝓖 .A) (𝓜 .mem) (𝓡 .run)) 𝓜 𝓡 code.env #lent·concluded-load c5-def.routine code.calls-lent·concluded-load (c5-thm.met 𝓤 H 𝓜 𝓖 𝓡)))

@@ -1,3 +1,4 @@
+use Rattle.plan.proofs.Bounds.{shift-small}
 use Rattle.inplace.proofs.Searching as law
 use borrow.Author.Needs.{needs}
 use Rattle.inplace.proofs.search.plan_030.Statement.{statement}
@@ -13,7 +14,7 @@ enum-known-shift : tie.Need-enum-known-shift
 enum-known-shift c = search needs
 
 shr-page : tie.Need-shr-page
-shr-page c = law.shift-small _ (c .before .before .before .page-shift .ensures) (c .before .shift .given .1)
+shr-page c = shift-small _ (c .before .before .before .page-shift .ensures) (c .before .shift .given .1)
 
 look-requires : tie.Need-look-requires
 look-requires c κs = search needs

@@ -1,4 +1,4 @@
-use Rattle.inplace.proofs.Planning as law
+use Rattle.plan.proofs.Bounds.{bits-small}
 use borrow.Author.Needs.{needs}
 use Rattle.inplace.proofs.translate.plan_040.Statement.{statement}
 use Rattle.inplace.proofs.translate.plan_040.Tie as tie
@@ -7,7 +7,7 @@ page-bits-requires : tie.Need-page-bits-requires
 page-bits-requires c κs = search needs
 
 shr-frame : tie.Need-shr-frame
-shr-frame c = law.bits-small (c .before .args .tc) (c .page-bits .ensures)
+shr-frame c = bits-small (c .before .args .tc) (c .page-bits .ensures)
 
 look-040-requires : tie.Need-look-040-requires
 look-040-requires c κs = search needs

@@ -1,5 +1,5 @@
 use Rattle.inplace.proofs.Concluding as law
-use Rattle.inplace.proofs.Planning.{bits-small}
+use Rattle.plan.proofs.Bounds.{bits-small}
 use borrow.Author.Needs.{needs}
 use Rattle.inplace.proofs.translate.resident.Statement.{statement}
 use Rattle.inplace.proofs.translate.resident.Tie as tie

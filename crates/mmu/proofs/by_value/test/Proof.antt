@@ -40,54 +40,54 @@ use denote.Exit.{yes}
 use Rattle.mmu.proofs.ByValue as law
 use Rattle.definition.specs.Memory.{memory}
 use Rattle.definition.specs.Test.{test as testOf}
-use Rattle.inplace.specs.Stages.{wayOf, shownTested}
-use Rattle.inplace.specs.InPlace.{TestedIn}
+use Rattle.plan.specs.Plans.{wayOf}
+use Rattle.inquiry.specs.Tested.{shownTested, TestedIn}
 use Rattle.definition.specs.Refusal.{badBase}
 use Rattle.definition.specs.Words.{anyOf}
 use Rattle.definition.specs.Refusal.{crossed}
 use Rattle.tables.specs.Walked.{walksOf}
-use Rattle.inplace.specs.Stages.{planTest, concludeTest}
+use Rattle.inquiry.specs.Tested.{planTest, concludeTest}
 use Rattle.definition.specs.declared.Range.{Range}
 use Rattle.definition.proofs.Range as row-Range
 use Rattle.definition.specs.declared.Registers.{Registers}
 use Rattle.definition.proofs.Registers as row-Registers
 use Rattle.definition.proofs.Registers.Laws as law-Registers
-use Rattle.inplace.specs.declared.Plan.{Plan}
-use Rattle.inplace.proofs.Plan as row-Plan
-use Rattle.inplace.proofs.Plan.Laws as law-Plan
-use Rattle.inplace.specs.declared.test.TestOutcome.{TestOutcome}
-use Rattle.inplace.proofs.test.TestOutcome as row-TestOutcome
-use Rattle.inplace.proofs.test.TestOutcome.Laws as law-TestOutcome
+use Rattle.inquiry.specs.declared.test.TestOutcome.{TestOutcome}
+use Rattle.inquiry.proofs.test.TestOutcome as row-TestOutcome
+use Rattle.inquiry.proofs.test.TestOutcome.Laws as law-TestOutcome
+use Rattle.plan.specs.declared.Plan.{Plan}
+use Rattle.plan.proofs.Plan as row-Plan
+use Rattle.plan.proofs.Plan.Laws as law-Plan
 use Rattle.tables.specs.declared.Walks.{Walks}
 use Rattle.tables.proofs.Walks as row-Walks
 use Rattle.tables.proofs.Walks.Laws as law-Walks
 use Rattle.tables.specs.declared.Way.{Way}
 use Rattle.tables.proofs.Way as row-Way
 use Rattle.tables.proofs.Way.Laws as law-Way
-use Rattle.inplace.proofs.checks.bad_longs as c0
-use Rattle.inplace.proofs.checks.bad_longs.Symbol as c0-def
-use Rattle.inplace.proofs.checks.bad_longs.Symbol.{name as #inplace·checks·bad-longs}
-use Rattle.inplace.proofs.checks.bad_longs.Met as c0-thm
+use Rattle.plan.proofs.checks.bad_longs as c0
+use Rattle.plan.proofs.checks.bad_longs.Symbol as c0-def
+use Rattle.plan.proofs.checks.bad_longs.Symbol.{name as #plan·checks·bad-longs}
+use Rattle.plan.proofs.checks.bad_longs.Met as c0-thm
 use Rattle.tables.proofs.any_crossed as c1
 use Rattle.tables.proofs.any_crossed.Symbol as c1-def
 use Rattle.tables.proofs.any_crossed.Symbol.{name as #tables·any-crossed}
 use Rattle.tables.proofs.any_crossed.Met as c1-thm
-use Rattle.inplace.proofs.test.plan_test as c2
-use Rattle.inplace.proofs.test.plan_test.Symbol as c2-def
-use Rattle.inplace.proofs.test.plan_test.Symbol.{name as #inplace·test·plan-test}
-use Rattle.inplace.proofs.test.plan_test.Met as c2-thm
-use Rattle.inplace.proofs.way_of as c3
-use Rattle.inplace.proofs.way_of.Symbol as c3-def
-use Rattle.inplace.proofs.way_of.Symbol.{name as #inplace·way-of}
-use Rattle.inplace.proofs.way_of.Met as c3-thm
+use Rattle.inquiry.proofs.test.plan_test as c2
+use Rattle.inquiry.proofs.test.plan_test.Symbol as c2-def
+use Rattle.inquiry.proofs.test.plan_test.Symbol.{name as #inquiry·test·plan-test}
+use Rattle.inquiry.proofs.test.plan_test.Met as c2-thm
+use Rattle.plan.proofs.way_of as c3
+use Rattle.plan.proofs.way_of.Symbol as c3-def
+use Rattle.plan.proofs.way_of.Symbol.{name as #plan·way-of}
+use Rattle.plan.proofs.way_of.Met as c3-thm
 use Rattle.tables.proofs.walk_for as c4
 use Rattle.tables.proofs.walk_for.Symbol as c4-def
 use Rattle.tables.proofs.walk_for.Symbol.{name as #tables·walk-for}
 use Rattle.tables.proofs.walk_for.Met as c4-thm
-use Rattle.inplace.proofs.test.conclude_test as c5
-use Rattle.inplace.proofs.test.conclude_test.Symbol as c5-def
-use Rattle.inplace.proofs.test.conclude_test.Symbol.{name as #inplace·test·conclude-test}
-use Rattle.inplace.proofs.test.conclude_test.Met as c5-thm
+use Rattle.inquiry.proofs.test.conclude_test as c5
+use Rattle.inquiry.proofs.test.conclude_test.Symbol as c5-def
+use Rattle.inquiry.proofs.test.conclude_test.Symbol.{name as #inquiry·test·conclude-test}
+use Rattle.inquiry.proofs.test.conclude_test.Met as c5-thm
 use Rattle.mmu.proofs.by_value.test.Key.{name as #mmu·by-value·test}
 use Rattle.mmu.proofs.by_value.test as self
 use Rattle.mmu.proofs.by_value.test.Statement as stated
@@ -194,7 +194,7 @@ module _ {M : Type 1} (𝓤 : URA M) (H : Heap 𝓤) (A : Atoms 𝓤) (W : Given
   said-5 : (a0 : ℕ) (a1 : Plan) (a2 : Walks) (r : TestOutcome) → ent 𝓤 (ensured 𝓤 H A c5.ended (c5.clauses 𝓤 H A mem run) tt (a0, (a1, (a2, tt))) tt r) (fact 𝓤 (TestedIn (concludeTest a0 a1 a2) (r .answer) (r .count)))
   said-5 a0 a1 a2 r = exE 𝓤 _ (λ ws. snd∗ 𝓤 (sem 𝓤 H A (lasts c5.ended tt (a0, (a1, (a2, tt))) ws)) (fact 𝓤 (TestedIn (concludeTest a0 a1 a2) (r .answer) (r .count))))
 
-  module _ (𝓣 : Tables 𝓤 H) (known-0 : Triple 𝓤 (𝓣 .C #inplace·checks·bad-longs) (C0 𝓤 H A mem run)) (known-1 : Triple 𝓤 (𝓣 .C #tables·any-crossed) (C1 𝓤 H A mem run)) (known-2 : Triple 𝓤 (𝓣 .C #inplace·test·plan-test) (C2 𝓤 H A mem run)) (known-3 : Triple 𝓤 (𝓣 .C #inplace·way-of) (C3 𝓤 H A mem run)) (known-4 : Triple 𝓤 (𝓣 .C #tables·walk-for) (C4 𝓤 H A mem run)) (known-5 : Triple 𝓤 (𝓣 .C #inplace·test·conclude-test) (C5 𝓤 H A mem run)) where
+  module _ (𝓣 : Tables 𝓤 H) (known-0 : Triple 𝓤 (𝓣 .C #plan·checks·bad-longs) (C0 𝓤 H A mem run)) (known-1 : Triple 𝓤 (𝓣 .C #tables·any-crossed) (C1 𝓤 H A mem run)) (known-2 : Triple 𝓤 (𝓣 .C #inquiry·test·plan-test) (C2 𝓤 H A mem run)) (known-3 : Triple 𝓤 (𝓣 .C #plan·way-of) (C3 𝓤 H A mem run)) (known-4 : Triple 𝓤 (𝓣 .C #tables·walk-for) (C4 𝓤 H A mem run)) (known-5 : Triple 𝓤 (𝓣 .C #inquiry·test·conclude-test) (C5 𝓤 H A mem run)) where
     abbrev C : Calls 𝓤 H
     C = 𝓣 .C
 
@@ -263,11 +263,11 @@ module _ {M : Type 1} (𝓤 : URA M) (H : Heap 𝓤) (A : Atoms 𝓤) (W : Given
         by ! (exits r22 (LL.val row-TestOutcome.the-type law-TestOutcome.the-laws r22) (subst (Is row-TestOutcome.the-row r22) (LL.tells row-TestOutcome.the-type law-TestOutcome.the-laws r22 _ is24) is24) (law.test-by x4 x5 x6 x7 x8 (memory (now x1) x2 (now x3)) e3 e7 e11 e15 e19 e23))))))))))))))))))))))))))))))))))))))))
 
 module _ {M : Type 1} (𝓤 : URA M) (H : Heap 𝓤) (A : Atoms 𝓤) (W : Given 𝓤 H A) (mem : Memory → SProp 𝓤) (run : Routine → Fun 𝓤) (𝓣 : Tables 𝓤 H) where
-  self-walks : Triple 𝓤 (𝓣 .C #inplace·checks·bad-longs) (C0 𝓤 H A mem run) → Triple 𝓤 (𝓣 .C #tables·any-crossed) (C1 𝓤 H A mem run) → Triple 𝓤 (𝓣 .C #inplace·test·plan-test) (C2 𝓤 H A mem run) → Triple 𝓤 (𝓣 .C #inplace·way-of) (C3 𝓤 H A mem run) → Triple 𝓤 (𝓣 .C #tables·walk-for) (C4 𝓤 H A mem run) → Triple 𝓤 (𝓣 .C #inplace·test·conclude-test) (C5 𝓤 H A mem run) → AllWalks 𝓤 H A self.ended stayed (WpFn 𝓤 H (𝓣 .C) (𝓣 .Λ) code.function) (self.clauses 𝓤 H A mem run)
+  self-walks : Triple 𝓤 (𝓣 .C #plan·checks·bad-longs) (C0 𝓤 H A mem run) → Triple 𝓤 (𝓣 .C #tables·any-crossed) (C1 𝓤 H A mem run) → Triple 𝓤 (𝓣 .C #inquiry·test·plan-test) (C2 𝓤 H A mem run) → Triple 𝓤 (𝓣 .C #plan·way-of) (C3 𝓤 H A mem run) → Triple 𝓤 (𝓣 .C #tables·walk-for) (C4 𝓤 H A mem run) → Triple 𝓤 (𝓣 .C #inquiry·test·conclude-test) (C5 𝓤 H A mem run) → AllWalks 𝓤 H A self.ended stayed (WpFn 𝓤 H (𝓣 .C) (𝓣 .Λ) code.function) (self.clauses 𝓤 H A mem run)
   self-walks known-0 known-1 known-2 known-3 known-4 known-5 = walked 𝓤 H A self.ended stayed (self.clauses 𝓤 H A mem run) (WpFn 𝓤 H (𝓣 .C) (𝓣 .Λ) code.function) (λ κs. (slice-vals, (uint-vals w32, (slice-vals, (LL.vals row-Registers.the-type law-Registers.the-laws, (uint-vals w32, (bool-vals, (uint-vals w32, (uint-vals w32, tt))))))))) (λ κs. (shr-slice-tells (named 0) (κs .0) u32, (uint-tells w32, (shr-slice-tells (named 1) (κs .1 .0) row-Range.the-row, (LL.tells row-Registers.the-type law-Registers.the-laws, (uint-tells w32, (bool-tells, (uint-tells w32, (uint-tells w32, tt)))))))))
       (λ κs qs bounds a g are. via 𝓤 _ (fst∗ 𝓤 _ (emp 𝓤)) (walk 𝓤 H A W mem run (κs .0) (κs .1 .0) (qs .0) (qs .1 .0) (a .0) (a .1 .0) (a .1 .1 .0) (a .1 .1 .1 .0) (a .1 .1 .1 .1 .0) (a .1 .1 .1 .1 .1 .0) (a .1 .1 .1 .1 .1 .1 .0) (a .1 .1 .1 .1 .1 .1 .1 .0) (are .0) (are .1 .0) (are .1 .1 .0) (are .1 .1 .1 .0) (are .1 .1 .1 .1 .0) (are .1 .1 .1 .1 .1 .0) (are .1 .1 .1 .1 .1 .1 .0) (are .1 .1 .1 .1 .1 .1 .1 .0) 𝓣 known-0 known-1 known-2 known-3 known-4 known-5))
 
-  self-meets : Triple 𝓤 (𝓣 .C #inplace·checks·bad-longs) (C0 𝓤 H A mem run) → Triple 𝓤 (𝓣 .C #tables·any-crossed) (C1 𝓤 H A mem run) → Triple 𝓤 (𝓣 .C #inplace·test·plan-test) (C2 𝓤 H A mem run) → Triple 𝓤 (𝓣 .C #inplace·way-of) (C3 𝓤 H A mem run) → Triple 𝓤 (𝓣 .C #tables·walk-for) (C4 𝓤 H A mem run) → Triple 𝓤 (𝓣 .C #inplace·test·conclude-test) (C5 𝓤 H A mem run) → Meets 𝓤 H A self.signature (WpFn 𝓤 H (𝓣 .C) (𝓣 .Λ) code.function) (self.spec 𝓤 H A mem run)
+  self-meets : Triple 𝓤 (𝓣 .C #plan·checks·bad-longs) (C0 𝓤 H A mem run) → Triple 𝓤 (𝓣 .C #tables·any-crossed) (C1 𝓤 H A mem run) → Triple 𝓤 (𝓣 .C #inquiry·test·plan-test) (C2 𝓤 H A mem run) → Triple 𝓤 (𝓣 .C #plan·way-of) (C3 𝓤 H A mem run) → Triple 𝓤 (𝓣 .C #tables·walk-for) (C4 𝓤 H A mem run) → Triple 𝓤 (𝓣 .C #inquiry·test·conclude-test) (C5 𝓤 H A mem run) → Meets 𝓤 H A self.signature (WpFn 𝓤 H (𝓣 .C) (𝓣 .Λ) code.function) (self.spec 𝓤 H A mem run)
   self-meets known-0 known-1 known-2 known-3 known-4 known-5 = walk-meets 𝓤 H A self.ended stayed W (goes-none-slice 𝓤 H A W 2 (0 ∷ []) tt (plain (λ _. u32)) yes, (goes-none 𝓤 H A W 2 (λ _. u32) yes (λ κs x f. refl), (goes-none-slice 𝓤 H A W 2 (1 ∷ []) tt (plain (λ _. row-Range.the-row)) yes, (goes-none 𝓤 H A W 2 (λ _. row-Registers.the-row) yes (λ κs x f. refl), (goes-none 𝓤 H A W 2 (λ _. u32) yes (λ κs x f. refl), (goes-none 𝓤 H A W 2 (λ _. Boolean) yes (λ κs x f. refl), (goes-none 𝓤 H A W 2 (λ _. u32) yes (λ κs x f. refl), (goes-none 𝓤 H A W 2 (λ _. u32) yes (λ κs x f. refl), tt)))))))) (self.clauses 𝓤 H A mem run) (WpFn 𝓤 H (𝓣 .C) (𝓣 .Λ) code.function) (WpFn-mono 𝓤 H (W .laws) 𝓣 code.function) (self-walks known-0 known-1 known-2 known-3 known-4 known-5)
 
 pub test-spec : {M : Type 1} → stated.statement M
@@ -276,9 +276,9 @@ test-spec 𝓤 H 𝓜 𝓖 𝓡 =
     entered 𝓤 H (tripleOf 𝓤 H (𝓖 .A) self.signature (self.spec 𝓤 H (𝓖 .A) (𝓜 .mem) (𝓡 .run)))
     (tables 𝓤 H 𝓜 𝓡 code.env .C) (tables 𝓤 H 𝓜 𝓡 code.env .Λ) #mmu·by-value·test code.function (code.unfolded 𝓤 H 𝓜 𝓡)
     (self-meets 𝓤 H (𝓖 .A) (givenOf 𝓤 H 𝓜 𝓖) (𝓜 .mem) (𝓡 .run) (tablesOf 𝓤 H 𝓜 (tables 𝓤 H 𝓜 𝓡 code.env))
-    (cited 𝓤 H (C0 𝓤 H (𝓖 .A) (𝓜 .mem) (𝓡 .run)) 𝓜 𝓡 code.env #inplace·checks·bad-longs c0-def.routine code.calls-inplace·checks·bad-longs (c0-thm.met 𝓤 H 𝓜 𝓖 𝓡))
+    (cited 𝓤 H (C0 𝓤 H (𝓖 .A) (𝓜 .mem) (𝓡 .run)) 𝓜 𝓡 code.env #plan·checks·bad-longs c0-def.routine code.calls-plan·checks·bad-longs (c0-thm.met 𝓤 H 𝓜 𝓖 𝓡))
     (cited 𝓤 H (C1 𝓤 H (𝓖 .A) (𝓜 .mem) (𝓡 .run)) 𝓜 𝓡 code.env #tables·any-crossed c1-def.routine code.calls-tables·any-crossed (c1-thm.met 𝓤 H 𝓜 𝓖 𝓡))
-    (cited 𝓤 H (C2 𝓤 H (𝓖 .A) (𝓜 .mem) (𝓡 .run)) 𝓜 𝓡 code.env #inplace·test·plan-test c2-def.routine code.calls-inplace·test·plan-test (c2-thm.met 𝓤 H 𝓜 𝓖 𝓡))
-    (cited 𝓤 H (C3 𝓤 H (𝓖 .A) (𝓜 .mem) (𝓡 .run)) 𝓜 𝓡 code.env #inplace·way-of c3-def.routine code.calls-inplace·way-of (c3-thm.met 𝓤 H 𝓜 𝓖 𝓡))
+    (cited 𝓤 H (C2 𝓤 H (𝓖 .A) (𝓜 .mem) (𝓡 .run)) 𝓜 𝓡 code.env #inquiry·test·plan-test c2-def.routine code.calls-inquiry·test·plan-test (c2-thm.met 𝓤 H 𝓜 𝓖 𝓡))
+    (cited 𝓤 H (C3 𝓤 H (𝓖 .A) (𝓜 .mem) (𝓡 .run)) 𝓜 𝓡 code.env #plan·way-of c3-def.routine code.calls-plan·way-of (c3-thm.met 𝓤 H 𝓜 𝓖 𝓡))
     (cited 𝓤 H (C4 𝓤 H (𝓖 .A) (𝓜 .mem) (𝓡 .run)) 𝓜 𝓡 code.env #tables·walk-for c4-def.routine code.calls-tables·walk-for (c4-thm.met 𝓤 H 𝓜 𝓖 𝓡))
-    (cited 𝓤 H (C5 𝓤 H (𝓖 .A) (𝓜 .mem) (𝓡 .run)) 𝓜 𝓡 code.env #inplace·test·conclude-test c5-def.routine code.calls-inplace·test·conclude-test (c5-thm.met 𝓤 H 𝓜 𝓖 𝓡)))
+    (cited 𝓤 H (C5 𝓤 H (𝓖 .A) (𝓜 .mem) (𝓡 .run)) 𝓜 𝓡 code.env #inquiry·test·conclude-test c5-def.routine code.calls-inquiry·test·conclude-test (c5-thm.met 𝓤 H 𝓜 𝓖 𝓡)))

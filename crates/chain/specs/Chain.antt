@@ -1,0 +1,70 @@
+-- Calls in place, one after the other: each link is what one call's contract promises of the six arrays at its entry and at its exit.
+-- translate_in, load_in and test_in promise it where the caller's `three` is true of the ranges, so a chain speaks of callers that say it rightly.
+use Prim.Native.Nat.{ℕ}
+use mathlib.Core.Path.{_≡_}
+use mathlib.Core.Bool.{Bool}
+use mathlib.Core.List.{List, [], _∷_}
+use Rattle.definition.specs.Memory.{Memory}
+use Rattle.definition.specs.Translate.{Caches, translate}
+use Rattle.definition.specs.Load.{load}
+use Rattle.definition.specs.Flush.{flushAll, flushCode, flushPage, flushFrame}
+use Rattle.definition.specs.Calls as calls
+use Rattle.definition.specs.Calls.{Call}
+use Rattle.definition.specs.Replay.{Moment, watched, other}
+use Rattle.definition.specs.declared.Registers.{Registers}
+use Rattle.definition.specs.declared.Access.{Access}
+use Rattle.definition.specs.declared.Translation.{Translation}
+use Rattle.definition.specs.declared.Load.{Load}
+use Rattle.definition.specs.declared.Flush.{Flush}
+use Rattle.cache.specs.Atc030.{cacheOf}
+use Rattle.cache.specs.Atc040.{cache040Of}
+use Rattle.inplace.specs.Stages.{shownTranslated, shownLoaded}
+use Rattle.plan.specs.Arrays.{cachesOf}
+use Rattle.inplace.specs.InPlace.{AnsweredIn, LoadedIn}
+use Rattle.flush.specs.Flushed.{FlushedIn, FlushedIn030, FlushedIn040}
+
+-- the arrays that a caller keeps
+pub record Arrays : Type 0 where
+  pub tags : List ℕ
+  pub pages : List ℕ
+  pub stamps : List ℕ
+  pub marks : List ℕ
+  pub keys : List ℕ
+  pub bases : List ℕ
+
+-- the caches that they are
+abbrev pub cachesIn : Arrays → Caches
+cachesIn x = cachesOf (x .tags) (x .pages) (x .stamps) (x .marks) (x .keys) (x .bases)
+
+-- what translate_in promises, from x to y
+abbrev pub Translates : Registers → Access → Memory → Arrays → Translation → ℕ → Arrays → Type 0
+Translates g a m x answer count y =
+    AnsweredIn (shownTranslated (translate g a m (cachesIn x))) answer count (y .tags) (y .pages) (y .stamps) (y .marks) (y .keys) (y .bases)
+
+-- what each call promises, from x to y: translate_in, load_in, test_in and probe_in (which change no array), the flushes
+pub data Passes (g : Registers) (m : Memory) (x : Arrays) : Call → Arrays → Type 0 where
+  translates : {y : Arrays} {answer : Translation} {count : ℕ} (a : Access) → Translates g a m x answer count y → Passes g m x (calls.access a) y
+  loads : {ts ps ss ms : List ℕ} {answer : Load} {count : ℕ} (code : ℕ) (write : Bool) (address : ℕ)
+      → LoadedIn (shownLoaded (load g code write address m (cachesIn x))) answer count ts ps ss ms
+      → Passes g m x (calls.loading code write address) (record { tags = ts; pages = ps; stamps = ss; marks = ms; keys = x .keys; bases = x .bases })
+  tests : (code : ℕ) (write : Bool) (level address : ℕ) → Passes g m x (calls.testing code write level address) x
+  probes : (own instruction write : Bool) (address : ℕ) → Passes g m x (calls.probing own instruction write address) x
+  flushesAll : {y : Arrays} {answer : Flush} → FlushedIn (flushAll (cachesIn x)) answer (y .tags) (y .pages) (y .stamps) (y .marks) (y .keys) (y .bases)
+      → Passes g m x calls.flushingAll y
+  flushesCode : {ts ps ss ms : List ℕ} {answer : Flush} (code mask : ℕ)
+      → FlushedIn030 (flushCode code mask (cachesIn x)) (cache040Of (x .keys) (x .bases)) answer ts ps ss ms
+      → Passes g m x (calls.flushingCode code mask) (record { tags = ts; pages = ps; stamps = ss; marks = ms; keys = x .keys; bases = x .bases })
+  flushesPage : {ts ps ss ms : List ℕ} {answer : Flush} (code mask address : ℕ)
+      → FlushedIn030 (flushPage code mask address (cachesIn x)) (cache040Of (x .keys) (x .bases)) answer ts ps ss ms
+      → Passes g m x (calls.flushingPage code mask address) (record { tags = ts; pages = ps; stamps = ss; marks = ms; keys = x .keys; bases = x .bases })
+  flushesFrame : {ks bs : List ℕ} {answer : Flush} (frame : ℕ)
+      → FlushedIn040 (flushFrame frame (cachesIn x)) (cacheOf (x .tags) (x .pages) (x .stamps) (x .marks)) answer ks bs
+      → Passes g m x (calls.flushingFrame frame) (record { tags = x .tags; pages = x .pages; stamps = x .stamps; marks = x .marks; keys = ks; bases = bs })
+
+-- calls in place at these moments, from arrays x to arrays y: the answers that the watched ones gave, in order
+pub data Chain (g : Registers) : Arrays → List Moment → List Translation → Arrays → Type 0 where
+  none : {x : Arrays} → Chain g x [] [] x
+  watch : {x y z : Arrays} {answer : Translation} {count : ℕ} {rest : List Moment} {answers : List Translation} (a : Access) (m : Memory)
+      → Translates g a m x answer count y → Chain g y rest answers z → Chain g x (watched a m ∷ rest) (answer ∷ answers) z
+  pass : {x y z : Arrays} {rest : List Moment} {answers : List Translation} (call : Call) (m : Memory)
+      → Passes g m x call y → Chain g y rest answers z → Chain g x (other call m ∷ rest) answers z
