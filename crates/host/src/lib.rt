@@ -11,11 +11,10 @@ use definition::Registers;
 use definition::Root;
 use definition::Test;
 use definition::Translation;
-use inplace::flush;
 use inplace::load::LoadOutcome;
-use inplace::probe;
-use inplace::test::TestOutcome;
 use inplace::translate::Outcome;
+use inquiry::probe;
+use inquiry::test::TestOutcome;
 use mmu::by_value;
 ghost use mathlib.Core.Path.{_≡_};
 ghost use mathlib.Core.List.{[], _∷_};
@@ -30,7 +29,7 @@ ghost use Rattle.definition.specs.Probe.{probe as probeOf};
 ghost use Rattle.definition.specs.Flush.{flushAll, flushCode, flushPage, flushFrame};
 ghost use Rattle.cache.specs.Atc030.{cacheOf};
 ghost use Rattle.cache.specs.Atc040.{cache040Of};
-ghost use Rattle.inplace.specs.InPlace.{cachesOf, pairWith};
+ghost use Rattle.plan.specs.Arrays.{cachesOf, pairWith};
 ghost use Rattle.host.specs.Numbers.{registersOf, overrideOf, accessOf, translationNumbers, loadNumbers, testNumbers, probeNumbers, flushNumber, TranslatedTo, LoadedTo, testedNumbers, FlushedTo};
 
 // ---- What the host's numbers are.

@@ -55,7 +55,7 @@ use Rattle.definition.specs.Cache040.{Cache040}
 use Rattle.definition.specs.Load.{load as loadOf}
 use Rattle.definition.specs.Memory.{memory}
 use Rattle.cache.specs.Atc030.{cacheOf}
-use Rattle.inplace.specs.InPlace.{pairWith}
+use Rattle.plan.specs.Arrays.{pairWith}
 use Rattle.host.specs.Numbers.{registersOf, loadNumbers, LoadedTo}
 use Rattle.inplace.specs.Stages.{shownLoaded}
 use Rattle.inplace.specs.InPlace.{LoadedIn}

@@ -54,16 +54,15 @@ use Rattle.host.proofs.Telling as law
 use Rattle.definition.specs.Test.{test as testOf}
 use Rattle.definition.specs.Memory.{memory}
 use Rattle.host.specs.Numbers.{registersOf, testNumbers, testedNumbers}
-use Rattle.inplace.specs.Stages.{shownTested}
-use Rattle.inplace.specs.InPlace.{TestedIn}
+use Rattle.inquiry.specs.Tested.{shownTested, TestedIn}
 use Rattle.definition.specs.declared.Range.{Range}
 use Rattle.definition.proofs.Range as row-Range
 use Rattle.definition.specs.declared.Registers.{Registers}
 use Rattle.definition.proofs.Registers as row-Registers
 use Rattle.definition.proofs.Registers.Laws as law-Registers
-use Rattle.inplace.specs.declared.test.TestOutcome.{TestOutcome}
-use Rattle.inplace.proofs.test.TestOutcome as row-TestOutcome
-use Rattle.inplace.proofs.test.TestOutcome.Laws as law-TestOutcome
+use Rattle.inquiry.specs.declared.test.TestOutcome.{TestOutcome}
+use Rattle.inquiry.proofs.test.TestOutcome as row-TestOutcome
+use Rattle.inquiry.proofs.test.TestOutcome.Laws as law-TestOutcome
 use Rattle.host.proofs.registers_of as c0
 use Rattle.host.proofs.registers_of.Symbol as c0-def
 use Rattle.host.proofs.registers_of.Symbol.{name as #host·registers-of}

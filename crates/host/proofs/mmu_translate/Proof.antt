@@ -52,7 +52,7 @@ use denote.Array.{Array}
 use Rattle.host.proofs.Telling as law
 use Rattle.definition.specs.Translate.{translate as translateOf}
 use Rattle.definition.specs.Memory.{memory}
-use Rattle.inplace.specs.InPlace.{cachesOf}
+use Rattle.plan.specs.Arrays.{cachesOf}
 use Rattle.host.specs.Numbers.{registersOf, accessOf, translationNumbers, TranslatedTo}
 use Rattle.inplace.specs.Stages.{shownTranslated}
 use Rattle.inplace.specs.InPlace.{AnsweredIn}
