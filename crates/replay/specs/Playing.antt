@@ -15,7 +15,7 @@ use Rattle.definition.specs.declared.Range.{Range}
 use Rattle.definition.specs.declared.Registers.{Registers}
 use Rattle.trace.specs.Lines.{lineIn, Wrote}
 use Rattle.trace.specs.declared.Line.{Line}
-use Rattle.inplace.specs.InPlace.{cachesOf}
+use Rattle.plan.specs.Arrays.{cachesOf}
 use Rattle.replay.specs.declared.Kept.{Kept}
 use Rattle.replay.specs.declared.run.Whole.{Whole}
 use Rattle.replay.specs.declared.run.Whole.the-variants as whole

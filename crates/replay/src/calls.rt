@@ -18,7 +18,7 @@ ghost use Rattle.definition.specs.Refusal.{crossed};
 ghost use Rattle.definition.specs.Calls.{access, loading, testing, probing, flushingAll, flushingCode, flushingPage, flushingFrame, translationLine, loadLine, testLine, probeLine, flushLine, calling};
 ghost use Rattle.trace.specs.Lines.{lineIn};
 ghost use Rattle.trace.specs.Records.{callIn};
-ghost use Rattle.inplace.specs.InPlace.{cachesOf};
+ghost use Rattle.plan.specs.Arrays.{cachesOf};
 ghost use Rattle.replay.specs.Playing.{rangesOf, CalledIn, Tests};
 
 // A address count, or F kind cause address count.
@@ -174,7 +174,7 @@ fn test_call(
 ) -> Line
     ensures { λ r. ⌜ (three ≡ anyOf crossed (take n list) → Tests g (memory (now (longs .entry)) 0 (take n list)) code write level address r) ⌝ }
 {
-    let o = inplace::test::test_in(longs, 0, list, n, three, g, code, write, level, address);
+    let o = inquiry::test::test_in(longs, 0, list, n, three, g, code, write, level, address);
     let answer = o.answer;
     test_line(answer, o.count)
 }
@@ -239,11 +239,11 @@ pub fn make(
             address,
         } => test_call(longs, list, n, three, g, code, write, level, address),
         Call::FlushAll => {
-            let answer = inplace::flush::flush_all_in(tags, pages, stamps, marks, keys, bases);
+            let answer = flush::flush_all_in(tags, pages, stamps, marks, keys, bases);
             flush_line(answer)
         }
         Call::FlushCode { code, mask } => {
-            let answer = inplace::flush::flush_code_in(tags, pages, stamps, marks, code, mask);
+            let answer = flush::flush_code_in(tags, pages, stamps, marks, code, mask);
             flush_line(answer)
         }
         Call::FlushPage {
@@ -251,7 +251,7 @@ pub fn make(
             mask,
             address,
         } => {
-            let answer = inplace::flush::flush_page_in(
+            let answer = flush::flush_page_in(
                 tags,
                 pages,
                 stamps,
@@ -263,7 +263,7 @@ pub fn make(
             flush_line(answer)
         }
         Call::FlushFrame { frame } => {
-            let answer = inplace::flush::flush_frame_in(keys, bases, frame);
+            let answer = flush::flush_frame_in(keys, bases, frame);
             flush_line(answer)
         }
         Call::Probe {
@@ -272,7 +272,7 @@ pub fn make(
             write,
             address,
         } => {
-            let answer = inplace::probe::probe_in(
+            let answer = inquiry::probe::probe_in(
                 tags,
                 pages,
                 stamps,

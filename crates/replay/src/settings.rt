@@ -24,7 +24,7 @@ pub struct Step {
 fn set_registers(kept: Kept, g: Registers) -> Step
     ensures { λ r. ⌜ ((longs ts ps ss ms ks bs : List ℕ) → PlayedIn (stepOf (stateOf kept longs ts ps ss ms ks bs) (Loads g)) (r .line) (r .kept) longs ts ps ss ms ks bs) × (rangesOf (r .kept) ≡ rangesOf kept) ⌝ }
 {
-    if inplace::checks::no_family(g.family) {
+    if plan::checks::no_family(g.family) {
         return Step {
             line: Line::R { number: 1 },
             kept,
