@@ -17,15 +17,8 @@ def tested(facts):
     return f'law.test-by x4 x5 x6 x7 x8 {MEMORY} {facts("bad_longs", "any_crossed", "plan_test", "way_of", "walk_for", "conclude_test")}'
 
 
-def flushes(name):
-    return dict(law='ByValue', ends=lambda facts: f'law.flushes-in {facts(name, "flushed_caches", "flushed_answer")}')
-
-
 FUNCTIONS = {
     'by_value.translate': dict(law='ByValue', ends=translated),
     'by_value.load': dict(law='ByValue', ends=loaded),
     'by_value.test': dict(law='ByValue', ends=tested),
-    'pair.translate_pair': dict(law='ByValue', ends=lambda facts: f'law.translates-in {facts("translate", "translated_caches", "translated_outcome")}'),
-    'pair.load_pair': dict(law='ByValue', ends=lambda facts: f'law.loads-in {facts("load", "loaded_caches", "loaded_outcome")}'),
-    **{f'pair.{name}_pair': flushes(name) for name in ('flush_all', 'flush_code', 'flush_page', 'flush_frame')},
 }

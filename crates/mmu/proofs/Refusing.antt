@@ -25,9 +25,10 @@ use Rattle.cache.proofs.Pairs.{pair-same}
 use Rattle.inquiry.specs.declared.test.TestOutcome.{TestOutcome}
 use Rattle.mmu.specs.declared.by_value.Translated.{Translated}
 use Rattle.mmu.specs.declared.by_value.Loaded.{Loaded}
-use Rattle.mmu.specs.declared.by_value.Flushed.{Flushed}
+use Rattle.tableless.specs.declared.Flushed.{Flushed}
 use Rattle.inquiry.specs.Tested.{shownTested, TestedIn}
-use Rattle.mmu.specs.ByValue.{TranslatedBy, LoadedBy, FlushedBy}
+use Rattle.mmu.specs.ByValue.{TranslatedBy, LoadedBy}
+use Rattle.tableless.specs.ByValue.{FlushedBy}
 
 module _ (g : Registers) (a : Access) (m : Memory) (c : CachePair) (r : Translated) (k : TranslatedBy (translate g a m (pairOf c)) r) where
   pub translate-first : inTranslation (r .answer) ≡ numbers (refusalOf (translateChecks g a m (pairOf c)))

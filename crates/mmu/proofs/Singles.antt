@@ -12,9 +12,10 @@ use Rattle.cache.proofs.Pairs.{pair-same}
 use Rattle.inquiry.specs.declared.test.TestOutcome.{TestOutcome}
 use Rattle.mmu.specs.declared.by_value.Translated.{Translated}
 use Rattle.mmu.specs.declared.by_value.Loaded.{Loaded}
-use Rattle.mmu.specs.declared.by_value.Flushed.{Flushed}
+use Rattle.tableless.specs.declared.Flushed.{Flushed}
 use Rattle.inquiry.specs.Tested.{TestAnswered, TestedIn}
-use Rattle.mmu.specs.ByValue.{translatedWith, TranslatedBy, loadedWith, LoadedBy, flushedWith, FlushedBy}
+use Rattle.mmu.specs.ByValue.{translatedWith, TranslatedBy, loadedWith, LoadedBy}
+use Rattle.tableless.specs.ByValue.{flushedWith, FlushedBy}
 
 pub translate-single : (t : TranslatedOf) (r s : Translated) → TranslatedBy t r → TranslatedBy t s → r ≡ s
 translate-single t r s a b =

@@ -1,19 +1,16 @@
--- What the calls by value promise: the definition's answer, count and next caches, of a pair whose arrays have their lengths.
+-- What translate and load promise by value: the definition's answer, count and next caches, of a pair whose arrays have their lengths.
 use Prim.Native.Nat.{ℕ}
 use mathlib.Core.Path.{_≡_}
 use lib.ListN.{length}
 use Rattle.definition.specs.Translate.{Translated as TranslatedOf}
 use Rattle.definition.specs.Load.{Loaded as LoadedOf}
-use Rattle.definition.specs.Flush.{Flushed as FlushedOf}
 use Rattle.definition.specs.declared.Translation.{Translation}
 use Rattle.definition.specs.declared.Load.{Load}
-use Rattle.definition.specs.declared.Flush.{Flush}
 use Rattle.cache.specs.Atc040.{Sized040}
 use Rattle.cache.specs.Pair.{pairOf, Whole}
 use Rattle.cache.specs.declared.CachePair.{CachePair}
 use Rattle.mmu.specs.declared.by_value.Translated.{Translated}
 use Rattle.mmu.specs.declared.by_value.Loaded.{Loaded}
-use Rattle.mmu.specs.declared.by_value.Flushed.{Flushed}
 
 -- what a call gives, put together
 abbrev pub translatedWith : Translation → ℕ → CachePair → Translated
@@ -21,9 +18,6 @@ translatedWith answer count caches = record { answer = answer; count = count; ca
 
 abbrev pub loadedWith : Load → ℕ → CachePair → Loaded
 loadedWith answer count caches = record { answer = answer; count = count; caches = caches }
-
-abbrev pub flushedWith : Flush → CachePair → Flushed
-flushedWith answer caches = record { answer = answer; caches = caches }
 
 pub record TranslatedBy (t : TranslatedOf) (r : Translated) : Type 0 where
   pub answers : r .answer ≡ t .answer
@@ -35,11 +29,6 @@ pub record LoadedBy (l : LoadedOf) (r : Loaded) : Type 0 where
   pub answers : r .answer ≡ l .answer
   pub counts : r .count ≡ length (l .asked)
   pub leaves : pairOf (r .caches) ≡ l .caches
-  pub whole : Whole (r .caches)
-
-pub record FlushedBy (f : FlushedOf) (r : Flushed) : Type 0 where
-  pub answers : r .answer ≡ f .answer
-  pub leaves : pairOf (r .caches) ≡ f .caches
   pub whole : Whole (r .caches)
 
 -- a call that takes the 68030 cache alone: the 68040 arrays stay

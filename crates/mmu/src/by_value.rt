@@ -1,16 +1,13 @@
-// The calls of document 01 by value: 'Two caches, by value first.' Each copies the pair's arrays, lends them to a function in place and builds the pair anew.
+// The calls of document 01 that walk, by value: 'Two caches, by value first.' Each copies the pair's arrays, lends them to a function in place and builds the pair anew.
 // A call that is lent the ranges is thin: its proof is a walk by hand, which tools/ prints.
 use cache::CachePair;
 use definition::Access;
-use definition::Flush;
 use definition::Load;
-use definition::Probe;
 use definition::Range;
 use definition::Registers;
 use definition::Translation;
 use inplace::load;
 use inplace::translate;
-use inquiry::probe;
 use inquiry::test;
 use inquiry::test::TestOutcome;
 use plan::Plan;
@@ -23,14 +20,12 @@ ghost use Rattle.definition.specs.Memory.{memory};
 ghost use Rattle.definition.specs.Translate.{translate as translateOf};
 ghost use Rattle.definition.specs.Load.{load as loadOf};
 ghost use Rattle.definition.specs.Test.{test as testOf};
-ghost use Rattle.definition.specs.Probe.{probe as probeOf};
-ghost use Rattle.definition.specs.Flush.{flushAll, flushCode, flushPage, flushFrame};
 ghost use Rattle.cache.specs.Pair.{pairOf};
 ghost use Rattle.plan.specs.Plans.{wayOf};
 ghost use Rattle.inplace.specs.Stages.{planAccess, concludeAccess, planLoad, concludeLoad};
 ghost use Rattle.inquiry.specs.Tested.{shownTested, TestedIn};
 ghost use Rattle.inplace.specs.InPlace.{PlannedIn, PlannedIn030, AnsweredIn, LoadedIn};
-ghost use Rattle.mmu.specs.ByValue.{TranslatedBy, LoadedBy, FlushedBy, Beside};
+ghost use Rattle.mmu.specs.ByValue.{TranslatedBy, LoadedBy, Beside};
 
 // An answer, its count and the next caches.
 pub struct Translated {
@@ -43,12 +38,6 @@ pub struct Translated {
 pub struct Loaded {
     pub answer: Load,
     pub count: u32,
-    pub caches: CachePair,
-}
-
-// An answer and the next caches.
-pub struct Flushed {
-    pub answer: Flush,
     pub caches: CachePair,
 }
 
@@ -279,7 +268,7 @@ pub fn load(
     concluded_load(g, code, write, address, p, walks)
 }
 
-// ---- Test and probe.
+// ---- Test.
 
 // Test: 'works whether enabled or not and touches no cache'. The write byte changes nothing.
 pub fn test(
@@ -300,134 +289,4 @@ pub fn test(
     let way = plan::way_of(plan);
     let walks = tables::walk_for(longs, base, ranges, g, address, way);
     test::conclude_test(code, plan, walks)
-}
-
-// Probe: 'answers from a transparent match or an unrecorded hit, else nothing'.
-pub fn probe(
-    g: Registers,
-    own: bool,
-    instruction: bool,
-    write: bool,
-    address: u32,
-    caches: CachePair,
-) -> Probe
-    ensures { λ r. ⌜ r ≡ probeOf g own instruction write address (pairOf caches) ⌝ }
-{
-    let tags = caches.tags;
-    let pages = caches.pages;
-    let stamps = caches.stamps;
-    let marks = caches.marks;
-    let keys = caches.keys;
-    let bases = caches.bases;
-    probe::probe_in(
-        &tags,
-        &pages,
-        &stamps,
-        &marks,
-        &keys,
-        &bases,
-        g,
-        own,
-        instruction,
-        write,
-        address,
-    )
-}
-
-// ---- The flushes.
-
-// 'Empties both.'
-pub fn flush_all(caches: CachePair) -> Flushed
-    ensures { λ r. ⌜ FlushedBy (flushAll (pairOf caches)) r ⌝ }
-{
-    let mut tags = caches.tags;
-    let pages = caches.pages;
-    let stamps = caches.stamps;
-    let marks = caches.marks;
-    let mut keys = caches.keys;
-    let bases = caches.bases;
-    let answer = flush::flush_all_in(&mut tags, &pages, &stamps, &marks, &mut keys, &bases);
-    Flushed {
-        answer,
-        caches: CachePair {
-            tags,
-            pages,
-            stamps,
-            marks,
-            keys,
-            bases,
-        },
-    }
-}
-
-// 'Drops entries whose code agrees on the mask's bits.'
-pub fn flush_code(code: u32, mask: u32, caches: CachePair) -> Flushed
-    ensures { λ r. ⌜ FlushedBy (flushCode code mask (pairOf caches)) r ⌝ }
-{
-    let mut tags = caches.tags;
-    let pages = caches.pages;
-    let stamps = caches.stamps;
-    let marks = caches.marks;
-    let keys = caches.keys;
-    let bases = caches.bases;
-    let answer = flush::flush_code_in(&mut tags, &pages, &stamps, &marks, code, mask);
-    Flushed {
-        answer,
-        caches: CachePair {
-            tags,
-            pages,
-            stamps,
-            marks,
-            keys,
-            bases,
-        },
-    }
-}
-
-// '.. and, for a page, whose page is the address's at the stored shift.'
-pub fn flush_page(code: u32, mask: u32, address: u32, caches: CachePair) -> Flushed
-    ensures { λ r. ⌜ FlushedBy (flushPage code mask address (pairOf caches)) r ⌝ }
-{
-    let mut tags = caches.tags;
-    let pages = caches.pages;
-    let stamps = caches.stamps;
-    let marks = caches.marks;
-    let keys = caches.keys;
-    let bases = caches.bases;
-    let answer = flush::flush_page_in(&mut tags, &pages, &stamps, &marks, code, mask, address);
-    Flushed {
-        answer,
-        caches: CachePair {
-            tags,
-            pages,
-            stamps,
-            marks,
-            keys,
-            bases,
-        },
-    }
-}
-
-// 'Drops that frame for either privilege.'
-pub fn flush_frame(frame: u32, caches: CachePair) -> Flushed
-    ensures { λ r. ⌜ FlushedBy (flushFrame frame (pairOf caches)) r ⌝ }
-{
-    let tags = caches.tags;
-    let pages = caches.pages;
-    let stamps = caches.stamps;
-    let marks = caches.marks;
-    let mut keys = caches.keys;
-    let bases = caches.bases;
-    let answer = flush::flush_frame_in(&mut keys, &bases, frame);
-    Flushed {
-        answer,
-        caches: CachePair {
-            tags,
-            pages,
-            stamps,
-            marks,
-            keys,
-            bases,
-        },
-    }
 }

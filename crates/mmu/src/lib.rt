@@ -1,3 +1,2 @@
-// The public calls of document 01: translate, load, test, probe and the four flushes, by value and over a lent pair, above the calls in place.
+// The public calls of document 01 by value, above the calls in place: translate, load and test. Probe and the flushes are in `tableless`.
 pub mod by_value;
-pub mod pair;
