@@ -103,7 +103,7 @@ fn tried(
     let longs = setting::tree();
     let list = setting::ranges(0, 0);
     let g = setting::registers(30, true);
-    let r = inplace::translate::translate_in(
+    let r = translate::translate_in(
         &mut tags,
         &mut pages,
         &mut stamps,

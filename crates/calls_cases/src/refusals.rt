@@ -56,7 +56,7 @@ fn load(t: Trial) -> Given {
     let longs = setting::tree();
     let list = setting::ranges(t.first, t.last);
     let g = setting::registers(t.family, t.enabled);
-    let r = inplace::load::load_in(
+    let r = load::load_in(
         &mut tags,
         &mut pages,
         &mut stamps,
@@ -102,7 +102,7 @@ fn translate(t: Trial) -> Given {
     let list = setting::ranges(t.first, t.last);
     let g = setting::registers(t.family, t.enabled);
     let a = setting::access(Override::Code(t.code), false, true);
-    let r = inplace::translate::translate_in(
+    let r = translate::translate_in(
         &mut tags,
         &mut pages,
         &mut stamps,

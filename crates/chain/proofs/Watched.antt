@@ -14,7 +14,7 @@ use Rattle.definition.specs.declared.Translation.{Translation}
 use Rattle.definition.proofs.Independence.{after-anything, independence}
 use Rattle.chain.specs.Chain.{Arrays, cachesIn, Translates, Passes, translates, loads, tests, probes, flushesAll, flushesCode, flushesPage, flushesFrame, Chain, none, watch, pass}
 use Rattle.plan.proofs.Pairs.{beside}
-use Rattle.inplace.proofs.Staged.{load-beside}
+use Rattle.load.proofs.Loading.{load-beside}
 
 -- ---- one call
 -- the arrays at exit are the caches that the definition's call leaves

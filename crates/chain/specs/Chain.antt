@@ -18,9 +18,10 @@ use Rattle.definition.specs.declared.Load.{Load}
 use Rattle.definition.specs.declared.Flush.{Flush}
 use Rattle.cache.specs.Atc030.{cacheOf}
 use Rattle.cache.specs.Atc040.{cache040Of}
-use Rattle.inplace.specs.Stages.{shownTranslated, shownLoaded}
+use Rattle.translate.specs.Stages.{shownTranslated}
+use Rattle.load.specs.Loaded.{shownLoaded, LoadedIn}
 use Rattle.plan.specs.Arrays.{cachesOf}
-use Rattle.inplace.specs.InPlace.{AnsweredIn, LoadedIn}
+use Rattle.translate.specs.InPlace.{AnsweredIn}
 use Rattle.flush.specs.Flushed.{FlushedIn, FlushedIn030, FlushedIn040}
 
 -- the arrays that a caller keeps

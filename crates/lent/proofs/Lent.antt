@@ -21,11 +21,14 @@ use Rattle.cache.specs.Atc030.{cacheOf}
 use Rattle.plan.specs.declared.Plan.{Plan}
 use Rattle.plan.specs.declared.Plan.the-variants as plan
 use Rattle.plan.specs.Plans.{wayOf}
-use Rattle.inplace.specs.Stages.{planAccess, shownTranslated, concludeAccess, planLoad, shownLoaded, concludeLoad}
+use Rattle.translate.specs.Stages.{planAccess, shownTranslated, concludeAccess}
+use Rattle.load.specs.Loaded.{planLoad, shownLoaded, concludeLoad, LoadedIn}
 use Rattle.plan.specs.Arrays.{cachesOf, pairWith}
-use Rattle.inplace.specs.InPlace.{PlannedIn, PlannedIn030, AnsweredIn, LoadedIn}
-use Rattle.inplace.proofs.Staged.{translated-by}
-use Rattle.inplace.proofs.Translating.{in-refused, in-settled, load-by}
+use Rattle.search.specs.Searched.{PlannedIn030}
+use Rattle.translate.specs.InPlace.{PlannedIn, AnsweredIn}
+use Rattle.translate.proofs.Staged.{translated-by}
+use Rattle.translate.proofs.Translating.{in-refused, in-settled}
+use Rattle.load.proofs.Loading.{load-by}
 use Rattle.lent.specs.Settled.{isSettled, settledAnswer}
 
 -- ---- translate

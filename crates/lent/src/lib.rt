@@ -4,13 +4,11 @@ use definition::Access;
 use definition::Range;
 use definition::Registers;
 use definition::Translation;
-use inplace::load;
-use inplace::load::LoadOutcome;
-use inplace::translate;
-use inplace::translate::Outcome;
+use load::LoadOutcome;
 use plan::Plan;
 use plan::checks;
 use tables::Walks;
+use translate::Outcome;
 ghost use mathlib.Core.Path.{_≡_};
 ghost use Prim.Native.Nat.{_%_};
 ghost use Rattle.definition.specs.Memory.{memory};
@@ -18,10 +16,12 @@ ghost use Rattle.definition.specs.Translate.{translate as translateOf};
 ghost use Rattle.definition.specs.Load.{load as loadOf};
 ghost use Rattle.definition.specs.Cache040.{Cache040};
 ghost use Rattle.cache.specs.Atc030.{cacheOf};
-ghost use Rattle.inplace.specs.Stages.{planAccess, shownTranslated, planLoad, concludeLoad, shownLoaded};
+ghost use Rattle.translate.specs.Stages.{planAccess, shownTranslated};
+ghost use Rattle.load.specs.Loaded.{planLoad, concludeLoad, shownLoaded, LoadedIn};
 ghost use Rattle.lent.specs.Settled.{isSettled, settledAnswer};
 ghost use Rattle.plan.specs.Arrays.{cachesOf, pairWith};
-ghost use Rattle.inplace.specs.InPlace.{PlannedIn, PlannedIn030, AnsweredIn, LoadedIn};
+ghost use Rattle.search.specs.Searched.{PlannedIn030};
+ghost use Rattle.translate.specs.InPlace.{PlannedIn, AnsweredIn};
 
 // ---- Translate.
 

@@ -19,11 +19,13 @@ use Rattle.mmu.specs.declared.by_value.PlannedPair.{PlannedPair}
 use Rattle.mmu.specs.declared.by_value.Translated.{Translated}
 use Rattle.mmu.specs.declared.by_value.Loaded.{Loaded}
 use Rattle.plan.specs.Plans.{wayOf}
-use Rattle.inplace.specs.Stages.{planAccess, shownTranslated, concludeAccess, planLoad, shownLoaded, concludeLoad}
-use Rattle.inplace.specs.InPlace.{PlannedIn, PlannedIn030, AnsweredIn, LoadedIn}
+use Rattle.translate.specs.Stages.{planAccess, shownTranslated, concludeAccess}
+use Rattle.load.specs.Loaded.{planLoad, shownLoaded, concludeLoad, LoadedIn}
+use Rattle.search.specs.Searched.{PlannedIn030}
+use Rattle.translate.specs.InPlace.{PlannedIn, AnsweredIn}
 use Rattle.mmu.specs.ByValue.{TranslatedBy, LoadedBy, Beside}
-use Rattle.inplace.proofs.Staged.{translated-by, load-beside}
-use Rattle.inplace.proofs.Translating.{load-by}
+use Rattle.translate.proofs.Staged.{translated-by}
+use Rattle.load.proofs.Loading.{load-beside, load-by}
 pub use Rattle.inquiry.proofs.Testing.{test-by}
 
 -- ---- translate

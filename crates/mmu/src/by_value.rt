@@ -6,8 +6,6 @@ use definition::Load;
 use definition::Range;
 use definition::Registers;
 use definition::Translation;
-use inplace::load;
-use inplace::translate;
 use inquiry::test;
 use inquiry::test::TestOutcome;
 use plan::Plan;
@@ -22,9 +20,11 @@ ghost use Rattle.definition.specs.Load.{load as loadOf};
 ghost use Rattle.definition.specs.Test.{test as testOf};
 ghost use Rattle.cache.specs.Pair.{pairOf};
 ghost use Rattle.plan.specs.Plans.{wayOf};
-ghost use Rattle.inplace.specs.Stages.{planAccess, concludeAccess, planLoad, concludeLoad};
+ghost use Rattle.translate.specs.Stages.{planAccess, concludeAccess};
+ghost use Rattle.load.specs.Loaded.{planLoad, concludeLoad, LoadedIn};
 ghost use Rattle.inquiry.specs.Tested.{shownTested, TestedIn};
-ghost use Rattle.inplace.specs.InPlace.{PlannedIn, PlannedIn030, AnsweredIn, LoadedIn};
+ghost use Rattle.search.specs.Searched.{PlannedIn030};
+ghost use Rattle.translate.specs.InPlace.{PlannedIn, AnsweredIn};
 ghost use Rattle.mmu.specs.ByValue.{TranslatedBy, LoadedBy, Beside};
 
 // An answer, its count and the next caches.

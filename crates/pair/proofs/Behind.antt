@@ -5,8 +5,8 @@ use Rattle.definition.specs.Load.{Loaded as LoadedOf}
 use Rattle.definition.specs.Flush.{Flushed as FlushedOf}
 use Rattle.definition.specs.declared.Flush.{Flush}
 use Rattle.cache.specs.declared.CachePair.{CachePair}
-use Rattle.inplace.specs.declared.translate.Outcome.{Outcome}
-use Rattle.inplace.specs.declared.load.LoadOutcome.{LoadOutcome}
+use Rattle.translate.specs.declared.Outcome.{Outcome}
+use Rattle.load.specs.declared.LoadOutcome.{LoadOutcome}
 use Rattle.tableless.specs.declared.Flushed.{Flushed}
 use Rattle.tableless.specs.ByValue.{flushedWith, FlushedBy}
 use Rattle.mmu.specs.declared.by_value.Translated.{Translated}

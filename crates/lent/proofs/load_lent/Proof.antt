@@ -54,9 +54,9 @@ use Rattle.definition.specs.Memory.{memory}
 use Rattle.definition.specs.Load.{load as loadOf}
 use Rattle.definition.specs.Cache040.{Cache040}
 use Rattle.cache.specs.Atc030.{cacheOf}
-use Rattle.inplace.specs.Stages.{planLoad, concludeLoad, shownLoaded}
+use Rattle.load.specs.Loaded.{planLoad, concludeLoad, shownLoaded, LoadedIn}
 use Rattle.plan.specs.Arrays.{pairWith}
-use Rattle.inplace.specs.InPlace.{PlannedIn030, LoadedIn}
+use Rattle.search.specs.Searched.{PlannedIn030}
 use Rattle.definition.specs.Refusal.{badBase}
 use Rattle.definition.specs.Words.{anyOf}
 use Rattle.definition.specs.Refusal.{crossed}
@@ -67,9 +67,9 @@ use Rattle.definition.proofs.Range as row-Range
 use Rattle.definition.specs.declared.Registers.{Registers}
 use Rattle.definition.proofs.Registers as row-Registers
 use Rattle.definition.proofs.Registers.Laws as law-Registers
-use Rattle.inplace.specs.declared.load.LoadOutcome.{LoadOutcome}
-use Rattle.inplace.proofs.load.LoadOutcome as row-LoadOutcome
-use Rattle.inplace.proofs.load.LoadOutcome.Laws as law-LoadOutcome
+use Rattle.load.specs.declared.LoadOutcome.{LoadOutcome}
+use Rattle.load.proofs.LoadOutcome as row-LoadOutcome
+use Rattle.load.proofs.LoadOutcome.Laws as law-LoadOutcome
 use Rattle.plan.specs.declared.Plan.{Plan}
 use Rattle.plan.proofs.Plan as row-Plan
 use Rattle.plan.proofs.Plan.Laws as law-Plan

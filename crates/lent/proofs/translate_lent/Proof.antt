@@ -53,16 +53,16 @@ use Rattle.tables.proofs.Branching.{leaves-if}
 use Rattle.lent.proofs.Lent as law
 use Rattle.definition.specs.Memory.{memory}
 use Rattle.definition.specs.Translate.{translate as translateOf}
-use Rattle.inplace.specs.Stages.{planAccess, shownTranslated}
+use Rattle.translate.specs.Stages.{planAccess, shownTranslated}
 use Rattle.lent.specs.Settled.{isSettled, settledAnswer}
 use Rattle.plan.specs.Arrays.{cachesOf}
-use Rattle.inplace.specs.InPlace.{PlannedIn, AnsweredIn}
+use Rattle.translate.specs.InPlace.{PlannedIn, AnsweredIn}
 use Rattle.definition.specs.Refusal.{badBase}
 use Rattle.definition.specs.Words.{anyOf}
 use Rattle.definition.specs.Refusal.{crossed}
 use Rattle.tables.specs.Walked.{walksOf}
 use Rattle.plan.specs.Plans.{wayOf}
-use Rattle.inplace.specs.Stages.{concludeAccess}
+use Rattle.translate.specs.Stages.{concludeAccess}
 use Rattle.definition.specs.declared.Access.{Access}
 use Rattle.definition.proofs.Access as row-Access
 use Rattle.definition.proofs.Access.Laws as law-Access
@@ -71,9 +71,6 @@ use Rattle.definition.proofs.Range as row-Range
 use Rattle.definition.specs.declared.Registers.{Registers}
 use Rattle.definition.proofs.Registers as row-Registers
 use Rattle.definition.proofs.Registers.Laws as law-Registers
-use Rattle.inplace.specs.declared.translate.Outcome.{Outcome}
-use Rattle.inplace.proofs.translate.Outcome as row-Outcome
-use Rattle.inplace.proofs.translate.Outcome.Laws as law-Outcome
 use Rattle.plan.specs.declared.Plan.{Plan}
 use Rattle.plan.proofs.Plan as row-Plan
 use Rattle.plan.proofs.Plan.Laws as law-Plan
@@ -83,6 +80,9 @@ use Rattle.tables.proofs.Walks.Laws as law-Walks
 use Rattle.tables.specs.declared.Way.{Way}
 use Rattle.tables.proofs.Way as row-Way
 use Rattle.tables.proofs.Way.Laws as law-Way
+use Rattle.translate.specs.declared.Outcome.{Outcome}
+use Rattle.translate.proofs.Outcome as row-Outcome
+use Rattle.translate.proofs.Outcome.Laws as law-Outcome
 use Rattle.plan.proofs.checks.bad_longs as c0
 use Rattle.plan.proofs.checks.bad_longs.Symbol as c0-def
 use Rattle.plan.proofs.checks.bad_longs.Symbol.{name as #plan·checks·bad-longs}
@@ -115,10 +115,10 @@ use Rattle.tables.proofs.walk_for as c7
 use Rattle.tables.proofs.walk_for.Symbol as c7-def
 use Rattle.tables.proofs.walk_for.Symbol.{name as #tables·walk-for}
 use Rattle.tables.proofs.walk_for.Met as c7-thm
-use Rattle.inplace.proofs.translate.conclude_access as c8
-use Rattle.inplace.proofs.translate.conclude_access.Symbol as c8-def
-use Rattle.inplace.proofs.translate.conclude_access.Symbol.{name as #inplace·translate·conclude-access}
-use Rattle.inplace.proofs.translate.conclude_access.Met as c8-thm
+use Rattle.translate.proofs.conclude_access as c8
+use Rattle.translate.proofs.conclude_access.Symbol as c8-def
+use Rattle.translate.proofs.conclude_access.Symbol.{name as #translate·conclude-access}
+use Rattle.translate.proofs.conclude_access.Met as c8-thm
 use Rattle.lent.proofs.translate_lent.Key.{name as #lent·translate-lent}
 use Rattle.lent.proofs.translate_lent as self
 use Rattle.lent.proofs.translate_lent.Statement as stated
@@ -253,7 +253,7 @@ module _ {M : Type 1} (𝓤 : URA M) (H : Heap 𝓤) (A : Atoms 𝓤) (W : Given
   said-7 : (a0 : RefT (List ℕ)) (a1 : ℕ) (a2 : RefT (List Range)) (a3 : Registers) (a4 : ℕ) (a5 : Way) (r : Walks) → ent 𝓤 (ensured 𝓤 H A c7.ended (c7.clauses 𝓤 H A mem run) (κ6, (κ7, tt)) (a0, (a1, (a2, (a3, (a4, (a5, tt)))))) tt r) (fact 𝓤 (r ≡ walksOf (memory (now a0) a1 (now a2)) a3 a4 a5))
   said-7 a0 a1 a2 a3 a4 a5 r = exE 𝓤 _ (λ ws. snd∗ 𝓤 (sem 𝓤 H A (lasts c7.ended (κ6, (κ7, tt)) (a0, (a1, (a2, (a3, (a4, (a5, tt)))))) ws)) (fact 𝓤 (r ≡ walksOf (memory (now a0) a1 (now a2)) a3 a4 a5)))
 
-  -- the call of `translate.conclude_access`: what it is passed, and what it asks
+  -- the call of `conclude_access`: what it is passed, and what it asks
   abbrev to-8 : (κ14 : Lft) (q14 : Share) (κ15 : Lft) (q15 : Share) (κ16 : Lft) (q16 : Share) (κ17 : Lft) (q17 : Share) (κ18 : Lft) (q18 : Share) (κ19 : Lft) (q19 : Share) (a0 : RefT (List ℕ)) (v0 : Val) (a1 : RefT (List ℕ)) (v1 : Val) (a2 : RefT (List ℕ)) (v2 : Val) (a3 : RefT (List ℕ)) (v3 : Val) (a4 : RefT (List ℕ)) (v4 : Val) (a5 : RefT (List ℕ)) (v5 : Val) (a6 : Registers) (v6 : Val) (a7 : Access) (v7 : Val) (a8 : Plan) (v8 : Val) (a9 : Walks) (v9 : Val) → C8 𝓤 H A mem run .Ghost
   to-8 κ14 q14 κ15 q15 κ16 q16 κ17 q17 κ18 q18 κ19 q19 a0 v0 a1 v1 a2 v2 a3 v3 a4 v4 a5 v5 a6 v6 a7 v7 a8 v8 a9 v9 = (((κ14, (κ15, (κ16, (κ17, (κ18, (κ19, tt)))))), (q14, (q15, (q16, (q17, (q18, (q19, tt)))))), tt, (a0, (a1, (a2, (a3, (a4, (a5, (a6, (a7, (a8, (a9, tt)))))))))), (v0 ∷ [], (v1 ∷ [], (v2 ∷ [], (v3 ∷ [], (v4 ∷ [], (v5 ∷ [], (v6 ∷ [], (v7 ∷ [], (v8 ∷ [], (v9 ∷ [], tt))))))))))), tt)
 
@@ -261,7 +261,7 @@ module _ {M : Type 1} (𝓤 : URA M) (H : Heap 𝓤) (A : Atoms 𝓤) (W : Given
   goes-8 κ14 q14 κ15 q15 κ16 q16 κ17 q17 κ18 q18 κ19 q19 a0 v0 a1 v1 a2 v2 a3 v3 a4 v4 a5 v5 a6 v6 a7 v7 a8 v8 a9 v9 i6 i7 i8 i9 =
       qed W (‵ (flft κ14 q14) ∷ ‵ (flft κ15 q15) ∷ ‵ (flft κ16 q16) ∷ ‵ (flft κ17 q17) ∷ ‵ (flft κ18 q18) ∷ ‵ (flft κ19 q19) ∷ ‵ ((MutRef (named 0) κ14 (Array u64 22)) .own a0 (v0 ∷ [])) ∷ ‵ ((MutRef (named 1) κ15 (Array u64 22)) .own a1 (v1 ∷ [])) ∷ ‵ ((MutRef (named 2) κ16 (Array u64 22)) .own a2 (v2 ∷ [])) ∷ ‵ ((MutRef (named 3) κ17 (Array u64 3)) .own a3 (v3 ∷ [])) ∷ ‵ ((MutRef (named 4) κ18 (Array u64 64)) .own a4 (v4 ∷ [])) ∷ ‵ ((MutRef (named 5) κ19 (Array u64 64)) .own a5 (v5 ∷ [])) ∷ []) ∵ nothing ! $ owned ! row-Walks.the-row (Is row-Walks.the-row) (EL.makes row-Walks.the-type law-Walks.the-plain 𝓤 H A) a9 _ i9 $ fjoin ! $ owned ! row-Plan.the-row (Is row-Plan.the-row) (EL.makes row-Plan.the-type law-Plan.the-plain 𝓤 H A) a8 _ i8 $ fjoin ! $ owned ! row-Access.the-row (Is row-Access.the-row) (LL.makes row-Access.the-type law-Access.the-plain 𝓤 H A) a7 _ i7 $ fjoin ! $ owned ! row-Registers.the-row (Is row-Registers.the-row) (LL.makes row-Registers.the-type law-Registers.the-plain 𝓤 H A) a6 _ i6 $ fjoin ! $ move ! (12 ∷ 0 ∷ []) $ fjoin ! $ move ! (11 ∷ 0 ∷ []) $ fjoin ! $ move ! (10 ∷ 0 ∷ []) $ fjoin ! $ move ! (9 ∷ 0 ∷ []) $ fjoin ! $ move ! (8 ∷ 0 ∷ []) $ fjoin ! $ move ! (7 ∷ 0 ∷ []) $ fjoin ! $ nothing ! $ move ! (7 ∷ 0 ∷ []) $ join ! $ move ! (6 ∷ 0 ∷ []) $ join ! $ move ! (5 ∷ 0 ∷ []) $ join ! $ move ! (4 ∷ 0 ∷ []) $ join ! $ move ! (3 ∷ 0 ∷ []) $ join ! $ move ! (2 ∷ 0 ∷ []) $ join ! $ join ! $ frame ! $ done !
 
-  module _ (𝓣 : Tables 𝓤 H) (known-0 : Triple 𝓤 (𝓣 .C #plan·checks·bad-longs) (C0 𝓤 H A mem run)) (known-1 : Triple 𝓤 (𝓣 .C #tables·any-crossed) (C1 𝓤 H A mem run)) (known-2 : Triple 𝓤 (𝓣 .C #lent·planned) (C2 𝓤 H A mem run)) (known-3 : Triple 𝓤 (𝓣 .C #lent·is-settled) (C3 𝓤 H A mem run)) (known-4 : Triple 𝓤 (𝓣 .C #lent·settled) (C4 𝓤 H A mem run)) (known-5 : Triple 𝓤 (𝓣 .C #lent·address-of) (C5 𝓤 H A mem run)) (known-6 : Triple 𝓤 (𝓣 .C #plan·way-of) (C6 𝓤 H A mem run)) (known-7 : Triple 𝓤 (𝓣 .C #tables·walk-for) (C7 𝓤 H A mem run)) (known-8 : Triple 𝓤 (𝓣 .C #inplace·translate·conclude-access) (C8 𝓤 H A mem run)) where
+  module _ (𝓣 : Tables 𝓤 H) (known-0 : Triple 𝓤 (𝓣 .C #plan·checks·bad-longs) (C0 𝓤 H A mem run)) (known-1 : Triple 𝓤 (𝓣 .C #tables·any-crossed) (C1 𝓤 H A mem run)) (known-2 : Triple 𝓤 (𝓣 .C #lent·planned) (C2 𝓤 H A mem run)) (known-3 : Triple 𝓤 (𝓣 .C #lent·is-settled) (C3 𝓤 H A mem run)) (known-4 : Triple 𝓤 (𝓣 .C #lent·settled) (C4 𝓤 H A mem run)) (known-5 : Triple 𝓤 (𝓣 .C #lent·address-of) (C5 𝓤 H A mem run)) (known-6 : Triple 𝓤 (𝓣 .C #plan·way-of) (C6 𝓤 H A mem run)) (known-7 : Triple 𝓤 (𝓣 .C #tables·walk-for) (C7 𝓤 H A mem run)) (known-8 : Triple 𝓤 (𝓣 .C #translate·conclude-access) (C8 𝓤 H A mem run)) where
     abbrev C : Calls 𝓤 H
     C = 𝓣 .C
 
@@ -446,11 +446,11 @@ module _ {M : Type 1} (𝓤 : URA M) (H : Heap 𝓤) (A : Atoms 𝓤) (W : Given
         by ! (exits (ws51 .0) (ws51 .1 .0) (ws51 .1 .1 .0) (ws51 .1 .1 .1 .0) (ws51 .1 .1 .1 .1 .0) (ws51 .1 .1 .1 .1 .1 .0) r48 (LL.val row-Outcome.the-type law-Outcome.the-laws r48) (subst (Is row-Outcome.the-row r48) (LL.tells row-Outcome.the-type law-Outcome.the-laws r48 _ is50) is50) (law.translates x10 x11 (memory (now x7) x8 (now x9)) _ e3 e7 e17 e31 e35 e39 e49)))))))))))))))))))))))))))))))))))))))))))))))))))))))))))))))))))))))))))))))))))))))))))))
 
 module _ {M : Type 1} (𝓤 : URA M) (H : Heap 𝓤) (A : Atoms 𝓤) (W : Given 𝓤 H A) (mem : Memory → SProp 𝓤) (run : Routine → Fun 𝓤) (𝓣 : Tables 𝓤 H) where
-  self-walks : Triple 𝓤 (𝓣 .C #plan·checks·bad-longs) (C0 𝓤 H A mem run) → Triple 𝓤 (𝓣 .C #tables·any-crossed) (C1 𝓤 H A mem run) → Triple 𝓤 (𝓣 .C #lent·planned) (C2 𝓤 H A mem run) → Triple 𝓤 (𝓣 .C #lent·is-settled) (C3 𝓤 H A mem run) → Triple 𝓤 (𝓣 .C #lent·settled) (C4 𝓤 H A mem run) → Triple 𝓤 (𝓣 .C #lent·address-of) (C5 𝓤 H A mem run) → Triple 𝓤 (𝓣 .C #plan·way-of) (C6 𝓤 H A mem run) → Triple 𝓤 (𝓣 .C #tables·walk-for) (C7 𝓤 H A mem run) → Triple 𝓤 (𝓣 .C #inplace·translate·conclude-access) (C8 𝓤 H A mem run) → AllWalks 𝓤 H A self.ended stayed (WpFn 𝓤 H (𝓣 .C) (𝓣 .Λ) code.function) (self.clauses 𝓤 H A mem run)
+  self-walks : Triple 𝓤 (𝓣 .C #plan·checks·bad-longs) (C0 𝓤 H A mem run) → Triple 𝓤 (𝓣 .C #tables·any-crossed) (C1 𝓤 H A mem run) → Triple 𝓤 (𝓣 .C #lent·planned) (C2 𝓤 H A mem run) → Triple 𝓤 (𝓣 .C #lent·is-settled) (C3 𝓤 H A mem run) → Triple 𝓤 (𝓣 .C #lent·settled) (C4 𝓤 H A mem run) → Triple 𝓤 (𝓣 .C #lent·address-of) (C5 𝓤 H A mem run) → Triple 𝓤 (𝓣 .C #plan·way-of) (C6 𝓤 H A mem run) → Triple 𝓤 (𝓣 .C #tables·walk-for) (C7 𝓤 H A mem run) → Triple 𝓤 (𝓣 .C #translate·conclude-access) (C8 𝓤 H A mem run) → AllWalks 𝓤 H A self.ended stayed (WpFn 𝓤 H (𝓣 .C) (𝓣 .Λ) code.function) (self.clauses 𝓤 H A mem run)
   self-walks known-0 known-1 known-2 known-3 known-4 known-5 known-6 known-7 known-8 = walked 𝓤 H A self.ended stayed (self.clauses 𝓤 H A mem run) (WpFn 𝓤 H (𝓣 .C) (𝓣 .Λ) code.function) (λ κs. (ptr-vals, (ptr-vals, (ptr-vals, (ptr-vals, (ptr-vals, (ptr-vals, (slice-vals, (uint-vals w32, (slice-vals, (LL.vals row-Registers.the-type law-Registers.the-laws, (LL.vals row-Access.the-type law-Access.the-laws, tt)))))))))))) (λ κs. (mut-tells (named 0) (κs .0) (Array u64 22), (mut-tells (named 1) (κs .1 .0) (Array u64 22), (mut-tells (named 2) (κs .1 .1 .0) (Array u64 22), (mut-tells (named 3) (κs .1 .1 .1 .0) (Array u64 3), (mut-tells (named 4) (κs .1 .1 .1 .1 .0) (Array u64 64), (mut-tells (named 5) (κs .1 .1 .1 .1 .1 .0) (Array u64 64), (shr-slice-tells (named 6) (κs .1 .1 .1 .1 .1 .1 .0) u32, (uint-tells w32, (shr-slice-tells (named 7) (κs .1 .1 .1 .1 .1 .1 .1 .0) row-Range.the-row, (LL.tells row-Registers.the-type law-Registers.the-laws, (LL.tells row-Access.the-type law-Access.the-laws, tt))))))))))))
       (λ κs qs bounds a g are. via 𝓤 _ (fst∗ 𝓤 _ (emp 𝓤)) (walk 𝓤 H A W mem run (κs .0) (κs .1 .0) (κs .1 .1 .0) (κs .1 .1 .1 .0) (κs .1 .1 .1 .1 .0) (κs .1 .1 .1 .1 .1 .0) (κs .1 .1 .1 .1 .1 .1 .0) (κs .1 .1 .1 .1 .1 .1 .1 .0) (qs .0) (qs .1 .0) (qs .1 .1 .0) (qs .1 .1 .1 .0) (qs .1 .1 .1 .1 .0) (qs .1 .1 .1 .1 .1 .0) (qs .1 .1 .1 .1 .1 .1 .0) (qs .1 .1 .1 .1 .1 .1 .1 .0) (a .0) (a .1 .0) (a .1 .1 .0) (a .1 .1 .1 .0) (a .1 .1 .1 .1 .0) (a .1 .1 .1 .1 .1 .0) (a .1 .1 .1 .1 .1 .1 .0) (a .1 .1 .1 .1 .1 .1 .1 .0) (a .1 .1 .1 .1 .1 .1 .1 .1 .0) (a .1 .1 .1 .1 .1 .1 .1 .1 .1 .0) (a .1 .1 .1 .1 .1 .1 .1 .1 .1 .1 .0) (are .0) (are .1 .0) (are .1 .1 .0) (are .1 .1 .1 .0) (are .1 .1 .1 .1 .0) (are .1 .1 .1 .1 .1 .0) (are .1 .1 .1 .1 .1 .1 .0) (are .1 .1 .1 .1 .1 .1 .1 .0) (are .1 .1 .1 .1 .1 .1 .1 .1 .0) (are .1 .1 .1 .1 .1 .1 .1 .1 .1 .0) (are .1 .1 .1 .1 .1 .1 .1 .1 .1 .1 .0) 𝓣 known-0 known-1 known-2 known-3 known-4 known-5 known-6 known-7 known-8))
 
-  self-meets : Triple 𝓤 (𝓣 .C #plan·checks·bad-longs) (C0 𝓤 H A mem run) → Triple 𝓤 (𝓣 .C #tables·any-crossed) (C1 𝓤 H A mem run) → Triple 𝓤 (𝓣 .C #lent·planned) (C2 𝓤 H A mem run) → Triple 𝓤 (𝓣 .C #lent·is-settled) (C3 𝓤 H A mem run) → Triple 𝓤 (𝓣 .C #lent·settled) (C4 𝓤 H A mem run) → Triple 𝓤 (𝓣 .C #lent·address-of) (C5 𝓤 H A mem run) → Triple 𝓤 (𝓣 .C #plan·way-of) (C6 𝓤 H A mem run) → Triple 𝓤 (𝓣 .C #tables·walk-for) (C7 𝓤 H A mem run) → Triple 𝓤 (𝓣 .C #inplace·translate·conclude-access) (C8 𝓤 H A mem run) → Meets 𝓤 H A self.signature (WpFn 𝓤 H (𝓣 .C) (𝓣 .Λ) code.function) (self.spec 𝓤 H A mem run)
+  self-meets : Triple 𝓤 (𝓣 .C #plan·checks·bad-longs) (C0 𝓤 H A mem run) → Triple 𝓤 (𝓣 .C #tables·any-crossed) (C1 𝓤 H A mem run) → Triple 𝓤 (𝓣 .C #lent·planned) (C2 𝓤 H A mem run) → Triple 𝓤 (𝓣 .C #lent·is-settled) (C3 𝓤 H A mem run) → Triple 𝓤 (𝓣 .C #lent·settled) (C4 𝓤 H A mem run) → Triple 𝓤 (𝓣 .C #lent·address-of) (C5 𝓤 H A mem run) → Triple 𝓤 (𝓣 .C #plan·way-of) (C6 𝓤 H A mem run) → Triple 𝓤 (𝓣 .C #tables·walk-for) (C7 𝓤 H A mem run) → Triple 𝓤 (𝓣 .C #translate·conclude-access) (C8 𝓤 H A mem run) → Meets 𝓤 H A self.signature (WpFn 𝓤 H (𝓣 .C) (𝓣 .Λ) code.function) (self.spec 𝓤 H A mem run)
   self-meets known-0 known-1 known-2 known-3 known-4 known-5 known-6 known-7 known-8 = walk-meets 𝓤 H A self.ended stayed W (goes-ref 𝓤 H A W 8 0 tt (plain (λ _. (Array u64 22))), (goes-ref 𝓤 H A W 8 1 tt (plain (λ _. (Array u64 22))), (goes-ref 𝓤 H A W 8 2 tt (plain (λ _. (Array u64 22))), (goes-ref 𝓤 H A W 8 3 tt (plain (λ _. (Array u64 3))), (goes-ref 𝓤 H A W 8 4 tt (plain (λ _. (Array u64 64))), (goes-ref 𝓤 H A W 8 5 tt (plain (λ _. (Array u64 64))), (goes-none-slice 𝓤 H A W 8 (6 ∷ []) tt (plain (λ _. u32)) yes, (goes-none 𝓤 H A W 8 (λ _. u32) yes (λ κs x f. refl), (goes-none-slice 𝓤 H A W 8 (7 ∷ []) tt (plain (λ _. row-Range.the-row)) yes, (goes-none 𝓤 H A W 8 (λ _. row-Registers.the-row) yes (λ κs x f. refl), (goes-none 𝓤 H A W 8 (λ _. row-Access.the-row) yes (λ κs x f. refl), tt))))))))))) (self.clauses 𝓤 H A mem run) (WpFn 𝓤 H (𝓣 .C) (𝓣 .Λ) code.function) (WpFn-mono 𝓤 H (W .laws) 𝓣 code.function) (self-walks known-0 known-1 known-2 known-3 known-4 known-5 known-6 known-7 known-8)
 
 pub translate-lent-spec : {M : Type 1} → stated.statement M
@@ -467,4 +467,4 @@ translate-lent-spec 𝓤 H 𝓜 𝓖 𝓡 =
     (cited 𝓤 H (C5 𝓤 H (𝓖 .A) (𝓜 .mem) (𝓡 .run)) 𝓜 𝓡 code.env #lent·address-of c5-def.routine code.calls-lent·address-of (c5-thm.met 𝓤 H 𝓜 𝓖 𝓡))
     (cited 𝓤 H (C6 𝓤 H (𝓖 .A) (𝓜 .mem) (𝓡 .run)) 𝓜 𝓡 code.env #plan·way-of c6-def.routine code.calls-plan·way-of (c6-thm.met 𝓤 H 𝓜 𝓖 𝓡))
     (cited 𝓤 H (C7 𝓤 H (𝓖 .A) (𝓜 .mem) (𝓡 .run)) 𝓜 𝓡 code.env #tables·walk-for c7-def.routine code.calls-tables·walk-for (c7-thm.met 𝓤 H 𝓜 𝓖 𝓡))
-    (cited 𝓤 H (C8 𝓤 H (𝓖 .A) (𝓜 .mem) (𝓡 .run)) 𝓜 𝓡 code.env #inplace·translate·conclude-access c8-def.routine code.calls-inplace·translate·conclude-access (c8-thm.met 𝓤 H 𝓜 𝓖 𝓡)))
+    (cited 𝓤 H (C8 𝓤 H (𝓖 .A) (𝓜 .mem) (𝓡 .run)) 𝓜 𝓡 code.env #translate·conclude-access c8-def.routine code.calls-translate·conclude-access (c8-thm.met 𝓤 H 𝓜 𝓖 𝓡)))

@@ -58,9 +58,9 @@ use Rattle.definition.proofs.Range as row-Range
 use Rattle.definition.specs.declared.Registers.{Registers}
 use Rattle.definition.proofs.Registers as row-Registers
 use Rattle.definition.proofs.Registers.Laws as law-Registers
-use Rattle.inplace.specs.declared.load.LoadOutcome.{LoadOutcome}
-use Rattle.inplace.proofs.load.LoadOutcome as row-LoadOutcome
-use Rattle.inplace.proofs.load.LoadOutcome.Laws as law-LoadOutcome
+use Rattle.load.specs.declared.LoadOutcome.{LoadOutcome}
+use Rattle.load.proofs.LoadOutcome as row-LoadOutcome
+use Rattle.load.proofs.LoadOutcome.Laws as law-LoadOutcome
 use Rattle.mmu.specs.declared.by_value.Loaded.{Loaded}
 use Rattle.mmu.proofs.by_value.Loaded as row-Loaded
 use Rattle.mmu.proofs.by_value.Loaded.Laws as law-Loaded

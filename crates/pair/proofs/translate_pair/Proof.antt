@@ -60,12 +60,12 @@ use Rattle.definition.proofs.Range as row-Range
 use Rattle.definition.specs.declared.Registers.{Registers}
 use Rattle.definition.proofs.Registers as row-Registers
 use Rattle.definition.proofs.Registers.Laws as law-Registers
-use Rattle.inplace.specs.declared.translate.Outcome.{Outcome}
-use Rattle.inplace.proofs.translate.Outcome as row-Outcome
-use Rattle.inplace.proofs.translate.Outcome.Laws as law-Outcome
 use Rattle.mmu.specs.declared.by_value.Translated.{Translated}
 use Rattle.mmu.proofs.by_value.Translated as row-Translated
 use Rattle.mmu.proofs.by_value.Translated.Laws as law-Translated
+use Rattle.translate.specs.declared.Outcome.{Outcome}
+use Rattle.translate.proofs.Outcome as row-Outcome
+use Rattle.translate.proofs.Outcome.Laws as law-Outcome
 use Rattle.mmu.proofs.by_value.translate as c0
 use Rattle.mmu.proofs.by_value.translate.Symbol as c0-def
 use Rattle.mmu.proofs.by_value.translate.Symbol.{name as #mmu·by-value·translate}

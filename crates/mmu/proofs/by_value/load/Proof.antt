@@ -42,8 +42,8 @@ use Rattle.definition.specs.Memory.{memory}
 use Rattle.definition.specs.Load.{load as loadOf}
 use Rattle.cache.specs.Pair.{pairOf}
 use Rattle.plan.specs.Plans.{wayOf}
-use Rattle.inplace.specs.Stages.{planLoad, concludeLoad}
-use Rattle.inplace.specs.InPlace.{PlannedIn030, LoadedIn}
+use Rattle.load.specs.Loaded.{planLoad, concludeLoad, LoadedIn}
+use Rattle.search.specs.Searched.{PlannedIn030}
 use Rattle.mmu.specs.ByValue.{LoadedBy, Beside}
 use Rattle.definition.specs.Refusal.{badBase}
 use Rattle.definition.specs.Words.{anyOf}

@@ -42,8 +42,8 @@ use Rattle.definition.specs.Memory.{memory}
 use Rattle.definition.specs.Translate.{translate as translateOf}
 use Rattle.cache.specs.Pair.{pairOf}
 use Rattle.plan.specs.Plans.{wayOf}
-use Rattle.inplace.specs.Stages.{planAccess, concludeAccess}
-use Rattle.inplace.specs.InPlace.{PlannedIn, AnsweredIn}
+use Rattle.translate.specs.Stages.{planAccess, concludeAccess}
+use Rattle.translate.specs.InPlace.{PlannedIn, AnsweredIn}
 use Rattle.mmu.specs.ByValue.{TranslatedBy}
 use Rattle.definition.specs.Refusal.{badBase}
 use Rattle.definition.specs.Words.{anyOf}

@@ -1,5 +1,0 @@
-pub mod Staged
-pub mod Searching
-pub mod Planning
-pub mod Concluding
-pub mod Translating

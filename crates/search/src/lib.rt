@@ -1,0 +1,243 @@
+// A 68030 search in place: what is planned before the walk, and what the walk's end gives. Translate and load share it. A code has three bits.
+use cache::atc030::insert;
+use cache::atc030::look;
+use definition::End;
+use definition::FaultCause;
+use definition::FaultKind;
+use definition::Hit;
+use definition::Shift;
+use definition::Translation;
+use plan::Plan;
+use plan::checks;
+use tables::Walked;
+use tables::Way;
+ghost use mathlib.Core.Path.{_≡_};
+ghost use Prim.Native.Nat.{_%_, _<_};
+ghost use Rattle.definition.specs.Words.{if_then_else_};
+ghost use Rattle.definition.specs.Walk030.{shiftOf};
+ghost use Rattle.definition.specs.Cache030.{Cache030};
+ghost use Rattle.definition.specs.Translate.{violation, busError, configuration, cached};
+ghost use Rattle.cache.specs.Atc030.{cacheOf, Sized, Stepped};
+ghost use Rattle.search.specs.Searched.{lookPlan, plan030, missingCause, permittedOf, page030, end030, PlannedIn030, Ended};
+
+// By what the look gave: a hit adds the address's low page-shift bits.
+fn looked(hit: Hit, code: u32, address: u32, shift: u32) -> Plan
+    ensures { λ r. ⌜ r ≡ lookPlan code address shift hit ⌝ }
+{
+    match hit {
+        Hit::At(base) => Plan::Settled(tables::hit_address(base, address, shift)),
+        Hit::Miss => Plan::Walk(Way::By030 { code, limit: 5 }),
+    }
+}
+
+// The cache, where there is a page shift; else the walk.
+pub fn plan_030(
+    tags: &[u64; 22],
+    pages: &[u64; 22],
+    stamps: &mut [u64; 22],
+    marks: &mut [u64; 3],
+    tc: u32,
+    code: u32,
+    address: u32,
+    write: bool,
+    recorded: bool,
+) -> Plan
+    ensures { λ r. ⌜ PlannedIn030 (plan030 (cacheOf (now (tags .entry)) (now (pages .entry)) (now (stamps .entry)) (now (marks .entry))) recorded (code % 8) address write (shiftOf tc)) r (now (tags .entry)) (now (pages .entry)) (now (stamps .exit)) (now (marks .exit)) ⌝ }
+{
+    checks::lengths_030(tags, pages, stamps, marks);
+    let code = code % 8;
+    match tables::page_shift(tc) {
+        Shift::NoPage => Plan::Walk(Way::By030 { code, limit: 5 }),
+        Shift::Bits(shift) => {
+            let page = address >> shift;
+            let hit = look(
+                tags,
+                pages,
+                stamps,
+                marks,
+                code,
+                page,
+                shift,
+                write,
+                recorded,
+            );
+            looked(hit, code, address, shift)
+        }
+    }
+}
+
+// A fault of an access: AccessLevelViolation, which reports the logical address.
+pub fn fault(cause: FaultCause, address: u32) -> Translation
+    ensures { λ r. ⌜ r ≡ violation cause address ⌝ }
+{
+    Translation::Fault {
+        kind: FaultKind::AccessLevelViolation,
+        cause,
+        address,
+    }
+}
+
+// Bus error: kind BusError, cause TableWalkBusError, at the long that failed.
+pub fn bus_fault(at: u32) -> Translation
+    ensures { λ r. ⌜ r ≡ busError at ⌝ }
+{
+    Translation::Fault {
+        kind: FaultKind::BusError,
+        cause: FaultCause::TableWalkBusError,
+        address: at,
+    }
+}
+
+// Configuration: kind ConfigurationError, cause PageFault.
+fn configuration_fault(address: u32) -> Translation
+    ensures { λ r. ⌜ r ≡ configuration address ⌝ }
+{
+    Translation::Fault {
+        kind: FaultKind::ConfigurationError,
+        cause: FaultCause::PageFault,
+        address,
+    }
+}
+
+// Invalid: PageFault, or Indirect for a bad target.
+fn missing_cause(indirect: bool) -> FaultCause
+    ensures { λ r. ⌜ r ≡ missingCause indirect ⌝ }
+{
+    if indirect {
+        return FaultCause::Indirect;
+    }
+    FaultCause::PageFault
+}
+
+// The page's base is cached, where there is a page shift.
+fn cache_page(
+    tags: &mut [u64; 22],
+    pages: &mut [u64; 22],
+    stamps: &mut [u64; 22],
+    marks: &mut [u64; 3],
+    tc: u32,
+    code: u32,
+    address: u32,
+    physical: u32,
+    wp: bool,
+)
+    requires { ⌜ (code < 8) × Sized (now tags) (now pages) (now stamps) (now marks) ⌝ }
+    ensures { λ _. ⌜ Stepped (λ (c : Cache030). cached (shiftOf tc) c code address physical wp) (now (tags .entry)) (now (pages .entry)) (now (stamps .entry)) (now (marks .entry)) (now (tags .exit)) (now (pages .exit)) (now (stamps .exit)) (now (marks .exit)) ⌝ }
+{
+    match tables::page_shift(tc) {
+        Shift::NoPage => {}
+        Shift::Bits(shift) => {
+            let page = address >> shift;
+            let base = tables::page_base(physical, address, shift);
+            insert(tags, pages, stamps, marks, code, page, shift, base, wp);
+        }
+    }
+}
+
+// Nothing is cached of a page that S forbids.
+fn cache_unless(
+    tags: &mut [u64; 22],
+    pages: &mut [u64; 22],
+    stamps: &mut [u64; 22],
+    marks: &mut [u64; 3],
+    forbidden: bool,
+    tc: u32,
+    code: u32,
+    address: u32,
+    physical: u32,
+    wp: bool,
+)
+    requires { ⌜ (code < 8) × Sized (now tags) (now pages) (now stamps) (now marks) ⌝ }
+    ensures { λ _. ⌜ Stepped (λ (c : Cache030). if forbidden then c else cached (shiftOf tc) c code address physical wp) (now (tags .entry)) (now (pages .entry)) (now (stamps .entry)) (now (marks .entry)) (now (tags .exit)) (now (pages .exit)) (now (stamps .exit)) (now (marks .exit)) ⌝ }
+{
+    if forbidden {
+        return;
+    }
+    cache_page(tags, pages, stamps, marks, tc, code, address, physical, wp);
+}
+
+// A page that S forbids gives SupervisorProtect, and then a write with WP gives WriteProtect.
+fn permitted(forbidden: bool, write: bool, wp: bool, address: u32, physical: u32) -> Translation
+    ensures { λ r. ⌜ r ≡ permittedOf forbidden write wp address physical ⌝ }
+{
+    if forbidden {
+        return fault(FaultCause::SupervisorProtect, address);
+    }
+    if write & wp {
+        return fault(FaultCause::WriteProtect, address);
+    }
+    Translation::Address(physical)
+}
+
+// S set and a user access: SupervisorProtect, nothing cached. Otherwise the page's base is cached, also where WP then forbids a write.
+fn page_found(
+    tags: &mut [u64; 22],
+    pages: &mut [u64; 22],
+    stamps: &mut [u64; 22],
+    marks: &mut [u64; 3],
+    tc: u32,
+    code: u32,
+    address: u32,
+    write: bool,
+    wp: bool,
+    sup: bool,
+    physical: u32,
+) -> Translation
+    requires { ⌜ (code < 8) × Sized (now tags) (now pages) (now stamps) (now marks) ⌝ }
+    ensures { λ r. ⌜ Ended (page030 tc (cacheOf (now (tags .entry)) (now (pages .entry)) (now (stamps .entry)) (now (marks .entry))) code address write wp sup physical) r (now (tags .exit)) (now (pages .exit)) (now (stamps .exit)) (now (marks .exit)) ⌝ }
+{
+    let forbidden = sup & !((code >> 2) % 2 == 1);
+    cache_unless(
+        tags,
+        pages,
+        stamps,
+        marks,
+        forbidden,
+        tc,
+        code,
+        address,
+        physical,
+        wp,
+    );
+    permitted(forbidden, write, wp, address, physical)
+}
+
+// What a walk's end gives.
+pub fn end_030(
+    tags: &mut [u64; 22],
+    pages: &mut [u64; 22],
+    stamps: &mut [u64; 22],
+    marks: &mut [u64; 3],
+    tc: u32,
+    code: u32,
+    address: u32,
+    write: bool,
+    w: Walked,
+) -> Translation
+    ensures { λ r. ⌜ Ended (end030 tc (cacheOf (now (tags .entry)) (now (pages .entry)) (now (stamps .entry)) (now (marks .entry))) (code % 8) address write w) r (now (tags .exit)) (now (pages .exit)) (now (stamps .exit)) (now (marks .exit)) ⌝ }
+{
+    checks::lengths_030(tags, pages, stamps, marks);
+    let end = w.end;
+    match end {
+        End::Page { field, consumed } => {
+            let to = tables::physical(field, consumed, address);
+            page_found(
+                tags,
+                pages,
+                stamps,
+                marks,
+                tc,
+                code % 8,
+                address,
+                write,
+                w.wp,
+                w.sup,
+                to,
+            )
+        }
+        End::Invalid { indirect } => fault(missing_cause(indirect), address),
+        End::BusError { at } => bus_fault(at),
+        End::LevelStop => configuration_fault(address),
+        End::Config => configuration_fault(address),
+    }
+}

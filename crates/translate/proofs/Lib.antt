@@ -1,0 +1,4 @@
+pub mod Staged
+pub mod Planning
+pub mod Concluding
+pub mod Translating
