@@ -29,10 +29,11 @@ use Rattle.definition.specs.declared.Test.{Test}
 use Rattle.definition.specs.declared.Test.the-variants as test′
 use Rattle.definition.specs.declared.Flush.{Flush}
 use Rattle.plan.specs.Arrays.{cachesOf, pairWith}
-use Rattle.inplace.specs.InPlace.{AnsweredIn, LoadedIn}
+use Rattle.translate.specs.InPlace.{AnsweredIn}
+use Rattle.load.specs.Loaded.{LoadedIn, shownLoaded}
 use Rattle.inquiry.specs.Tested.{TestedIn, shownTested}
 use Rattle.flush.specs.Flushed.{FlushedIn, FlushedIn030, FlushedIn040}
-use Rattle.inplace.specs.Stages.{shownTranslated, shownLoaded}
+use Rattle.translate.specs.Stages.{shownTranslated}
 use Rattle.cache.specs.Atc030.{cacheOf}
 use Rattle.cache.specs.Atc040.{cache040Of}
 use Rattle.host.specs.Numbers.{TranslatedTo, LoadedTo, testedNumbers, registersWith, registersOf, overrideOf, accessWith, accessOf, probeNumbers, translationNumbers, loadNumbers, testNumbers, flushNumber, FlushedTo}

@@ -57,16 +57,15 @@ use Rattle.definition.specs.Memory.{memory}
 use Rattle.cache.specs.Atc030.{cacheOf}
 use Rattle.plan.specs.Arrays.{pairWith}
 use Rattle.host.specs.Numbers.{registersOf, loadNumbers, LoadedTo}
-use Rattle.inplace.specs.Stages.{shownLoaded}
-use Rattle.inplace.specs.InPlace.{LoadedIn}
+use Rattle.load.specs.Loaded.{shownLoaded, LoadedIn}
 use Rattle.definition.specs.declared.Range.{Range}
 use Rattle.definition.proofs.Range as row-Range
 use Rattle.definition.specs.declared.Registers.{Registers}
 use Rattle.definition.proofs.Registers as row-Registers
 use Rattle.definition.proofs.Registers.Laws as law-Registers
-use Rattle.inplace.specs.declared.load.LoadOutcome.{LoadOutcome}
-use Rattle.inplace.proofs.load.LoadOutcome as row-LoadOutcome
-use Rattle.inplace.proofs.load.LoadOutcome.Laws as law-LoadOutcome
+use Rattle.load.specs.declared.LoadOutcome.{LoadOutcome}
+use Rattle.load.proofs.LoadOutcome as row-LoadOutcome
+use Rattle.load.proofs.LoadOutcome.Laws as law-LoadOutcome
 use Rattle.host.proofs.registers_of as c0
 use Rattle.host.proofs.registers_of.Symbol as c0-def
 use Rattle.host.proofs.registers_of.Symbol.{name as #host·registers-of}

@@ -54,8 +54,8 @@ use Rattle.definition.specs.Translate.{translate as translateOf}
 use Rattle.definition.specs.Memory.{memory}
 use Rattle.plan.specs.Arrays.{cachesOf}
 use Rattle.host.specs.Numbers.{registersOf, accessOf, translationNumbers, TranslatedTo}
-use Rattle.inplace.specs.Stages.{shownTranslated}
-use Rattle.inplace.specs.InPlace.{AnsweredIn}
+use Rattle.translate.specs.Stages.{shownTranslated}
+use Rattle.translate.specs.InPlace.{AnsweredIn}
 use Rattle.definition.specs.declared.Access.{Access}
 use Rattle.definition.proofs.Access as row-Access
 use Rattle.definition.proofs.Access.Laws as law-Access
@@ -64,9 +64,9 @@ use Rattle.definition.proofs.Range as row-Range
 use Rattle.definition.specs.declared.Registers.{Registers}
 use Rattle.definition.proofs.Registers as row-Registers
 use Rattle.definition.proofs.Registers.Laws as law-Registers
-use Rattle.inplace.specs.declared.translate.Outcome.{Outcome}
-use Rattle.inplace.proofs.translate.Outcome as row-Outcome
-use Rattle.inplace.proofs.translate.Outcome.Laws as law-Outcome
+use Rattle.translate.specs.declared.Outcome.{Outcome}
+use Rattle.translate.proofs.Outcome as row-Outcome
+use Rattle.translate.proofs.Outcome.Laws as law-Outcome
 use Rattle.host.proofs.registers_of as c0
 use Rattle.host.proofs.registers_of.Symbol as c0-def
 use Rattle.host.proofs.registers_of.Symbol.{name as #host·registers-of}
