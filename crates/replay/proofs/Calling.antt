@@ -26,12 +26,13 @@ use Rattle.trace.specs.declared.Call.{Call as Made}
 use Rattle.trace.specs.declared.Line.{Line}
 use Rattle.cache.specs.Atc030.{cacheOf}
 use Rattle.cache.specs.Atc040.{cache040Of}
-use Rattle.inplace.specs.Stages.{shownTranslated, shownLoaded}
+use Rattle.translate.specs.Stages.{shownTranslated}
+use Rattle.load.specs.Loaded.{shownLoaded, LoadedIn}
 use Rattle.inquiry.specs.Tested.{shownTested, TestedIn}
 use Rattle.plan.specs.Arrays.{cachesOf, pairWith}
-use Rattle.inplace.specs.InPlace.{AnsweredIn, LoadedIn}
+use Rattle.translate.specs.InPlace.{AnsweredIn}
 use Rattle.flush.specs.Flushed.{FlushedIn, FlushedIn030, FlushedIn040}
-use Rattle.inplace.proofs.Staged.{load-beside}
+use Rattle.load.proofs.Loading.{load-beside}
 use Rattle.plan.proofs.Pairs.{beside}
 use Rattle.replay.specs.Playing.{CalledIn, Tests}
 

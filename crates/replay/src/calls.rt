@@ -103,7 +103,7 @@ fn access_line(
 ) -> Line
     ensures { λ r. ⌜ (three ≡ anyOf crossed (take n list) → CalledIn (calling g (memory (now (longs .entry)) 0 (take n list)) (cachesOf (now (tags .entry)) (now (pages .entry)) (now (stamps .entry)) (now (marks .entry)) (now (keys .entry)) (now (bases .entry))) (access a)) r (now (tags .exit)) (now (pages .exit)) (now (stamps .exit)) (now (marks .exit)) (now (keys .exit)) (now (bases .exit))) ⌝ }
 {
-    let o = inplace::translate::translate_in(
+    let o = translate::translate_in(
         tags,
         pages,
         stamps,
@@ -141,7 +141,7 @@ fn load_call(
 ) -> Line
     ensures { λ r. ⌜ (three ≡ anyOf crossed (take n list) → CalledIn (calling g (memory (now (longs .entry)) 0 (take n list)) (cachesOf (now (tags .entry)) (now (pages .entry)) (now (stamps .entry)) (now (marks .entry)) (now (keys .entry)) (now (bases .entry))) (loading code write address)) r (now (tags .exit)) (now (pages .exit)) (now (stamps .exit)) (now (marks .exit)) (now (keys .entry)) (now (bases .entry))) ⌝ }
 {
-    let o = inplace::load::load_in(
+    let o = load::load_in(
         tags,
         pages,
         stamps,
