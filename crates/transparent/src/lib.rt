@@ -2,7 +2,8 @@
 use definition::Registers;
 ghost use mathlib.Core.Path.{_≡_};
 ghost use Rattle.definition.specs.Words.{bitOf, agrees};
-ghost use Rattle.definition.specs.Transparent.{covers, matches030, privilege, matches040, transparent030, transparent040, transparent};
+ghost use Rattle.definition.specs.Transparent.{covers, matches030, privilege, matches040, transparent030, transparent};
+ghost use Rattle.transparent.specs.Chosen.{matchesBy, eitherBy, firstBy, secondBy};
 
 // Whether a and b agree on the mask's bits.
 fn agree(a: u32, b: u32, mask: u32) -> bool
@@ -11,11 +12,18 @@ fn agree(a: u32, b: u32, mask: u32) -> bool
     (a ^ b) & mask == 0
 }
 
+// Bit 15 enables.
+fn is_enabled(tt: u32) -> bool
+    ensures { λ r. ⌜ r ≡ bitOf tt 15 ⌝ }
+{
+    (tt >> 15) % 2 == 1
+}
+
 // Bit 15 enables, and bits 31:24 agree with the address's but for those set in 23:16.
 fn covers_address(tt: u32, address: u32) -> bool
     ensures { λ r. ⌜ r ≡ covers tt address ⌝ }
 {
-    if (tt >> 15) % 2 == 1 {
+    if is_enabled(tt) {
         return agree(address >> 24, tt >> 24, 255 - (tt >> 16) % 256);
     }
     false
@@ -52,40 +60,68 @@ pub fn matches_040(tt: u32, address: u32, supervisor: bool) -> bool
     false
 }
 
+// One register of this family. Family 60 matches nothing.
+fn matches(family: u32, tt: u32, address: u32, code: u32) -> bool
+    ensures { λ r. ⌜ r ≡ matchesBy family tt address code ⌝ }
+{
+    match family {
+        30 => matches_030(tt, address, code),
+        40 => matches_040(tt, address, (code >> 2) % 2 == 1),
+        _ => false,
+    }
+}
+
+// Either of two of them.
+fn either(family: u32, first: u32, second: u32, address: u32, code: u32) -> bool
+    ensures { λ r. ⌜ r ≡ eitherBy family first second address code ⌝ }
+{
+    if matches(family, first, address, code) {
+        return true;
+    }
+    matches(family, second, address, code)
+}
+
 // TT0 or TT1.
 pub fn transparent_030(g: Registers, address: u32, code: u32) -> bool
     ensures { λ r. ⌜ r ≡ transparent030 g address code ⌝ }
 {
-    if matches_030(g.tt0, address, code) {
-        return true;
-    }
-    matches_030(g.tt1, address, code)
+    either(30, g.tt0, g.tt1, address, code)
 }
 
-// ITT0 or ITT1 for instructions, DTT0 or DTT1 for data.
-fn transparent_040(g: Registers, address: u32, supervisor: bool, instruction: bool) -> bool
-    ensures { λ r. ⌜ r ≡ transparent040 g address supervisor instruction ⌝ }
+// The first register that an access is compared with: TT0, or ITT0 for instructions and DTT0 for data.
+fn first_of(g: Registers, instruction: bool) -> u32
+    ensures { λ r. ⌜ r ≡ firstBy g instruction ⌝ }
 {
+    if g.family == 30 {
+        return g.tt0;
+    }
     if instruction {
-        if matches_040(g.itt0, address, supervisor) {
-            return true;
-        }
-        return matches_040(g.itt1, address, supervisor);
+        return g.itt0;
     }
-    if matches_040(g.dtt0, address, supervisor) {
-        return true;
-    }
-    matches_040(g.dtt1, address, supervisor)
+    g.dtt0
 }
 
-// Whether an access of this code is translated to its own address. Family 60 matches nothing.
+// The second: TT1, or ITT1 for instructions and DTT1 for data.
+fn second_of(g: Registers, instruction: bool) -> u32
+    ensures { λ r. ⌜ r ≡ secondBy g instruction ⌝ }
+{
+    if g.family == 30 {
+        return g.tt1;
+    }
+    if instruction {
+        return g.itt1;
+    }
+    g.dtt1
+}
+
+// Whether an access of this code is translated to its own address. Where neither register is enabled, which is a hit's way, nothing is compared.
 pub fn is_transparent(g: Registers, address: u32, code: u32, instruction: bool) -> bool
     ensures { λ r. ⌜ r ≡ transparent g address code instruction ⌝ }
 {
-    let family = g.family;
-    match family {
-        30 => transparent_030(g, address, code),
-        40 => transparent_040(g, address, (code >> 2) % 2 == 1, instruction),
-        _ => false,
+    let first = first_of(g, instruction);
+    let second = second_of(g, instruction);
+    if is_enabled(first) | is_enabled(second) {
+        return either(g.family, first, second, address, code);
     }
+    false
 }
