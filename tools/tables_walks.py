@@ -21,15 +21,15 @@ def search(test, vars):
     )
 
 
-# the 68030 walk: x4 are the registers, x5 the address, x6 the code, x7 the limit
-WALK030 = f'{MEMORY} (x4 .tc) (rootOf x4 x6) x5 x6 x7'
+# the 68030 walk: x4 is TC, x5 the root, x6 the address, x7 the code, x8 the limit
+WALK030 = f'{MEMORY} x4 x5 x6 x7 x8'
 
 
 def read030(facts):
     return facts('aim', 'is_over', 'else', 'wanted', 'wants_long', 'read_desc')
 
 
-# the 68040 walk: x4 are the registers, x5 the address, x6 whether it is a supervisor's
+# the 68040 walk: x4 is TC, x5 where the root table's entry stands, x6 the address
 WALK040 = f'{MEMORY} x4 x5 x6'
 
 
@@ -43,8 +43,8 @@ def chosen(facts):
     if facts.has('no_walk_done'):
         return f'law.none {way} {facts("is_idle", "if", "no_walk_done")}'
     if facts.has('done_030'):
-        return f'law.done-030 {way} {facts("is_idle", "else", "is_by_030", "if", "code_of", "limit_of", "walk_030", "done_030")}'
-    return f'law.done-040 {way} {facts("is_idle", "else", "is_by_030", "else", "supervisor_of", "walk_040", "done_040")}'
+        return f'law.done-030 {way} {facts("is_idle", "else", "is_by_030", "if", "code_of", "limit_of", "tc_of", "root_of", "walk_030", "done_030")}'
+    return f'law.done-040 {way} {facts("is_idle", "else", "is_by_030", "else", "supervisor_of", "tc_of", "root_at", "walk_040", "done_040")}'
 
 
 def kept(array, count, ends):
@@ -82,10 +82,10 @@ FUNCTIONS = {
             'took': lambda facts: f'law.took-asks {WALK030} (t .0) {read030(facts)}',
         },
         loop=dict(
-            vars={10: 'ws', 11: 'n', 12: 's'},
+            vars={9: 'ws', 10: 'n', 11: 's'},
             state='law.Turn ' + WALK030,
             measure=lambda t: f'law.left {WALK030} ({t})',
-            start=lambda facts: f'law.begin {WALK030} {facts("tc_of", "root_of", "widths", "level_count", "begin_030")}',
+            start=lambda facts: f'law.begin {WALK030} {facts("widths", "level_count", "begin_030")}',
             next=lambda t, h, facts: f'law.next {WALK030} ({t}) {read030(facts)} {facts("took")}',
             less=lambda t, h, facts: f'law.less {WALK030} ({t}) {read030(facts)} {facts("took")}',
             ends=lambda t, h, facts: f'law.ends-at {WALK030} ({t}) {facts("aim", "is_over")} {h} {facts("end_of", "answer")}',

@@ -10,10 +10,12 @@ use lib.Dec.{T}
 use lib.ListN.{length, take}
 use lib.Seq.{length-take-le, take-all}
 use Rattle.definition.specs.Memory.{Memory}
-use Rattle.definition.specs.Walk030.{walk030}
-use Rattle.definition.specs.Walk040.{walk040}
+use Rattle.definition.specs.Registers.{rootOf}
+use Rattle.definition.specs.Walk030.{outcomeOf, walk030}
+use Rattle.definition.specs.Walk040.{rootAt, walk040}
 use Rattle.definition.specs.declared.Registers.{Registers}
-use Rattle.tables.specs.Walked.{shown, shown040, walksOf}
+use Rattle.definition.specs.declared.Root.{Root}
+use Rattle.tables.specs.Walked.{shown, shown040, walk040From, walksOf}
 use Rattle.tables.specs.Choice.{idle, by030, codeBy, limitBy, supervisorBy, ofSixteen}
 use Rattle.tables.specs.declared.Walked.{Walked}
 use Rattle.tables.specs.declared.Walked040.{Walked040}
@@ -44,13 +46,14 @@ module _ (m : Memory) (g : Registers) (address : ℕ) (w : Way) where
     none h er = er ∙ none-is w (sym ei ∙ T-true i h)
 
     module _ (hi : T (not i)) {b : Bool} (eb : b ≡ by030 w) where
-      pub done-030 : T b → {code : ℕ} → code ≡ codeBy w → {limit : ℕ} → limit ≡ limitBy w → {x : Walked} → x ≡ shown (walk030 m g address code limit)
-          → {r : Walks} → r ≡ walks.By030 x → r ≡ walksOf m g address w
-      done-030 h ec el ex er = er ∙ ap walks.By030 (ex ∙ rw (ec, el)) ∙ is-030 w (sym eb ∙ T-true b h)
+      pub done-030 : T b → {code : ℕ} → code ≡ codeBy w → {limit : ℕ} → limit ≡ limitBy w → {tc : ℕ} → tc ≡ g .tc → {root : Root} → root ≡ rootOf g code
+          → {x : Walked} → x ≡ shown (outcomeOf m tc root address code limit) → {r : Walks} → r ≡ walks.By030 x → r ≡ walksOf m g address w
+      done-030 h ec el et eo ex er = er ∙ ap walks.By030 (ex ∙ rw (et, eo, ec, el)) ∙ is-030 w (sym eb ∙ T-true b h)
 
-      pub done-040 : T (not b) → {supervisor : Bool} → supervisor ≡ supervisorBy w → {x : Walked040} → x ≡ shown040 (walk040 m g address supervisor)
-          → {r : Walks} → r ≡ walks.By040 x → r ≡ walksOf m g address w
-      done-040 h es ex er = er ∙ ap walks.By040 (ex ∙ rw es) ∙ is-040 w (sym ei ∙ T-false i hi) (sym eb ∙ T-false b h)
+      pub done-040 : T (not b) → {supervisor : Bool} → supervisor ≡ supervisorBy w → {tc : ℕ} → tc ≡ g .tc → {first : ℕ} → first ≡ rootAt g supervisor address
+          → {x : Walked040} → x ≡ shown040 (walk040From m tc first address) → {r : Walks} → r ≡ walks.By040 x → r ≡ walksOf m g address w
+      unfolding walk040
+      done-040 h es et ef ex er = er ∙ ap walks.By040 (ex ∙ rw (et, ef, es)) ∙ is-040 w (sym ei ∙ T-false i hi) (sym eb ∙ T-false b h)
 
 -- the first n of sixteen
 module _ {X : Type 0} (n : ℕ) (xs : List X) (l : length xs ≡ 16) {k : ℕ} (e : k ≡ ofSixteen n) where

@@ -438,19 +438,15 @@ module _ (m : Memory) (tc : ℕ) (root : Root) (address code limit : ℕ) where
   abbrev pub left : Turn → ℕ
   left t = rank (t .s)
 
-  module _ {tc′ : ℕ} (et : tc′ ≡ tc) {root′ : Root} (er : root′ ≡ root) {ws : List ℕ} (ew : ws ≡ widthsOf tc′) {n : ℕ} (en : n ≡ length (used ws))
-      {s : Walking030} (es : s ≡ beginOf tc′ root′ n) where
-    pub begin-ws : ws ≡ widthsOf tc
-    begin-ws = ew ∙ ap widthsOf et
-
+  module _ {ws : List ℕ} (ew : ws ≡ widthsOf tc) {n : ℕ} (en : n ≡ length (used ws)) {s : Walking030} (es : s ≡ beginOf tc root n) where
     pub begin-n : n ≡ length us
-    begin-n = en ∙ ap (λ (l : List ℕ). length (used l)) begin-ws
+    begin-n = en ∙ ap (λ (l : List ℕ). length (used l)) ew
 
     pub begin-stands : Stands s []
-    begin-stands = subst (λ (s : Walking030). Stands s []) (sym (es ∙ rw (et, er, begin-n))) begun
+    begin-stands = subst (λ (s : Walking030). Stands s []) (sym (es ∙ rw begin-n)) begun
 
     abbrev pub begin : Turn
-    begin = record { ws = ws; n = n; s = s; asked = []; ws-is = begin-ws; n-is = begin-n; stands = begin-stands }
+    begin = record { ws = ws; n = n; s = s; asked = []; ws-is = ew; n-is = begin-n; stands = begin-stands }
 
   -- what `aim` asks
   pub aim-asks : (t : Turn) → ((k : ℕ) → getD (t .ws) k 0 < 16) × (t .s .over ≡ false → t .s .target ≡ false → t .s .consumed < 1000)

@@ -8,14 +8,13 @@ use lib.Dec.{T, ltb, eqb}
 use lib.ListN.{length, length-append}
 use Rattle.definition.specs.Words.{if_then_else_, bitOf}
 use Rattle.definition.specs.Memory.{Memory, fetchOf}
-use Rattle.definition.specs.Walk040.{Outcome040, ended040, onLong, asks, pointerAt, pageAt, onPage, onEntry, walk040}
+use Rattle.definition.specs.Walk040.{Outcome040, ended040, onLong, asks, pointerAt, pageAt, onPage, onEntry}
 use Rattle.definition.specs.declared.Fetched.{Fetched}
 use Rattle.definition.specs.declared.Fetched.the-variants.{Long, Failed}
 use Rattle.definition.specs.declared.End040.{End040}
 use Rattle.definition.specs.declared.End040.the-variants.{Absent, Lost}
 use Rattle.definition.specs.declared.FaultCause.the-variants as cause
-use Rattle.definition.specs.declared.Registers.{Registers}
-use Rattle.tables.specs.Walked.{shown040}
+use Rattle.tables.specs.Walked.{shown040, walk040From}
 use Rattle.tables.specs.Machine040.{onward040, over040, begin040, decidedOf, took040, answered040}
 use Rattle.tables.specs.declared.Level.{Level}
 use Rattle.tables.specs.declared.Level.the-variants as level
@@ -33,13 +32,13 @@ depth level.Target = 1
 abbrev pub rank : Walking040 → ℕ
 rank s = if s .over then 0 else depth (s .level)
 
-module _ (m : Memory) (g : Registers) (address : ℕ) (supervisor : Bool) where
+module _ (m : Memory) (tc first address : ℕ) where
   -- what the definition makes of a level's long, with W of the levels above it
   abbrev pub onPointerLong : Bool → ℕ → List ℕ → Outcome040
   onPointerLong wp x asked =
       if ltb (x % 4) 2
       then ended040 (Absent cause.PointerB) asked
-      else asks m (pageAt (g .tc) x address) asked (λ y ys. onEntry m (wp || bitOf x 2) y ys)
+      else asks m (pageAt tc x address) asked (λ y ys. onEntry m (wp || bitOf x 2) y ys)
 
   abbrev pub onLevel : Level → Bool → ℕ → List ℕ → Outcome040
   onLevel level.Root wp x asked =
@@ -73,12 +72,12 @@ module _ (m : Memory) (g : Registers) (address : ℕ) (supervisor : Bool) where
     goes-on l wp at h = record { same = refl; less = h; count = refl }
 
   -- what a long decides is what the definition makes of it
-  decided : (l : Level) (wp : Bool) (x n : ℕ) (asked : List ℕ) → Follows (onLevel l wp x asked) (depth l) n asked (decidedOf (g .tc) address l wp x n)
+  decided : (l : Level) (wp : Bool) (x n : ℕ) (asked : List ℕ) → Follows (onLevel l wp x asked) (depth l) n asked (decidedOf tc address l wp x n)
   unfolding decidedOf
   decided level.Root wp x n asked =
       either 4 n asked (ltb (x % 4) 2) (ends-so 4 n asked _ (omega arith)) (goes-on 4 n asked level.Pointer (wp || bitOf x 2) (pointerAt x address) (omega arith))
   decided level.Pointer wp x n asked =
-      either 3 n asked (ltb (x % 4) 2) (ends-so 3 n asked _ (omega arith)) (goes-on 3 n asked level.Page (wp || bitOf x 2) (pageAt (g .tc) x address) (omega arith))
+      either 3 n asked (ltb (x % 4) 2) (ends-so 3 n asked _ (omega arith)) (goes-on 3 n asked level.Page (wp || bitOf x 2) (pageAt tc x address) (omega arith))
   decided level.Page wp x n asked =
       either 2 n asked (eqb (x % 4) 2) (goes-on 2 n asked level.Target wp (x / 4 * 4) (omega arith)) (ends-so 2 n asked _ (omega arith))
   decided level.Target wp x n asked = ends-so 1 n asked _ (omega arith)
@@ -90,12 +89,12 @@ module _ (m : Memory) (g : Registers) (address : ℕ) (supervisor : Bool) where
   some-depth level.Target = omega arith
 
   took-by : (s : Walking040) (before : List ℕ) (f : Fetched)
-      → Follows (onLong (s .at) before (onLevel (s .level) (s .wp)) f) (depth (s .level)) (s .asked + 1) (before ++ (s .at ∷ [])) (took040 (g .tc) address s f)
+      → Follows (onLong (s .at) before (onLevel (s .level) (s .wp)) f) (depth (s .level)) (s .asked + 1) (before ++ (s .at ∷ [])) (took040 tc address s f)
   took-by s before Failed = ends-so (depth (s .level)) (s .asked + 1) (before ++ (s .at ∷ [])) (Lost (s .at)) (some-depth (s .level))
   took-by s before (Long x) = decided (s .level) (s .wp) x (s .asked + 1) (before ++ (s .at ∷ []))
 
   abbrev pub whole : Outcome040
-  whole = walk040 m g address supervisor
+  whole = walk040From m tc first address
 
   -- what is known at the loop's head
   pub record Turn : Type 0 where
@@ -109,9 +108,8 @@ module _ (m : Memory) (g : Registers) (address : ℕ) (supervisor : Bool) where
   left t = rank (t .s)
 
   -- where it begins
-  module _ {s : Walking040} (e : s ≡ begin040 g supervisor address) where
+  module _ {s : Walking040} (e : s ≡ begin040 first) where
     pub begin-same : whole ≡ rest s []
-    unfolding walk040
     begin-same = rw e
 
     pub begin-counted : length {A = ℕ} [] ≡ s .asked
@@ -132,14 +130,14 @@ module _ (m : Memory) (g : Registers) (address : ℕ) (supervisor : Bool) where
       pub took-asks : t .s .asked < 1000
       took-asks = omega (arith, t .room)
 
-      module _ {w : ℕ} (ew : w ≡ t .s .at) {f : Fetched} (ef : f ≡ fetchOf m w) {r : Walking040} (er : r ≡ took040 (g .tc) address (t .s) f) where
+      module _ {w : ℕ} (ew : w ≡ t .s .at) {f : Fetched} (ef : f ≡ fetchOf m w) {r : Walking040} (er : r ≡ took040 tc address (t .s) f) where
         abbrev pub after : List ℕ
         after = t .before ++ (t .s .at ∷ [])
 
         pub follows : Follows (rest (t .s) (t .before)) (rank (t .s)) (t .s .asked + 1) after r
         follows =
             let o = sym eb ∙ T-false b h in
-            let e = er ∙ ap (took040 (g .tc) address (t .s)) (ef ∙ ap (fetchOf m) ew) in
+            let e = er ∙ ap (took040 tc address (t .s)) (ef ∙ ap (fetchOf m) ew) in
             rw (o, e) (took-by (t .s) (t .before) (fetchOf m (t .s .at)))
 
         pub next-same : whole ≡ rest r after

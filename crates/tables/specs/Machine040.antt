@@ -4,14 +4,13 @@ use Prim.Native.Nat.{ℕ, _+_, _*_, _/_, _%_}
 use mathlib.Core.Bool.{Bool, true, false, _||_}
 use lib.Dec.{ltb, eqb}
 use Rattle.definition.specs.Words.{if_then_else_, bitOf}
-use Rattle.definition.specs.Walk040.{rootAt, pointerAt, pageAt}
+use Rattle.definition.specs.Walk040.{pointerAt, pageAt}
 use Rattle.definition.specs.declared.Fetched.{Fetched}
 use Rattle.definition.specs.declared.Fetched.the-variants.{Long, Failed}
 use Rattle.definition.specs.declared.End040.{End040}
 use Rattle.definition.specs.declared.End040.the-variants.{Resident, Absent, Lost}
 use Rattle.definition.specs.declared.FaultCause.{FaultCause}
 use Rattle.definition.specs.declared.FaultCause.the-variants as cause
-use Rattle.definition.specs.declared.Registers.{Registers}
 use Rattle.tables.specs.declared.Level.{Level}
 use Rattle.tables.specs.declared.Level.the-variants as level
 use Rattle.tables.specs.declared.Walked040.{Walked040}
@@ -25,8 +24,8 @@ onward040 next wp at asked = record { over = false; end = Lost at; level = next;
 abbrev pub over040 : End040 → ℕ → Walking040
 over040 end asked = record { over = true; end = end; level = level.Root; wp = false; at = 0; asked = asked }
 
-abbrev pub begin040 : Registers → Bool → ℕ → Walking040
-begin040 g supervisor address = onward040 level.Root false (rootAt g supervisor address) 0
+abbrev pub begin040 : ℕ → Walking040
+begin040 at = onward040 level.Root false at 0
 
 -- a page's descriptor, with W of all three levels
 abbrev pub pageEnd : FaultCause → Bool → ℕ → End040

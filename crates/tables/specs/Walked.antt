@@ -1,9 +1,10 @@
 -- What a caller of the walks reads: the definition's outcomes as the code gives them. The count is the number of the longs asked for.
 use Prim.Native.Nat.{ℕ}
+use mathlib.Core.List.{[]}
 use lib.ListN.{length}
 use Rattle.definition.specs.Memory.{Memory}
 use Rattle.definition.specs.Walk030.{Outcome, walk030}
-use Rattle.definition.specs.Walk040.{Outcome040, walk040}
+use Rattle.definition.specs.Walk040.{Outcome040, asks, onRoot, walk040}
 use Rattle.definition.specs.declared.Registers.{Registers}
 use Rattle.tables.specs.declared.Walked.{Walked}
 use Rattle.tables.specs.declared.Walked040.{Walked040}
@@ -27,6 +28,10 @@ shown o =
 -- a 68040 walk
 abbrev pub shown040 : Outcome040 → Walked040
 shown040 o = record { end = o .end; asked = length (o .asked) }
+
+-- the 68040 walk from the root table's entry at `first`: `walk040` of `definition` is this one from its `rootAt`
+abbrev pub walk040From : Memory → ℕ → ℕ → ℕ → Outcome040
+walk040From m tc first address = asks m first [] (λ root asked. onRoot m tc address root asked)
 
 -- the walk that a call wants, if it wants one
 abbrev pub walksOf : Memory → Registers → ℕ → Way → Walks

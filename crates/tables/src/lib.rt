@@ -9,10 +9,10 @@ ghost use Rattle.definition.specs.Words.{bitOf, anyOf};
 ghost use Rattle.definition.specs.Memory.{memory, touchesOf, inRanges, fetchWith, fetchOf};
 ghost use Rattle.definition.specs.Refusal.{crossed};
 ghost use Rattle.definition.specs.Registers.{rootOf};
-ghost use Rattle.definition.specs.Walk030.{entryOf, shortOf, readOf, widthsOf, used, sumOf, topIndex, walk030, lowOf, physicalOf, shiftOf};
-ghost use Rattle.definition.specs.Walk040.{rootAt, pointerAt, pageAt, walk040, pageBits, frameOf, physical040};
+ghost use Rattle.definition.specs.Walk030.{entryOf, shortOf, readOf, widthsOf, used, sumOf, topIndex, outcomeOf, lowOf, physicalOf, shiftOf};
+ghost use Rattle.definition.specs.Walk040.{rootAt, pointerAt, pageAt, pageBits, frameOf, physical040};
 ghost use Rattle.definition.specs.Translate.{baseOf, hitAddress, joined};
-ghost use Rattle.tables.specs.Walked.{shown, shown040, walksOf};
+ghost use Rattle.tables.specs.Walked.{shown, shown040, walk040From, walksOf};
 ghost use Rattle.tables.specs.Choice.{idle, by030, codeBy, limitBy, supervisorBy, ofSixteen};
 ghost use Rattle.tables.specs.Machine030.{alone, describedOf, ofTwo, noWalk, beginOf, endedOf, onwardOf, nextK, aimOf, targetEnd, atTarget, atLevel, askedOf, tookOf, answered};
 ghost use Rattle.tables.specs.Machine040.{onward040, over040, begin040, pageEnd, decidedOf, took040, answered040};
@@ -302,14 +302,14 @@ fn top_index(address: u32, consumed: u32, width: u32) -> u32
 }
 
 // TC.
-fn tc_of(g: Registers) -> u32
+pub fn tc_of(g: Registers) -> u32
     ensures { λ r. ⌜ r ≡ g .tc ⌝ }
 {
     g.tc
 }
 
 // SRP is used if TC bit 25 is set and code bit 2 is set; else CRP.
-fn root_of(g: Registers, code: u32) -> Root
+pub fn root_of(g: Registers, code: u32) -> Root
     ensures { λ r. ⌜ r ≡ rootOf g code ⌝ }
 {
     let sre = bit(g.tc, 25);
@@ -597,20 +597,19 @@ fn answer(s: Walking030, end: End) -> Walked
     }
 }
 
-// The walk ends at the first descriptor that decides.
+// The walk ends at the first descriptor that decides. It is handed TC and its root, and no more of the registers: they are not copied.
 pub fn walk_030(
     longs: &[u32],
     base: u32,
     ranges: &[Range],
-    g: Registers,
+    tc: u32,
+    root: Root,
     address: u32,
     code: u32,
     limit: u32,
 ) -> Walked
-    ensures { λ r. ⌜ r ≡ shown (walk030 (memory (now (longs .entry)) base (now (ranges .entry))) g address code limit) ⌝ }
+    ensures { λ r. ⌜ r ≡ shown (outcomeOf (memory (now (longs .entry)) base (now (ranges .entry))) tc root address code limit) ⌝ }
 {
-    let tc = tc_of(g);
-    let root = root_of(g, code);
     let ws = widths(tc);
     let n = level_count(ws);
     let mut s = begin_030(tc, root, n);
@@ -654,7 +653,7 @@ struct Walking040 {
 }
 
 // Root SRP (supervisor) or CRP & FFFFFE00, index bits 31:25.
-fn root_at(g: Registers, supervisor: bool, address: u32) -> u32
+pub fn root_at(g: Registers, supervisor: bool, address: u32) -> u32
     ensures { λ r. ⌜ r ≡ rootAt g supervisor address ⌝ }
 {
     let mut root = g.crp.address;
@@ -710,10 +709,9 @@ fn over_040(end: End040, asked: u32) -> Walking040
 }
 
 // The root table's entry is the first long asked for.
-fn begin_040(g: Registers, supervisor: bool, address: u32) -> Walking040
-    ensures { λ r. ⌜ r ≡ begin040 g supervisor address ⌝ }
+fn begin_040(at: u32) -> Walking040
+    ensures { λ r. ⌜ r ≡ begin040 at ⌝ }
 {
-    let at = root_at(g, supervisor, address);
     onward_040(Level::Root, false, at, 0)
 }
 
@@ -756,16 +754,16 @@ fn decided(tc: u32, address: u32, level: Level, wp: bool, x: u32, asked: u32) ->
 }
 
 // The long at `at` was asked for: it decides, or it failed.
-fn took_040(s: Walking040, g: Registers, address: u32, x: Fetched) -> Walking040
+fn took_040(s: Walking040, tc: u32, address: u32, x: Fetched) -> Walking040
     requires { ⌜ s .asked < 1000 ⌝ }
-    ensures { λ r. ⌜ r ≡ took040 (g .tc) address s x ⌝ }
+    ensures { λ r. ⌜ r ≡ took040 tc address s x ⌝ }
 {
     let asked = s.asked + 1;
     match x {
         Fetched::Failed => over_040(End040::Lost { at: s.at }, asked),
         Fetched::Long(long) => {
             let level = s.level;
-            decided(g.tc, address, level, s.wp, long, asked)
+            decided(tc, address, level, s.wp, long, asked)
         }
     }
 }
@@ -802,25 +800,25 @@ fn answer_040(s: Walking040, end: End040) -> Walked040
     }
 }
 
-// The 68040 walk, also for family 60.
+// The 68040 walk, also for family 60, from the root table's entry at `first`.
 pub fn walk_040(
     longs: &[u32],
     base: u32,
     ranges: &[Range],
-    g: Registers,
+    tc: u32,
+    first: u32,
     address: u32,
-    supervisor: bool,
 ) -> Walked040
-    ensures { λ r. ⌜ r ≡ shown040 (walk040 (memory (now (longs .entry)) base (now (ranges .entry))) g address supervisor) ⌝ }
+    ensures { λ r. ⌜ r ≡ shown040 (walk040From (memory (now (longs .entry)) base (now (ranges .entry))) tc first address) ⌝ }
 {
-    let mut s = begin_040(g, supervisor, address);
+    let mut s = begin_040(first);
     let end = loop {
         if is_over_040(s) {
             break end_of_040(s);
         }
         let at = wanted_040(s);
         let x = fetch(longs, base, ranges, at);
-        s = took_040(s, g, address, x);
+        s = took_040(s, tc, address, x);
     };
     answer_040(s, end)
 }
@@ -934,11 +932,15 @@ pub fn walk_for(
     if is_by_030(way) {
         let code = code_of(way);
         let limit = limit_of(way);
-        let w = walk_030(longs, base, ranges, g, address, code, limit);
+        let tc = tc_of(g);
+        let root = root_of(g, code);
+        let w = walk_030(longs, base, ranges, tc, root, address, code, limit);
         return done_030(w);
     }
     let supervisor = supervisor_of(way);
-    let w = walk_040(longs, base, ranges, g, address, supervisor);
+    let tc = tc_of(g);
+    let first = root_at(g, supervisor, address);
+    let w = walk_040(longs, base, ranges, tc, first, address);
     done_040(w)
 }
 
