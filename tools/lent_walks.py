@@ -11,7 +11,7 @@ def translated(facts):
 
 # x5, x6 and x7 are the longs, the base and the ranges, x8 the registers, x9 the code, x10 whether it is a write, x11 the address
 def loaded(facts):
-    return f'law.loads x8 x9 x11 (cacheOf (now x1) (now x2) (now x3) (now x4)) _ _ {facts("planned_load")} x10 (memory (now x5) x6 (now x7)) {facts("bad_longs", "any_crossed", "way_of", "walk_for", "concluded_load")}'
+    return f'law.loads x8 x9 x11 (cacheOf (now x1) (now x2) (now x3) (now x4)) _ _ {facts("planned_load")} x10 (memory (now x5) x6 (now x7)) {facts("bad_longs", "any_crossed", "way_of", "tc_of", "root_for", "walk_030_for", "concluded_load")}'
 
 
 FUNCTIONS = {

@@ -14,7 +14,7 @@ def loaded(facts):
 
 # x4 are the registers, x5 the code, x6 whether it is a write, x7 the level, x8 the address
 def tested(facts):
-    return f'law.test-by x4 x5 x6 x7 x8 {MEMORY} {facts("bad_longs", "any_crossed", "plan_test", "way_of", "walk_for", "conclude_test")}'
+    return f'law.tests x4 x5 x8 {MEMORY} x6 x7 {facts("bad_longs", "any_crossed", "plan_test", "way_of", "tc_of", "root_for", "walk_030_for", "conclude_test")}'
 
 
 FUNCTIONS = {

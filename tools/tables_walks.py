@@ -37,14 +37,20 @@ def asked040(facts):
     return facts('is_over_040', 'else', 'wanted_040', 'fetch', 'took_040')
 
 
+# walk_030_for: x4 is TC, x5 the root, x6 the address, x7 the way
+def searched(facts):
+    way = f'{MEMORY} x4 x5 x6 x7'
+    if facts.has('done_030'):
+        return f'law.done {way} {facts("is_by_030", "if", "code_of", "limit_of", "walk_030", "done_030")}'
+    return f'law.none {way} {facts("is_by_030", "else", "no_walk_done")}'
+
+
 # walk_for: x4 are the registers, x5 the address, x6 the way
 def chosen(facts):
     way = f'{MEMORY} x4 x5 x6'
-    if facts.has('no_walk_done'):
-        return f'law.none {way} {facts("is_idle", "if", "no_walk_done")}'
-    if facts.has('done_030'):
-        return f'law.done-030 {way} {facts("is_idle", "else", "is_by_030", "if", "code_of", "limit_of", "tc_of", "root_of", "walk_030", "done_030")}'
-    return f'law.done-040 {way} {facts("is_idle", "else", "is_by_030", "else", "supervisor_of", "tc_of", "root_at", "walk_040", "done_040")}'
+    if facts.has('done_040'):
+        return f'law.done-040 {way} {facts("tc_of", "is_by_040", "if", "supervisor_of", "root_at", "walk_040", "done_040")}'
+    return f'law.done-030 {way} {facts("tc_of", "is_by_040", "else", "root_for", "walk_030_for")}'
 
 
 def kept(array, count, ends):
@@ -103,6 +109,10 @@ FUNCTIONS = {
             less=lambda t, h, facts: f'law.less {WALK040} ({t}) {asked040(facts)}',
             ends=lambda t, h, facts: f'law.ends {WALK040} ({t}) {facts("is_over_040")} {h} {facts("end_of_040", "answer_040")}',
         ),
+    ),
+    'walk_030_for': dict(
+        law='Choosing',
+        ends=searched,
     ),
     'walk_for': dict(
         law='Choosing',

@@ -12,17 +12,20 @@ use Rattle.definition.specs.Cache030.{Cache030}
 use Rattle.definition.specs.Cache040.{Cache040}
 use Rattle.definition.specs.declared.Load.{Load}
 use Rattle.definition.specs.declared.Registers.{Registers}
+use Rattle.definition.specs.declared.Root.{Root}
 use Rattle.definition.specs.declared.Access.{Access}
 use Rattle.definition.specs.declared.Translation.{Translation}
-use Rattle.tables.specs.Walked.{walksOf}
+use Rattle.tables.specs.Walked.{walks030, walksOf}
+use Rattle.tables.specs.Choice.{rootBy}
 use Rattle.tables.specs.declared.Way.{Way}
+use Rattle.tables.specs.declared.Way.the-variants as ways
 use Rattle.tables.specs.declared.Walks.{Walks}
 use Rattle.cache.specs.Atc030.{cacheOf}
 use Rattle.plan.specs.declared.Plan.{Plan}
 use Rattle.plan.specs.declared.Plan.the-variants as plan
 use Rattle.plan.specs.Plans.{wayOf}
 use Rattle.translate.specs.Stages.{planAccess, shownTranslated, concludeAccess}
-use Rattle.load.specs.Loaded.{planLoad, shownLoaded, concludeLoad, LoadedIn}
+use Rattle.load.specs.Loaded.{planLoad, LoadEnded, shownLoaded, loadWalks, concludeLoad, LoadedIn}
 use Rattle.plan.specs.Arrays.{cachesOf, pairWith}
 use Rattle.search.specs.Searched.{PlannedIn030}
 use Rattle.translate.specs.InPlace.{PlannedIn, AnsweredIn}
@@ -56,7 +59,21 @@ settles g a m c {two} {three} {done} {p} {t} {n} {ts} {ps} {ss} {ms} {ks} {bs} i
 -- ---- load
 module _ (g : Registers) (code address : ℕ) (c : Cache030) (two three : Bool) {p : Plan} {ts ps ss ms : List ℕ}
     (k : PlannedIn030 (planLoad g code address two three c) p ts ps ss ms) where
-  pub loads : (write : Bool) (m : Memory) {way : Way} {w : Walks} {l : Load} {n : ℕ} {ts′ ps′ ss′ ms′ : List ℕ} → two ≡ badBase m → three ≡ badRange m
-      → way ≡ wayOf p → w ≡ walksOf m g address way → LoadedIn (concludeLoad (g .tc) (code % 8) address write (cacheOf ts ps ss ms) p w) l n ts′ ps′ ss′ ms′
+  -- a load makes the same of no walk and of a 68040 walk
+  searched : (write : Bool) (m : Memory) (x : Cache030) (p : Plan) (way : Way)
+      → concludeLoad (g .tc) (code % 8) address write x p (walks030 m (g .tc) (rootBy g way) address way) ≡ concludeLoad (g .tc) (code % 8) address write x p (walksOf m g address way)
+  unfolding concludeLoad loadWalks
+  searched write m x (plan.Refused n) way = refl
+  searched write m x (plan.Settled n) way = refl
+  searched write m x (plan.Walk y) ways.Idle = refl
+  searched write m x (plan.Walk y) (ways.By030 by limit) = refl
+  searched write m x (plan.Walk y) (ways.By040 supervisor) = refl
+
+  pub loads : (write : Bool) (m : Memory) {way : Way} {tc : ℕ} {root : Root} {w : Walks} {l : Load} {n : ℕ} {ts′ ps′ ss′ ms′ : List ℕ} → two ≡ badBase m → three ≡ badRange m
+      → way ≡ wayOf p → tc ≡ g .tc → root ≡ rootBy g way → w ≡ walks030 m tc root address way
+      → LoadedIn (concludeLoad (g .tc) (code % 8) address write (cacheOf ts ps ss ms) p w) l n ts′ ps′ ss′ ms′
       → (d : Cache040) → LoadedIn (shownLoaded (loadOf g code write address m (pairWith c d))) l n ts′ ps′ ss′ ms′
-  loads write m is-two is-three is-way walked q d = load-by g code write address m (pairWith c d) is-two is-three k is-way walked q
+  loads write m {way} {tc} {root} {w} {l} {n} {ts′} {ps′} {ss′} {ms′} is-two is-three is-way is-tc is-root walked q d =
+      let same : concludeLoad (g .tc) (code % 8) address write (cacheOf ts ps ss ms) p w ≡ concludeLoad (g .tc) (code % 8) address write (cacheOf ts ps ss ms) p (walksOf m g address way)
+      = ap (concludeLoad (g .tc) (code % 8) address write (cacheOf ts ps ss ms) p) (walked ∙ rw (is-tc, is-root)) ∙ searched write m (cacheOf ts ps ss ms) p way in
+      load-by g code write address m (pairWith c d) is-two is-three k is-way refl (subst (λ (x : LoadEnded). LoadedIn x l n ts′ ps′ ss′ ms′) same q)

@@ -178,7 +178,9 @@ pub fn load_lent(
     let three = tables::any_crossed(ranges);
     let plan = planned_load(tags, pages, stamps, marks, two, three, g, code, address);
     let way = plan::way_of(plan);
-    let walks = tables::walk_for(longs, base, ranges, g, address, way);
+    let tc = tables::tc_of(g);
+    let root = tables::root_for(g, way);
+    let walks = tables::walk_030_for(longs, base, ranges, tc, root, address, way);
     concluded_load(
         tags,
         pages,

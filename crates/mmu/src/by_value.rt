@@ -287,6 +287,8 @@ pub fn test(
     let three = tables::any_crossed(ranges);
     let plan = test::plan_test(two, three, g, code, level, address);
     let way = plan::way_of(plan);
-    let walks = tables::walk_for(longs, base, ranges, g, address, way);
+    let tc = tables::tc_of(g);
+    let root = tables::root_for(g, way);
+    let walks = tables::walk_030_for(longs, base, ranges, tc, root, address, way);
     test::conclude_test(code, plan, walks)
 }

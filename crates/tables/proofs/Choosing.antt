@@ -1,4 +1,4 @@
--- Laws of `walk_for` and `walk_kept`: what each way gives, and the first n of sixteen ranges. Assumes nothing.
+-- Laws of `walk_030_for`, `walk_for` and `walk_kept`: what each way gives, and the first n of sixteen ranges. Assumes nothing.
 use Prim.Native.Nat.{ℕ, _*_, _^_, _≤_, _<_}
 use mathlib.Core.Path.{_≡_, refl, ap, sym, _∙_}
 use mathlib.Core.List.{List}
@@ -10,13 +10,12 @@ use lib.Dec.{T}
 use lib.ListN.{length, take}
 use lib.Seq.{length-take-le, take-all}
 use Rattle.definition.specs.Memory.{Memory}
-use Rattle.definition.specs.Registers.{rootOf}
-use Rattle.definition.specs.Walk030.{outcomeOf, walk030}
+use Rattle.definition.specs.Walk030.{outcomeOf}
 use Rattle.definition.specs.Walk040.{rootAt, walk040}
 use Rattle.definition.specs.declared.Registers.{Registers}
 use Rattle.definition.specs.declared.Root.{Root}
-use Rattle.tables.specs.Walked.{shown, shown040, walk040From, walksOf}
-use Rattle.tables.specs.Choice.{idle, by030, codeBy, limitBy, supervisorBy, ofSixteen}
+use Rattle.tables.specs.Walked.{shown, shown040, walk040From, walks030, walksOf}
+use Rattle.tables.specs.Choice.{by030, by040, codeBy, limitBy, supervisorBy, rootBy, ofSixteen}
 use Rattle.tables.specs.declared.Walked.{Walked}
 use Rattle.tables.specs.declared.Walked040.{Walked040}
 use Rattle.tables.specs.declared.Way.{Way}
@@ -25,35 +24,46 @@ use Rattle.tables.specs.declared.Walks.{Walks}
 use Rattle.tables.specs.declared.Walks.the-variants as walks
 use Rattle.tables.proofs.Lemmas.{T-true, T-false, clash}
 
-module _ (m : Memory) (g : Registers) (address : ℕ) (w : Way) where
-  none-is : (w : Way) → idle w ≡ true → walks.Idle ≡ walksOf m g address w
-  none-is way.Idle h = refl
-  none-is (way.By030 code limit) h = absurd (clash (sym h))
-  none-is (way.By040 supervisor) h = absurd (clash (sym h))
-
-  is-030 : (w : Way) → by030 w ≡ true → walks.By030 (shown (walk030 m g address (codeBy w) (limitBy w))) ≡ walksOf m g address w
+-- the 68030 walk
+module _ (m : Memory) (tc : ℕ) (root : Root) (address : ℕ) (w : Way) where
+  is-030 : (w : Way) → by030 w ≡ true → walks.By030 (shown (outcomeOf m tc root address (codeBy w) (limitBy w))) ≡ walks030 m tc root address w
   is-030 way.Idle h = absurd (clash (sym h))
   is-030 (way.By030 code limit) h = refl
   is-030 (way.By040 supervisor) h = absurd (clash (sym h))
 
-  is-040 : (w : Way) → idle w ≡ false → by030 w ≡ false → walks.By040 (shown040 (walk040 m g address (supervisorBy w))) ≡ walksOf m g address w
-  is-040 way.Idle h k = absurd (clash h)
-  is-040 (way.By030 code limit) h k = absurd (clash k)
-  is-040 (way.By040 supervisor) h k = refl
+  not-030 : (w : Way) → by030 w ≡ false → walks.Idle ≡ walks030 m tc root address w
+  not-030 way.Idle h = refl
+  not-030 (way.By030 code limit) h = absurd (clash h)
+  not-030 (way.By040 supervisor) h = refl
 
-  module _ {i : Bool} (ei : i ≡ idle w) where
-    pub none : T i → {r : Walks} → r ≡ walks.Idle → r ≡ walksOf m g address w
-    none h er = er ∙ none-is w (sym ei ∙ T-true i h)
+  module _ {b : Bool} (eb : b ≡ by030 w) where
+    pub done : T b → {code : ℕ} → code ≡ codeBy w → {limit : ℕ} → limit ≡ limitBy w → {x : Walked} → x ≡ shown (outcomeOf m tc root address code limit)
+        → {r : Walks} → r ≡ walks.By030 x → r ≡ walks030 m tc root address w
+    done h ec el ex er = er ∙ ap walks.By030 (ex ∙ rw (ec, el)) ∙ is-030 w (sym eb ∙ T-true b h)
 
-    module _ (hi : T (not i)) {b : Bool} (eb : b ≡ by030 w) where
-      pub done-030 : T b → {code : ℕ} → code ≡ codeBy w → {limit : ℕ} → limit ≡ limitBy w → {tc : ℕ} → tc ≡ g .tc → {root : Root} → root ≡ rootOf g code
-          → {x : Walked} → x ≡ shown (outcomeOf m tc root address code limit) → {r : Walks} → r ≡ walks.By030 x → r ≡ walksOf m g address w
-      done-030 h ec el et eo ex er = er ∙ ap walks.By030 (ex ∙ rw (et, eo, ec, el)) ∙ is-030 w (sym eb ∙ T-true b h)
+    pub none : T (not b) → {r : Walks} → r ≡ walks.Idle → r ≡ walks030 m tc root address w
+    none h er = er ∙ not-030 w (sym eb ∙ T-false b h)
 
-      pub done-040 : T (not b) → {supervisor : Bool} → supervisor ≡ supervisorBy w → {tc : ℕ} → tc ≡ g .tc → {first : ℕ} → first ≡ rootAt g supervisor address
-          → {x : Walked040} → x ≡ shown040 (walk040From m tc first address) → {r : Walks} → r ≡ walks.By040 x → r ≡ walksOf m g address w
-      unfolding walk040
-      done-040 h es et ef ex er = er ∙ ap walks.By040 (ex ∙ rw (et, ef, es)) ∙ is-040 w (sym ei ∙ T-false i hi) (sym eb ∙ T-false b h)
+-- either walk
+module _ (m : Memory) (g : Registers) (address : ℕ) (w : Way) where
+  else-030 : (w : Way) → by040 w ≡ false → walks030 m (g .tc) (rootBy g w) address w ≡ walksOf m g address w
+  else-030 way.Idle h = refl
+  else-030 (way.By030 code limit) h = refl
+  else-030 (way.By040 supervisor) h = absurd (clash h)
+
+  is-040 : (w : Way) → by040 w ≡ true → walks.By040 (shown040 (walk040 m g address (supervisorBy w))) ≡ walksOf m g address w
+  is-040 way.Idle h = absurd (clash (sym h))
+  is-040 (way.By030 code limit) h = absurd (clash (sym h))
+  is-040 (way.By040 supervisor) h = refl
+
+  module _ {tc : ℕ} (et : tc ≡ g .tc) {b : Bool} (eb : b ≡ by040 w) where
+    pub done-040 : T b → {supervisor : Bool} → supervisor ≡ supervisorBy w → {first : ℕ} → first ≡ rootAt g supervisor address
+        → {x : Walked040} → x ≡ shown040 (walk040From m tc first address) → {r : Walks} → r ≡ walks.By040 x → r ≡ walksOf m g address w
+    unfolding walk040
+    done-040 h es ef ex er = er ∙ ap walks.By040 (ex ∙ rw (et, ef, es)) ∙ is-040 w (sym eb ∙ T-true b h)
+
+    pub done-030 : T (not b) → {root : Root} → root ≡ rootBy g w → {r : Walks} → r ≡ walks030 m tc root address w → r ≡ walksOf m g address w
+    done-030 h eo er = er ∙ rw (et, eo) (else-030 w (sym eb ∙ T-false b h))
 
 -- the first n of sixteen
 module _ {X : Type 0} (n : ℕ) (xs : List X) (l : length xs ≡ 16) {k : ℕ} (e : k ≡ ofSixteen n) where

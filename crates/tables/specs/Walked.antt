@@ -3,9 +3,10 @@ use Prim.Native.Nat.{ℕ}
 use mathlib.Core.List.{[]}
 use lib.ListN.{length}
 use Rattle.definition.specs.Memory.{Memory}
-use Rattle.definition.specs.Walk030.{Outcome, walk030}
+use Rattle.definition.specs.Walk030.{Outcome, outcomeOf, walk030}
 use Rattle.definition.specs.Walk040.{Outcome040, asks, onRoot, walk040}
 use Rattle.definition.specs.declared.Registers.{Registers}
+use Rattle.definition.specs.declared.Root.{Root}
 use Rattle.tables.specs.declared.Walked.{Walked}
 use Rattle.tables.specs.declared.Walked040.{Walked040}
 use Rattle.tables.specs.declared.Way.{Way}
@@ -32,6 +33,12 @@ shown040 o = record { end = o .end; asked = length (o .asked) }
 -- the 68040 walk from the root table's entry at `first`: `walk040` of `definition` is this one from its `rootAt`
 abbrev pub walk040From : Memory → ℕ → ℕ → ℕ → Outcome040
 walk040From m tc first address = asks m first [] (λ root asked. onRoot m tc address root asked)
+
+-- the 68030 walk from this root, if one is wanted
+abbrev pub walks030 : Memory → ℕ → Root → ℕ → Way → Walks
+walks030 m tc root address way.Idle = walks.Idle
+walks030 m tc root address (way.By030 code limit) = walks.By030 (shown (outcomeOf m tc root address code limit))
+walks030 m tc root address (way.By040 supervisor) = walks.Idle
 
 -- the walk that a call wants, if it wants one
 abbrev pub walksOf : Memory → Registers → ℕ → Way → Walks

@@ -12,8 +12,8 @@ ghost use Rattle.definition.specs.Registers.{rootOf};
 ghost use Rattle.definition.specs.Walk030.{entryOf, shortOf, readOf, widthsOf, used, sumOf, topIndex, outcomeOf, lowOf, physicalOf, shiftOf};
 ghost use Rattle.definition.specs.Walk040.{rootAt, pointerAt, pageAt, pageBits, frameOf, physical040};
 ghost use Rattle.definition.specs.Translate.{baseOf, hitAddress, joined};
-ghost use Rattle.tables.specs.Walked.{shown, shown040, walk040From, walksOf};
-ghost use Rattle.tables.specs.Choice.{idle, by030, codeBy, limitBy, supervisorBy, ofSixteen};
+ghost use Rattle.tables.specs.Walked.{shown, shown040, walk040From, walks030, walksOf};
+ghost use Rattle.tables.specs.Choice.{by030, by040, codeBy, limitBy, supervisorBy, rootBy, ofSixteen};
 ghost use Rattle.tables.specs.Machine030.{alone, describedOf, ofTwo, noWalk, beginOf, endedOf, onwardOf, nextK, aimOf, targetEnd, atTarget, atLevel, askedOf, tookOf, answered};
 ghost use Rattle.tables.specs.Machine040.{onward040, over040, begin040, pageEnd, decidedOf, took040, answered040};
 use definition::Descriptor;
@@ -309,7 +309,7 @@ pub fn tc_of(g: Registers) -> u32
 }
 
 // SRP is used if TC bit 25 is set and code bit 2 is set; else CRP.
-pub fn root_of(g: Registers, code: u32) -> Root
+fn root_of(g: Registers, code: u32) -> Root
     ensures { λ r. ⌜ r ≡ rootOf g code ⌝ }
 {
     let sre = bit(g.tc, 25);
@@ -653,7 +653,7 @@ struct Walking040 {
 }
 
 // Root SRP (supervisor) or CRP & FFFFFE00, index bits 31:25.
-pub fn root_at(g: Registers, supervisor: bool, address: u32) -> u32
+fn root_at(g: Registers, supervisor: bool, address: u32) -> u32
     ensures { λ r. ⌜ r ≡ rootAt g supervisor address ⌝ }
 {
     let mut root = g.crp.address;
@@ -839,17 +839,6 @@ pub enum Walks {
     By040(Walked040),
 }
 
-// Whether none is wanted.
-fn is_idle(way: Way) -> bool
-    ensures { λ r. ⌜ r ≡ idle way ⌝ }
-{
-    match way {
-        Way::Idle => true,
-        Way::By030 { code: _, limit: _ } => false,
-        Way::By040 { supervisor: _ } => false,
-    }
-}
-
 // Whether it is a 68030 walk.
 fn is_by_030(way: Way) -> bool
     ensures { λ r. ⌜ r ≡ by030 way ⌝ }
@@ -858,6 +847,17 @@ fn is_by_030(way: Way) -> bool
         Way::Idle => false,
         Way::By030 { code: _, limit: _ } => true,
         Way::By040 { supervisor: _ } => false,
+    }
+}
+
+// Whether it is a 68040 walk.
+fn is_by_040(way: Way) -> bool
+    ensures { λ r. ⌜ r ≡ by040 way ⌝ }
+{
+    match way {
+        Way::Idle => false,
+        Way::By030 { code: _, limit: _ } => false,
+        Way::By040 { supervisor: _ } => true,
     }
 }
 
@@ -915,6 +915,35 @@ fn done_040(w: Walked040) -> Walks
     Walks::By040(w)
 }
 
+// The root of a 68030 walk.
+pub fn root_for(g: Registers, way: Way) -> Root
+    ensures { λ r. ⌜ r ≡ rootBy g way ⌝ }
+{
+    let code = code_of(way);
+    root_of(g, code)
+}
+
+// The 68030 walk from this root, if one is wanted: load and test want no other.
+pub fn walk_030_for(
+    longs: &[u32],
+    base: u32,
+    ranges: &[Range],
+    tc: u32,
+    root: Root,
+    address: u32,
+    way: Way,
+) -> Walks
+    ensures { λ r. ⌜ r ≡ walks030 (memory (now (longs .entry)) base (now (ranges .entry))) tc root address way ⌝ }
+{
+    if is_by_030(way) {
+        let code = code_of(way);
+        let limit = limit_of(way);
+        let w = walk_030(longs, base, ranges, tc, root, address, code, limit);
+        return done_030(w);
+    }
+    no_walk_done()
+}
+
 // The walk that a call wants, if it wants one.
 pub fn walk_for(
     longs: &[u32],
@@ -926,22 +955,15 @@ pub fn walk_for(
 ) -> Walks
     ensures { λ r. ⌜ r ≡ walksOf (memory (now (longs .entry)) base (now (ranges .entry))) g address way ⌝ }
 {
-    if is_idle(way) {
-        return no_walk_done();
-    }
-    if is_by_030(way) {
-        let code = code_of(way);
-        let limit = limit_of(way);
-        let tc = tc_of(g);
-        let root = root_of(g, code);
-        let w = walk_030(longs, base, ranges, tc, root, address, code, limit);
-        return done_030(w);
-    }
-    let supervisor = supervisor_of(way);
     let tc = tc_of(g);
-    let first = root_at(g, supervisor, address);
-    let w = walk_040(longs, base, ranges, tc, first, address);
-    done_040(w)
+    if is_by_040(way) {
+        let supervisor = supervisor_of(way);
+        let first = root_at(g, supervisor, address);
+        let w = walk_040(longs, base, ranges, tc, first, address);
+        return done_040(w);
+    }
+    let root = root_for(g, way);
+    walk_030_for(longs, base, ranges, tc, root, address, way)
 }
 
 // All sixteen where `n` is above 16.

@@ -1,3 +1,4 @@
+-- `tables::page_shift` meets its contract. Assumes nothing.
 use Prim.Native.Nat.{ℕ, _+_}
 use mathlib.Core.Path.{_≡_, ap}
 use Rattle.definition.specs.Walk030.{isOf, used, widthsOf, sumOf}

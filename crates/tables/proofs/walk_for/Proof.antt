@@ -40,11 +40,9 @@ use denote.Exit.{yes}
 use Rattle.tables.proofs.Branching.{leaves-if}
 use Rattle.tables.proofs.Choosing as law
 use Rattle.definition.specs.Memory.{memory}
-use Rattle.definition.specs.Registers.{rootOf}
-use Rattle.definition.specs.Walk030.{outcomeOf}
 use Rattle.definition.specs.Walk040.{rootAt}
-use Rattle.tables.specs.Walked.{shown, shown040, walk040From, walksOf}
-use Rattle.tables.specs.Choice.{idle, by030, codeBy, limitBy, supervisorBy}
+use Rattle.tables.specs.Walked.{shown040, walk040From, walks030, walksOf}
+use Rattle.tables.specs.Choice.{by040, supervisorBy, rootBy}
 use Rattle.definition.specs.declared.Range.{Range}
 use Rattle.definition.proofs.Range as row-Range
 use Rattle.definition.specs.declared.Registers.{Registers}
@@ -53,9 +51,6 @@ use Rattle.definition.proofs.Registers.Laws as law-Registers
 use Rattle.definition.specs.declared.Root.{Root}
 use Rattle.definition.proofs.Root as row-Root
 use Rattle.definition.proofs.Root.Laws as law-Root
-use Rattle.tables.specs.declared.Walked.{Walked}
-use Rattle.tables.proofs.Walked as row-Walked
-use Rattle.tables.proofs.Walked.Laws as law-Walked
 use Rattle.tables.specs.declared.Walked040.{Walked040}
 use Rattle.tables.proofs.Walked040 as row-Walked040
 use Rattle.tables.proofs.Walked040.Laws as law-Walked040
@@ -65,58 +60,38 @@ use Rattle.tables.proofs.Walks.Laws as law-Walks
 use Rattle.tables.specs.declared.Way.{Way}
 use Rattle.tables.proofs.Way as row-Way
 use Rattle.tables.proofs.Way.Laws as law-Way
-use Rattle.tables.proofs.is_idle as c0
-use Rattle.tables.proofs.is_idle.Symbol as c0-def
-use Rattle.tables.proofs.is_idle.Symbol.{name as #tables·is-idle}
-use Rattle.tables.proofs.is_idle.Met as c0-thm
-use Rattle.tables.proofs.no_walk_done as c1
-use Rattle.tables.proofs.no_walk_done.Symbol as c1-def
-use Rattle.tables.proofs.no_walk_done.Symbol.{name as #tables·no-walk-done}
-use Rattle.tables.proofs.no_walk_done.Met as c1-thm
-use Rattle.tables.proofs.is_by_030 as c2
-use Rattle.tables.proofs.is_by_030.Symbol as c2-def
-use Rattle.tables.proofs.is_by_030.Symbol.{name as #tables·is-by-030}
-use Rattle.tables.proofs.is_by_030.Met as c2-thm
-use Rattle.tables.proofs.code_of as c3
-use Rattle.tables.proofs.code_of.Symbol as c3-def
-use Rattle.tables.proofs.code_of.Symbol.{name as #tables·code-of}
-use Rattle.tables.proofs.code_of.Met as c3-thm
-use Rattle.tables.proofs.limit_of as c4
-use Rattle.tables.proofs.limit_of.Symbol as c4-def
-use Rattle.tables.proofs.limit_of.Symbol.{name as #tables·limit-of}
-use Rattle.tables.proofs.limit_of.Met as c4-thm
-use Rattle.tables.proofs.tc_of as c5
-use Rattle.tables.proofs.tc_of.Symbol as c5-def
+use Rattle.tables.proofs.tc_of as c0
+use Rattle.tables.proofs.tc_of.Symbol as c0-def
 use Rattle.tables.proofs.tc_of.Symbol.{name as #tables·tc-of}
-use Rattle.tables.proofs.tc_of.Met as c5-thm
-use Rattle.tables.proofs.root_of as c6
-use Rattle.tables.proofs.root_of.Symbol as c6-def
-use Rattle.tables.proofs.root_of.Symbol.{name as #tables·root-of}
-use Rattle.tables.proofs.root_of.Met as c6-thm
-use Rattle.tables.proofs.walk_030 as c7
-use Rattle.tables.proofs.walk_030.Symbol as c7-def
-use Rattle.tables.proofs.walk_030.Symbol.{name as #tables·walk-030}
-use Rattle.tables.proofs.walk_030.Met as c7-thm
-use Rattle.tables.proofs.done_030 as c8
-use Rattle.tables.proofs.done_030.Symbol as c8-def
-use Rattle.tables.proofs.done_030.Symbol.{name as #tables·done-030}
-use Rattle.tables.proofs.done_030.Met as c8-thm
-use Rattle.tables.proofs.supervisor_of as c9
-use Rattle.tables.proofs.supervisor_of.Symbol as c9-def
+use Rattle.tables.proofs.tc_of.Met as c0-thm
+use Rattle.tables.proofs.is_by_040 as c1
+use Rattle.tables.proofs.is_by_040.Symbol as c1-def
+use Rattle.tables.proofs.is_by_040.Symbol.{name as #tables·is-by-040}
+use Rattle.tables.proofs.is_by_040.Met as c1-thm
+use Rattle.tables.proofs.supervisor_of as c2
+use Rattle.tables.proofs.supervisor_of.Symbol as c2-def
 use Rattle.tables.proofs.supervisor_of.Symbol.{name as #tables·supervisor-of}
-use Rattle.tables.proofs.supervisor_of.Met as c9-thm
-use Rattle.tables.proofs.root_at as c10
-use Rattle.tables.proofs.root_at.Symbol as c10-def
+use Rattle.tables.proofs.supervisor_of.Met as c2-thm
+use Rattle.tables.proofs.root_at as c3
+use Rattle.tables.proofs.root_at.Symbol as c3-def
 use Rattle.tables.proofs.root_at.Symbol.{name as #tables·root-at}
-use Rattle.tables.proofs.root_at.Met as c10-thm
-use Rattle.tables.proofs.walk_040 as c11
-use Rattle.tables.proofs.walk_040.Symbol as c11-def
+use Rattle.tables.proofs.root_at.Met as c3-thm
+use Rattle.tables.proofs.walk_040 as c4
+use Rattle.tables.proofs.walk_040.Symbol as c4-def
 use Rattle.tables.proofs.walk_040.Symbol.{name as #tables·walk-040}
-use Rattle.tables.proofs.walk_040.Met as c11-thm
-use Rattle.tables.proofs.done_040 as c12
-use Rattle.tables.proofs.done_040.Symbol as c12-def
+use Rattle.tables.proofs.walk_040.Met as c4-thm
+use Rattle.tables.proofs.done_040 as c5
+use Rattle.tables.proofs.done_040.Symbol as c5-def
 use Rattle.tables.proofs.done_040.Symbol.{name as #tables·done-040}
-use Rattle.tables.proofs.done_040.Met as c12-thm
+use Rattle.tables.proofs.done_040.Met as c5-thm
+use Rattle.tables.proofs.root_for as c6
+use Rattle.tables.proofs.root_for.Symbol as c6-def
+use Rattle.tables.proofs.root_for.Symbol.{name as #tables·root-for}
+use Rattle.tables.proofs.root_for.Met as c6-thm
+use Rattle.tables.proofs.walk_030_for as c7
+use Rattle.tables.proofs.walk_030_for.Symbol as c7-def
+use Rattle.tables.proofs.walk_030_for.Symbol.{name as #tables·walk-030-for}
+use Rattle.tables.proofs.walk_030_for.Met as c7-thm
 use Rattle.tables.proofs.walk_for.Key.{name as #tables·walk-for}
 use Rattle.tables.proofs.walk_for as self
 use Rattle.tables.proofs.walk_for.Statement as stated
@@ -150,21 +125,6 @@ module _ {M : Type 1} (𝓤 : URA M) (H : Heap 𝓤) (A : Atoms 𝓤) (mem : Mem
   abbrev C7 : Contract 𝓤
   C7 = tripleOf 𝓤 H A c7.signature (c7.spec 𝓤 H A mem run)
 
-  abbrev C8 : Contract 𝓤
-  C8 = tripleOf 𝓤 H A c8.signature (c8.spec 𝓤 H A mem run)
-
-  abbrev C9 : Contract 𝓤
-  C9 = tripleOf 𝓤 H A c9.signature (c9.spec 𝓤 H A mem run)
-
-  abbrev C10 : Contract 𝓤
-  C10 = tripleOf 𝓤 H A c10.signature (c10.spec 𝓤 H A mem run)
-
-  abbrev C11 : Contract 𝓤
-  C11 = tripleOf 𝓤 H A c11.signature (c11.spec 𝓤 H A mem run)
-
-  abbrev C12 : Contract 𝓤
-  C12 = tripleOf 𝓤 H A c12.signature (c12.spec 𝓤 H A mem run)
-
 module _ {M : Type 1} (𝓤 : URA M) (H : Heap 𝓤) (A : Atoms 𝓤) (W : Given 𝓤 H A) (mem : Memory → SProp 𝓤) (run : Routine → Fun 𝓤) (κ0 : Lft) (κ1 : Lft) (q0 : Share) (q1 : Share) (x1 : RefT (List ℕ)) (x2 : ℕ) (x3 : RefT (List Range)) (x4 : Registers) (x5 : ℕ) (x6 : Way) (i1 : Is (ShrSlice (named 0) κ0 u32) x1 (sliceVal (x1 .ptr) (length (x1 .now)) ∷ [])) (i2 : Is u32 x2 (vint w32 x2 ∷ [])) (i3 : Is (ShrSlice (named 1) κ1 row-Range.the-row) x3 (sliceVal (x3 .ptr) (length (x3 .now)) ∷ [])) (i4 : Is row-Registers.the-row x4 (LL.val row-Registers.the-type law-Registers.the-laws x4 ∷ [])) (i5 : Is u32 x5 (vint w32 x5 ∷ [])) (i6 : Is row-Way.the-row x6 (EL.val row-Way.the-type law-Way.the-laws x6 ∷ [])) where
   abbrev at-entry : Vals self.signature (κ0, (κ1, tt))
   at-entry = (sliceVal (x1 .ptr) (length (x1 .now)) ∷ [], (vint w32 x2 ∷ [], (sliceVal (x3 .ptr) (length (x3 .now)) ∷ [], (LL.val row-Registers.the-type law-Registers.the-laws x4 ∷ [], (vint w32 x5 ∷ [], (EL.val row-Way.the-type law-Way.the-laws x6 ∷ [], tt))))))
@@ -178,29 +138,29 @@ module _ {M : Type 1} (𝓤 : URA M) (H : Heap 𝓤) (A : Atoms 𝓤) (W : Given
       suffices ! _ (ends-at 𝓤 H A self.ended stayed (self.clauses 𝓤 H A mem run) W (((κ0, (κ1, tt)), (q0, (q1, tt)), tt, (x1, (x2, (x3, (x4, (x5, (x6, tt)))))), at-entry), tt) u r (tt, (tt, (tt, (tt, (tt, (tt, tt)))))) (tt, (tt, (tt, (tt, (tt, (tt, tt))))))) $ says ! e $
       nothing ! $ move ! (2 ∷ 0 ∷ []) $ join ! $ move ! (1 ∷ 0 ∷ []) $ join ! $ frame ! $ nothing ! $ owned ! row-Way.the-row (Is row-Way.the-row) (EL.makes row-Way.the-type law-Way.the-plain 𝓤 H A) x6 _ i6 $ fjoin ! $ owned ! u32 (Is u32) (uint-makes 𝓤 H A W w32) x5 _ i5 $ fjoin ! $ owned ! row-Registers.the-row (Is row-Registers.the-row) (LL.makes row-Registers.the-type law-Registers.the-plain 𝓤 H A) x4 _ i4 $ fjoin ! $ move ! (2 ∷ 0 ∷ []) $ fjoin ! $ owned ! u32 (Is u32) (uint-makes 𝓤 H A W w32) x2 _ i2 $ fjoin ! $ move ! (1 ∷ 0 ∷ []) $ fjoin ! $ frame ! $ owned ! row-Walks.the-row (Is row-Walks.the-row) (EL.makes row-Walks.the-type law-Walks.the-plain 𝓤 H A) r _ is $ done !
 
-  -- the call of `is_idle`: what it is passed, what it asks, and what is known of its result
-  abbrev to-0 : (a0 : Way) (v0 : Val) → C0 𝓤 H A mem run .Ghost
+  -- the call of `tc_of`: what it is passed, what it asks, and what is known of its result
+  abbrev to-0 : (a0 : Registers) (v0 : Val) → C0 𝓤 H A mem run .Ghost
   to-0 a0 v0 = ((tt, tt, tt, (a0, tt), (v0 ∷ [], tt)), tt)
 
-  goes-0 : (a0 : Way) (v0 : Val) (i0 : Is row-Way.the-row a0 (v0 ∷ [])) → ent 𝓤 (emp 𝓤) (C0 𝓤 H A mem run .pre (to-0 a0 v0))
+  goes-0 : (a0 : Registers) (v0 : Val) (i0 : Is row-Registers.the-row a0 (v0 ∷ [])) → ent 𝓤 (emp 𝓤) (C0 𝓤 H A mem run .pre (to-0 a0 v0))
   goes-0 a0 v0 i0 =
+      qed W ([]) ∵ nothing ! $ owned ! row-Registers.the-row (Is row-Registers.the-row) (LL.makes row-Registers.the-type law-Registers.the-plain 𝓤 H A) a0 _ i0 $ fjoin ! $ nothing ! $ join ! $ frame ! $ done !
+
+  said-0 : (a0 : Registers) (r : ℕ) → ent 𝓤 (ensured 𝓤 H A c0.ended (c0.clauses 𝓤 H A mem run) tt (a0, tt) tt r) (fact 𝓤 (r ≡ a0 .tc))
+  said-0 a0 r = exE 𝓤 _ (λ ws. snd∗ 𝓤 (sem 𝓤 H A (lasts c0.ended tt (a0, tt) ws)) (fact 𝓤 (r ≡ a0 .tc)))
+
+  -- the call of `is_by_040`: what it is passed, what it asks, and what is known of its result
+  abbrev to-1 : (a0 : Way) (v0 : Val) → C1 𝓤 H A mem run .Ghost
+  to-1 a0 v0 = ((tt, tt, tt, (a0, tt), (v0 ∷ [], tt)), tt)
+
+  goes-1 : (a0 : Way) (v0 : Val) (i0 : Is row-Way.the-row a0 (v0 ∷ [])) → ent 𝓤 (emp 𝓤) (C1 𝓤 H A mem run .pre (to-1 a0 v0))
+  goes-1 a0 v0 i0 =
       qed W ([]) ∵ nothing ! $ owned ! row-Way.the-row (Is row-Way.the-row) (EL.makes row-Way.the-type law-Way.the-plain 𝓤 H A) a0 _ i0 $ fjoin ! $ nothing ! $ join ! $ frame ! $ done !
 
-  said-0 : (a0 : Way) (r : Bool) → ent 𝓤 (ensured 𝓤 H A c0.ended (c0.clauses 𝓤 H A mem run) tt (a0, tt) tt r) (fact 𝓤 (r ≡ idle a0))
-  said-0 a0 r = exE 𝓤 _ (λ ws. snd∗ 𝓤 (sem 𝓤 H A (lasts c0.ended tt (a0, tt) ws)) (fact 𝓤 (r ≡ idle a0)))
+  said-1 : (a0 : Way) (r : Bool) → ent 𝓤 (ensured 𝓤 H A c1.ended (c1.clauses 𝓤 H A mem run) tt (a0, tt) tt r) (fact 𝓤 (r ≡ by040 a0))
+  said-1 a0 r = exE 𝓤 _ (λ ws. snd∗ 𝓤 (sem 𝓤 H A (lasts c1.ended tt (a0, tt) ws)) (fact 𝓤 (r ≡ by040 a0)))
 
-  -- the call of `no_walk_done`: what it is passed, what it asks, and what is known of its result
-  abbrev to-1 : C1 𝓤 H A mem run .Ghost
-  to-1 = ((tt, tt, tt, tt, tt), tt)
-
-  goes-1 : ent 𝓤 (emp 𝓤) (C1 𝓤 H A mem run .pre (to-1))
-  goes-1 =
-      qed W ([]) ∵ nothing ! $ nothing ! $ join ! $ frame ! $ done !
-
-  said-1 : (r : Walks) → ent 𝓤 (ensured 𝓤 H A c1.ended (c1.clauses 𝓤 H A mem run) tt tt tt r) (fact 𝓤 (r ≡ Walks.Idle))
-  said-1 r = exE 𝓤 _ (λ ws. snd∗ 𝓤 (sem 𝓤 H A (lasts c1.ended tt tt ws)) (fact 𝓤 (r ≡ Walks.Idle)))
-
-  -- the call of `is_by_030`: what it is passed, what it asks, and what is known of its result
+  -- the call of `supervisor_of`: what it is passed, what it asks, and what is known of its result
   abbrev to-2 : (a0 : Way) (v0 : Val) → C2 𝓤 H A mem run .Ghost
   to-2 a0 v0 = ((tt, tt, tt, (a0, tt), (v0 ∷ [], tt)), tt)
 
@@ -208,120 +168,65 @@ module _ {M : Type 1} (𝓤 : URA M) (H : Heap 𝓤) (A : Atoms 𝓤) (W : Given
   goes-2 a0 v0 i0 =
       qed W ([]) ∵ nothing ! $ owned ! row-Way.the-row (Is row-Way.the-row) (EL.makes row-Way.the-type law-Way.the-plain 𝓤 H A) a0 _ i0 $ fjoin ! $ nothing ! $ join ! $ frame ! $ done !
 
-  said-2 : (a0 : Way) (r : Bool) → ent 𝓤 (ensured 𝓤 H A c2.ended (c2.clauses 𝓤 H A mem run) tt (a0, tt) tt r) (fact 𝓤 (r ≡ by030 a0))
-  said-2 a0 r = exE 𝓤 _ (λ ws. snd∗ 𝓤 (sem 𝓤 H A (lasts c2.ended tt (a0, tt) ws)) (fact 𝓤 (r ≡ by030 a0)))
-
-  -- the call of `code_of`: what it is passed, what it asks, and what is known of its result
-  abbrev to-3 : (a0 : Way) (v0 : Val) → C3 𝓤 H A mem run .Ghost
-  to-3 a0 v0 = ((tt, tt, tt, (a0, tt), (v0 ∷ [], tt)), tt)
-
-  goes-3 : (a0 : Way) (v0 : Val) (i0 : Is row-Way.the-row a0 (v0 ∷ [])) → ent 𝓤 (emp 𝓤) (C3 𝓤 H A mem run .pre (to-3 a0 v0))
-  goes-3 a0 v0 i0 =
-      qed W ([]) ∵ nothing ! $ owned ! row-Way.the-row (Is row-Way.the-row) (EL.makes row-Way.the-type law-Way.the-plain 𝓤 H A) a0 _ i0 $ fjoin ! $ nothing ! $ join ! $ frame ! $ done !
-
-  said-3 : (a0 : Way) (r : ℕ) → ent 𝓤 (ensured 𝓤 H A c3.ended (c3.clauses 𝓤 H A mem run) tt (a0, tt) tt r) (fact 𝓤 (r ≡ codeBy a0))
-  said-3 a0 r = exE 𝓤 _ (λ ws. snd∗ 𝓤 (sem 𝓤 H A (lasts c3.ended tt (a0, tt) ws)) (fact 𝓤 (r ≡ codeBy a0)))
-
-  -- the call of `limit_of`: what it is passed, what it asks, and what is known of its result
-  abbrev to-4 : (a0 : Way) (v0 : Val) → C4 𝓤 H A mem run .Ghost
-  to-4 a0 v0 = ((tt, tt, tt, (a0, tt), (v0 ∷ [], tt)), tt)
-
-  goes-4 : (a0 : Way) (v0 : Val) (i0 : Is row-Way.the-row a0 (v0 ∷ [])) → ent 𝓤 (emp 𝓤) (C4 𝓤 H A mem run .pre (to-4 a0 v0))
-  goes-4 a0 v0 i0 =
-      qed W ([]) ∵ nothing ! $ owned ! row-Way.the-row (Is row-Way.the-row) (EL.makes row-Way.the-type law-Way.the-plain 𝓤 H A) a0 _ i0 $ fjoin ! $ nothing ! $ join ! $ frame ! $ done !
-
-  said-4 : (a0 : Way) (r : ℕ) → ent 𝓤 (ensured 𝓤 H A c4.ended (c4.clauses 𝓤 H A mem run) tt (a0, tt) tt r) (fact 𝓤 (r ≡ limitBy a0))
-  said-4 a0 r = exE 𝓤 _ (λ ws. snd∗ 𝓤 (sem 𝓤 H A (lasts c4.ended tt (a0, tt) ws)) (fact 𝓤 (r ≡ limitBy a0)))
-
-  -- the call of `tc_of`: what it is passed, what it asks, and what is known of its result
-  abbrev to-5 : (a0 : Registers) (v0 : Val) → C5 𝓤 H A mem run .Ghost
-  to-5 a0 v0 = ((tt, tt, tt, (a0, tt), (v0 ∷ [], tt)), tt)
-
-  goes-5 : (a0 : Registers) (v0 : Val) (i0 : Is row-Registers.the-row a0 (v0 ∷ [])) → ent 𝓤 (emp 𝓤) (C5 𝓤 H A mem run .pre (to-5 a0 v0))
-  goes-5 a0 v0 i0 =
-      qed W ([]) ∵ nothing ! $ owned ! row-Registers.the-row (Is row-Registers.the-row) (LL.makes row-Registers.the-type law-Registers.the-plain 𝓤 H A) a0 _ i0 $ fjoin ! $ nothing ! $ join ! $ frame ! $ done !
-
-  said-5 : (a0 : Registers) (r : ℕ) → ent 𝓤 (ensured 𝓤 H A c5.ended (c5.clauses 𝓤 H A mem run) tt (a0, tt) tt r) (fact 𝓤 (r ≡ a0 .tc))
-  said-5 a0 r = exE 𝓤 _ (λ ws. snd∗ 𝓤 (sem 𝓤 H A (lasts c5.ended tt (a0, tt) ws)) (fact 𝓤 (r ≡ a0 .tc)))
-
-  -- the call of `root_of`: what it is passed, what it asks, and what is known of its result
-  abbrev to-6 : (a0 : Registers) (v0 : Val) (a1 : ℕ) (v1 : Val) → C6 𝓤 H A mem run .Ghost
-  to-6 a0 v0 a1 v1 = ((tt, tt, tt, (a0, (a1, tt)), (v0 ∷ [], (v1 ∷ [], tt))), tt)
-
-  goes-6 : (a0 : Registers) (v0 : Val) (a1 : ℕ) (v1 : Val) (i0 : Is row-Registers.the-row a0 (v0 ∷ [])) (i1 : Is u32 a1 (v1 ∷ [])) → ent 𝓤 (emp 𝓤) (C6 𝓤 H A mem run .pre (to-6 a0 v0 a1 v1))
-  goes-6 a0 v0 a1 v1 i0 i1 =
-      qed W ([]) ∵ nothing ! $ owned ! u32 (Is u32) (uint-makes 𝓤 H A W w32) a1 _ i1 $ fjoin ! $ owned ! row-Registers.the-row (Is row-Registers.the-row) (LL.makes row-Registers.the-type law-Registers.the-plain 𝓤 H A) a0 _ i0 $ fjoin ! $ nothing ! $ join ! $ frame ! $ done !
-
-  said-6 : (a0 : Registers) (a1 : ℕ) (r : Root) → ent 𝓤 (ensured 𝓤 H A c6.ended (c6.clauses 𝓤 H A mem run) tt (a0, (a1, tt)) tt r) (fact 𝓤 (r ≡ rootOf a0 a1))
-  said-6 a0 a1 r = exE 𝓤 _ (λ ws. snd∗ 𝓤 (sem 𝓤 H A (lasts c6.ended tt (a0, (a1, tt)) ws)) (fact 𝓤 (r ≡ rootOf a0 a1)))
-
-  -- the call of `walk_030`: what it is passed, what it asks, and what is known of its result
-  abbrev to-7 : (a0 : RefT (List ℕ)) (v0 : Val) (a1 : ℕ) (v1 : Val) (a2 : RefT (List Range)) (v2 : Val) (a3 : ℕ) (v3 : Val) (a4 : Root) (v4 : Val) (a5 : ℕ) (v5 : Val) (a6 : ℕ) (v6 : Val) (a7 : ℕ) (v7 : Val) → C7 𝓤 H A mem run .Ghost
-  to-7 a0 v0 a1 v1 a2 v2 a3 v3 a4 v4 a5 v5 a6 v6 a7 v7 = (((κ0, (κ1, tt)), (q0, (q1, tt)), tt, (a0, (a1, (a2, (a3, (a4, (a5, (a6, (a7, tt)))))))), (v0 ∷ [], (v1 ∷ [], (v2 ∷ [], (v3 ∷ [], (v4 ∷ [], (v5 ∷ [], (v6 ∷ [], (v7 ∷ [], tt))))))))), tt)
-
-  goes-7 : (a0 : RefT (List ℕ)) (v0 : Val) (a1 : ℕ) (v1 : Val) (a2 : RefT (List Range)) (v2 : Val) (a3 : ℕ) (v3 : Val) (a4 : Root) (v4 : Val) (a5 : ℕ) (v5 : Val) (a6 : ℕ) (v6 : Val) (a7 : ℕ) (v7 : Val) (i1 : Is u32 a1 (v1 ∷ [])) (i3 : Is u32 a3 (v3 ∷ [])) (i4 : Is row-Root.the-row a4 (v4 ∷ [])) (i5 : Is u32 a5 (v5 ∷ [])) (i6 : Is u32 a6 (v6 ∷ [])) (i7 : Is u32 a7 (v7 ∷ [])) → ent 𝓤 (⋆ 𝓤 H A (‵ (flft κ0 q0) ∷ ‵ (flft κ1 q1) ∷ ‵ ((ShrSlice (named 0) κ0 u32) .own a0 (v0 ∷ [])) ∷ ‵ ((ShrSlice (named 1) κ1 row-Range.the-row) .own a2 (v2 ∷ [])) ∷ [])) (C7 𝓤 H A mem run .pre (to-7 a0 v0 a1 v1 a2 v2 a3 v3 a4 v4 a5 v5 a6 v6 a7 v7))
-  goes-7 a0 v0 a1 v1 a2 v2 a3 v3 a4 v4 a5 v5 a6 v6 a7 v7 i1 i3 i4 i5 i6 i7 =
-      qed W (‵ (flft κ0 q0) ∷ ‵ (flft κ1 q1) ∷ ‵ ((ShrSlice (named 0) κ0 u32) .own a0 (v0 ∷ [])) ∷ ‵ ((ShrSlice (named 1) κ1 row-Range.the-row) .own a2 (v2 ∷ [])) ∷ []) ∵ nothing ! $ owned ! u32 (Is u32) (uint-makes 𝓤 H A W w32) a7 _ i7 $ fjoin ! $ owned ! u32 (Is u32) (uint-makes 𝓤 H A W w32) a6 _ i6 $ fjoin ! $ owned ! u32 (Is u32) (uint-makes 𝓤 H A W w32) a5 _ i5 $ fjoin ! $ owned ! row-Root.the-row (Is row-Root.the-row) (LL.makes row-Root.the-type law-Root.the-plain 𝓤 H A) a4 _ i4 $ fjoin ! $ owned ! u32 (Is u32) (uint-makes 𝓤 H A W w32) a3 _ i3 $ fjoin ! $ move ! (4 ∷ 0 ∷ []) $ fjoin ! $ owned ! u32 (Is u32) (uint-makes 𝓤 H A W w32) a1 _ i1 $ fjoin ! $ move ! (3 ∷ 0 ∷ []) $ fjoin ! $ nothing ! $ move ! (3 ∷ 0 ∷ []) $ join ! $ move ! (2 ∷ 0 ∷ []) $ join ! $ join ! $ frame ! $ done !
-
-  said-7 : (a0 : RefT (List ℕ)) (a1 : ℕ) (a2 : RefT (List Range)) (a3 : ℕ) (a4 : Root) (a5 : ℕ) (a6 : ℕ) (a7 : ℕ) (r : Walked) → ent 𝓤 (ensured 𝓤 H A c7.ended (c7.clauses 𝓤 H A mem run) (κ0, (κ1, tt)) (a0, (a1, (a2, (a3, (a4, (a5, (a6, (a7, tt)))))))) tt r) (fact 𝓤 (r ≡ shown (outcomeOf (memory (now a0) a1 (now a2)) a3 a4 a5 a6 a7)))
-  said-7 a0 a1 a2 a3 a4 a5 a6 a7 r = exE 𝓤 _ (λ ws. snd∗ 𝓤 (sem 𝓤 H A (lasts c7.ended (κ0, (κ1, tt)) (a0, (a1, (a2, (a3, (a4, (a5, (a6, (a7, tt)))))))) ws)) (fact 𝓤 (r ≡ shown (outcomeOf (memory (now a0) a1 (now a2)) a3 a4 a5 a6 a7))))
-
-  -- the call of `done_030`: what it is passed, what it asks, and what is known of its result
-  abbrev to-8 : (a0 : Walked) (v0 : Val) → C8 𝓤 H A mem run .Ghost
-  to-8 a0 v0 = ((tt, tt, tt, (a0, tt), (v0 ∷ [], tt)), tt)
-
-  goes-8 : (a0 : Walked) (v0 : Val) (i0 : Is row-Walked.the-row a0 (v0 ∷ [])) → ent 𝓤 (emp 𝓤) (C8 𝓤 H A mem run .pre (to-8 a0 v0))
-  goes-8 a0 v0 i0 =
-      qed W ([]) ∵ nothing ! $ owned ! row-Walked.the-row (Is row-Walked.the-row) (LL.makes row-Walked.the-type law-Walked.the-plain 𝓤 H A) a0 _ i0 $ fjoin ! $ nothing ! $ join ! $ frame ! $ done !
-
-  said-8 : (a0 : Walked) (r : Walks) → ent 𝓤 (ensured 𝓤 H A c8.ended (c8.clauses 𝓤 H A mem run) tt (a0, tt) tt r) (fact 𝓤 (r ≡ Walks.By030 a0))
-  said-8 a0 r = exE 𝓤 _ (λ ws. snd∗ 𝓤 (sem 𝓤 H A (lasts c8.ended tt (a0, tt) ws)) (fact 𝓤 (r ≡ Walks.By030 a0)))
-
-  -- the call of `supervisor_of`: what it is passed, what it asks, and what is known of its result
-  abbrev to-9 : (a0 : Way) (v0 : Val) → C9 𝓤 H A mem run .Ghost
-  to-9 a0 v0 = ((tt, tt, tt, (a0, tt), (v0 ∷ [], tt)), tt)
-
-  goes-9 : (a0 : Way) (v0 : Val) (i0 : Is row-Way.the-row a0 (v0 ∷ [])) → ent 𝓤 (emp 𝓤) (C9 𝓤 H A mem run .pre (to-9 a0 v0))
-  goes-9 a0 v0 i0 =
-      qed W ([]) ∵ nothing ! $ owned ! row-Way.the-row (Is row-Way.the-row) (EL.makes row-Way.the-type law-Way.the-plain 𝓤 H A) a0 _ i0 $ fjoin ! $ nothing ! $ join ! $ frame ! $ done !
-
-  said-9 : (a0 : Way) (r : Bool) → ent 𝓤 (ensured 𝓤 H A c9.ended (c9.clauses 𝓤 H A mem run) tt (a0, tt) tt r) (fact 𝓤 (r ≡ supervisorBy a0))
-  said-9 a0 r = exE 𝓤 _ (λ ws. snd∗ 𝓤 (sem 𝓤 H A (lasts c9.ended tt (a0, tt) ws)) (fact 𝓤 (r ≡ supervisorBy a0)))
+  said-2 : (a0 : Way) (r : Bool) → ent 𝓤 (ensured 𝓤 H A c2.ended (c2.clauses 𝓤 H A mem run) tt (a0, tt) tt r) (fact 𝓤 (r ≡ supervisorBy a0))
+  said-2 a0 r = exE 𝓤 _ (λ ws. snd∗ 𝓤 (sem 𝓤 H A (lasts c2.ended tt (a0, tt) ws)) (fact 𝓤 (r ≡ supervisorBy a0)))
 
   -- the call of `root_at`: what it is passed, what it asks, and what is known of its result
-  abbrev to-10 : (a0 : Registers) (v0 : Val) (a1 : Bool) (v1 : Val) (a2 : ℕ) (v2 : Val) → C10 𝓤 H A mem run .Ghost
-  to-10 a0 v0 a1 v1 a2 v2 = ((tt, tt, tt, (a0, (a1, (a2, tt))), (v0 ∷ [], (v1 ∷ [], (v2 ∷ [], tt)))), tt)
+  abbrev to-3 : (a0 : Registers) (v0 : Val) (a1 : Bool) (v1 : Val) (a2 : ℕ) (v2 : Val) → C3 𝓤 H A mem run .Ghost
+  to-3 a0 v0 a1 v1 a2 v2 = ((tt, tt, tt, (a0, (a1, (a2, tt))), (v0 ∷ [], (v1 ∷ [], (v2 ∷ [], tt)))), tt)
 
-  goes-10 : (a0 : Registers) (v0 : Val) (a1 : Bool) (v1 : Val) (a2 : ℕ) (v2 : Val) (i0 : Is row-Registers.the-row a0 (v0 ∷ [])) (i1 : Is Boolean a1 (v1 ∷ [])) (i2 : Is u32 a2 (v2 ∷ [])) → ent 𝓤 (emp 𝓤) (C10 𝓤 H A mem run .pre (to-10 a0 v0 a1 v1 a2 v2))
-  goes-10 a0 v0 a1 v1 a2 v2 i0 i1 i2 =
+  goes-3 : (a0 : Registers) (v0 : Val) (a1 : Bool) (v1 : Val) (a2 : ℕ) (v2 : Val) (i0 : Is row-Registers.the-row a0 (v0 ∷ [])) (i1 : Is Boolean a1 (v1 ∷ [])) (i2 : Is u32 a2 (v2 ∷ [])) → ent 𝓤 (emp 𝓤) (C3 𝓤 H A mem run .pre (to-3 a0 v0 a1 v1 a2 v2))
+  goes-3 a0 v0 a1 v1 a2 v2 i0 i1 i2 =
       qed W ([]) ∵ nothing ! $ owned ! u32 (Is u32) (uint-makes 𝓤 H A W w32) a2 _ i2 $ fjoin ! $ owned ! Boolean (Is Boolean) (bool-makes 𝓤 H A W) a1 _ i1 $ fjoin ! $ owned ! row-Registers.the-row (Is row-Registers.the-row) (LL.makes row-Registers.the-type law-Registers.the-plain 𝓤 H A) a0 _ i0 $ fjoin ! $ nothing ! $ join ! $ frame ! $ done !
 
-  said-10 : (a0 : Registers) (a1 : Bool) (a2 : ℕ) (r : ℕ) → ent 𝓤 (ensured 𝓤 H A c10.ended (c10.clauses 𝓤 H A mem run) tt (a0, (a1, (a2, tt))) tt r) (fact 𝓤 (r ≡ rootAt a0 a1 a2))
-  said-10 a0 a1 a2 r = exE 𝓤 _ (λ ws. snd∗ 𝓤 (sem 𝓤 H A (lasts c10.ended tt (a0, (a1, (a2, tt))) ws)) (fact 𝓤 (r ≡ rootAt a0 a1 a2)))
+  said-3 : (a0 : Registers) (a1 : Bool) (a2 : ℕ) (r : ℕ) → ent 𝓤 (ensured 𝓤 H A c3.ended (c3.clauses 𝓤 H A mem run) tt (a0, (a1, (a2, tt))) tt r) (fact 𝓤 (r ≡ rootAt a0 a1 a2))
+  said-3 a0 a1 a2 r = exE 𝓤 _ (λ ws. snd∗ 𝓤 (sem 𝓤 H A (lasts c3.ended tt (a0, (a1, (a2, tt))) ws)) (fact 𝓤 (r ≡ rootAt a0 a1 a2)))
 
   -- the call of `walk_040`: what it is passed, what it asks, and what is known of its result
-  abbrev to-11 : (a0 : RefT (List ℕ)) (v0 : Val) (a1 : ℕ) (v1 : Val) (a2 : RefT (List Range)) (v2 : Val) (a3 : ℕ) (v3 : Val) (a4 : ℕ) (v4 : Val) (a5 : ℕ) (v5 : Val) → C11 𝓤 H A mem run .Ghost
-  to-11 a0 v0 a1 v1 a2 v2 a3 v3 a4 v4 a5 v5 = (((κ0, (κ1, tt)), (q0, (q1, tt)), tt, (a0, (a1, (a2, (a3, (a4, (a5, tt)))))), (v0 ∷ [], (v1 ∷ [], (v2 ∷ [], (v3 ∷ [], (v4 ∷ [], (v5 ∷ [], tt))))))), tt)
+  abbrev to-4 : (a0 : RefT (List ℕ)) (v0 : Val) (a1 : ℕ) (v1 : Val) (a2 : RefT (List Range)) (v2 : Val) (a3 : ℕ) (v3 : Val) (a4 : ℕ) (v4 : Val) (a5 : ℕ) (v5 : Val) → C4 𝓤 H A mem run .Ghost
+  to-4 a0 v0 a1 v1 a2 v2 a3 v3 a4 v4 a5 v5 = (((κ0, (κ1, tt)), (q0, (q1, tt)), tt, (a0, (a1, (a2, (a3, (a4, (a5, tt)))))), (v0 ∷ [], (v1 ∷ [], (v2 ∷ [], (v3 ∷ [], (v4 ∷ [], (v5 ∷ [], tt))))))), tt)
 
-  goes-11 : (a0 : RefT (List ℕ)) (v0 : Val) (a1 : ℕ) (v1 : Val) (a2 : RefT (List Range)) (v2 : Val) (a3 : ℕ) (v3 : Val) (a4 : ℕ) (v4 : Val) (a5 : ℕ) (v5 : Val) (i1 : Is u32 a1 (v1 ∷ [])) (i3 : Is u32 a3 (v3 ∷ [])) (i4 : Is u32 a4 (v4 ∷ [])) (i5 : Is u32 a5 (v5 ∷ [])) → ent 𝓤 (⋆ 𝓤 H A (‵ (flft κ0 q0) ∷ ‵ (flft κ1 q1) ∷ ‵ ((ShrSlice (named 0) κ0 u32) .own a0 (v0 ∷ [])) ∷ ‵ ((ShrSlice (named 1) κ1 row-Range.the-row) .own a2 (v2 ∷ [])) ∷ [])) (C11 𝓤 H A mem run .pre (to-11 a0 v0 a1 v1 a2 v2 a3 v3 a4 v4 a5 v5))
-  goes-11 a0 v0 a1 v1 a2 v2 a3 v3 a4 v4 a5 v5 i1 i3 i4 i5 =
+  goes-4 : (a0 : RefT (List ℕ)) (v0 : Val) (a1 : ℕ) (v1 : Val) (a2 : RefT (List Range)) (v2 : Val) (a3 : ℕ) (v3 : Val) (a4 : ℕ) (v4 : Val) (a5 : ℕ) (v5 : Val) (i1 : Is u32 a1 (v1 ∷ [])) (i3 : Is u32 a3 (v3 ∷ [])) (i4 : Is u32 a4 (v4 ∷ [])) (i5 : Is u32 a5 (v5 ∷ [])) → ent 𝓤 (⋆ 𝓤 H A (‵ (flft κ0 q0) ∷ ‵ (flft κ1 q1) ∷ ‵ ((ShrSlice (named 0) κ0 u32) .own a0 (v0 ∷ [])) ∷ ‵ ((ShrSlice (named 1) κ1 row-Range.the-row) .own a2 (v2 ∷ [])) ∷ [])) (C4 𝓤 H A mem run .pre (to-4 a0 v0 a1 v1 a2 v2 a3 v3 a4 v4 a5 v5))
+  goes-4 a0 v0 a1 v1 a2 v2 a3 v3 a4 v4 a5 v5 i1 i3 i4 i5 =
       qed W (‵ (flft κ0 q0) ∷ ‵ (flft κ1 q1) ∷ ‵ ((ShrSlice (named 0) κ0 u32) .own a0 (v0 ∷ [])) ∷ ‵ ((ShrSlice (named 1) κ1 row-Range.the-row) .own a2 (v2 ∷ [])) ∷ []) ∵ nothing ! $ owned ! u32 (Is u32) (uint-makes 𝓤 H A W w32) a5 _ i5 $ fjoin ! $ owned ! u32 (Is u32) (uint-makes 𝓤 H A W w32) a4 _ i4 $ fjoin ! $ owned ! u32 (Is u32) (uint-makes 𝓤 H A W w32) a3 _ i3 $ fjoin ! $ move ! (4 ∷ 0 ∷ []) $ fjoin ! $ owned ! u32 (Is u32) (uint-makes 𝓤 H A W w32) a1 _ i1 $ fjoin ! $ move ! (3 ∷ 0 ∷ []) $ fjoin ! $ nothing ! $ move ! (3 ∷ 0 ∷ []) $ join ! $ move ! (2 ∷ 0 ∷ []) $ join ! $ join ! $ frame ! $ done !
 
-  said-11 : (a0 : RefT (List ℕ)) (a1 : ℕ) (a2 : RefT (List Range)) (a3 : ℕ) (a4 : ℕ) (a5 : ℕ) (r : Walked040) → ent 𝓤 (ensured 𝓤 H A c11.ended (c11.clauses 𝓤 H A mem run) (κ0, (κ1, tt)) (a0, (a1, (a2, (a3, (a4, (a5, tt)))))) tt r) (fact 𝓤 (r ≡ shown040 (walk040From (memory (now a0) a1 (now a2)) a3 a4 a5)))
-  said-11 a0 a1 a2 a3 a4 a5 r = exE 𝓤 _ (λ ws. snd∗ 𝓤 (sem 𝓤 H A (lasts c11.ended (κ0, (κ1, tt)) (a0, (a1, (a2, (a3, (a4, (a5, tt)))))) ws)) (fact 𝓤 (r ≡ shown040 (walk040From (memory (now a0) a1 (now a2)) a3 a4 a5))))
+  said-4 : (a0 : RefT (List ℕ)) (a1 : ℕ) (a2 : RefT (List Range)) (a3 : ℕ) (a4 : ℕ) (a5 : ℕ) (r : Walked040) → ent 𝓤 (ensured 𝓤 H A c4.ended (c4.clauses 𝓤 H A mem run) (κ0, (κ1, tt)) (a0, (a1, (a2, (a3, (a4, (a5, tt)))))) tt r) (fact 𝓤 (r ≡ shown040 (walk040From (memory (now a0) a1 (now a2)) a3 a4 a5)))
+  said-4 a0 a1 a2 a3 a4 a5 r = exE 𝓤 _ (λ ws. snd∗ 𝓤 (sem 𝓤 H A (lasts c4.ended (κ0, (κ1, tt)) (a0, (a1, (a2, (a3, (a4, (a5, tt)))))) ws)) (fact 𝓤 (r ≡ shown040 (walk040From (memory (now a0) a1 (now a2)) a3 a4 a5))))
 
   -- the call of `done_040`: what it is passed, what it asks, and what is known of its result
-  abbrev to-12 : (a0 : Walked040) (v0 : Val) → C12 𝓤 H A mem run .Ghost
-  to-12 a0 v0 = ((tt, tt, tt, (a0, tt), (v0 ∷ [], tt)), tt)
+  abbrev to-5 : (a0 : Walked040) (v0 : Val) → C5 𝓤 H A mem run .Ghost
+  to-5 a0 v0 = ((tt, tt, tt, (a0, tt), (v0 ∷ [], tt)), tt)
 
-  goes-12 : (a0 : Walked040) (v0 : Val) (i0 : Is row-Walked040.the-row a0 (v0 ∷ [])) → ent 𝓤 (emp 𝓤) (C12 𝓤 H A mem run .pre (to-12 a0 v0))
-  goes-12 a0 v0 i0 =
+  goes-5 : (a0 : Walked040) (v0 : Val) (i0 : Is row-Walked040.the-row a0 (v0 ∷ [])) → ent 𝓤 (emp 𝓤) (C5 𝓤 H A mem run .pre (to-5 a0 v0))
+  goes-5 a0 v0 i0 =
       qed W ([]) ∵ nothing ! $ owned ! row-Walked040.the-row (Is row-Walked040.the-row) (LL.makes row-Walked040.the-type law-Walked040.the-plain 𝓤 H A) a0 _ i0 $ fjoin ! $ nothing ! $ join ! $ frame ! $ done !
 
-  said-12 : (a0 : Walked040) (r : Walks) → ent 𝓤 (ensured 𝓤 H A c12.ended (c12.clauses 𝓤 H A mem run) tt (a0, tt) tt r) (fact 𝓤 (r ≡ Walks.By040 a0))
-  said-12 a0 r = exE 𝓤 _ (λ ws. snd∗ 𝓤 (sem 𝓤 H A (lasts c12.ended tt (a0, tt) ws)) (fact 𝓤 (r ≡ Walks.By040 a0)))
+  said-5 : (a0 : Walked040) (r : Walks) → ent 𝓤 (ensured 𝓤 H A c5.ended (c5.clauses 𝓤 H A mem run) tt (a0, tt) tt r) (fact 𝓤 (r ≡ Walks.By040 a0))
+  said-5 a0 r = exE 𝓤 _ (λ ws. snd∗ 𝓤 (sem 𝓤 H A (lasts c5.ended tt (a0, tt) ws)) (fact 𝓤 (r ≡ Walks.By040 a0)))
 
-  module _ (𝓣 : Tables 𝓤 H) (known-0 : Triple 𝓤 (𝓣 .C #tables·is-idle) (C0 𝓤 H A mem run)) (known-1 : Triple 𝓤 (𝓣 .C #tables·no-walk-done) (C1 𝓤 H A mem run)) (known-2 : Triple 𝓤 (𝓣 .C #tables·is-by-030) (C2 𝓤 H A mem run)) (known-3 : Triple 𝓤 (𝓣 .C #tables·code-of) (C3 𝓤 H A mem run)) (known-4 : Triple 𝓤 (𝓣 .C #tables·limit-of) (C4 𝓤 H A mem run)) (known-5 : Triple 𝓤 (𝓣 .C #tables·tc-of) (C5 𝓤 H A mem run)) (known-6 : Triple 𝓤 (𝓣 .C #tables·root-of) (C6 𝓤 H A mem run)) (known-7 : Triple 𝓤 (𝓣 .C #tables·walk-030) (C7 𝓤 H A mem run)) (known-8 : Triple 𝓤 (𝓣 .C #tables·done-030) (C8 𝓤 H A mem run)) (known-9 : Triple 𝓤 (𝓣 .C #tables·supervisor-of) (C9 𝓤 H A mem run)) (known-10 : Triple 𝓤 (𝓣 .C #tables·root-at) (C10 𝓤 H A mem run)) (known-11 : Triple 𝓤 (𝓣 .C #tables·walk-040) (C11 𝓤 H A mem run)) (known-12 : Triple 𝓤 (𝓣 .C #tables·done-040) (C12 𝓤 H A mem run)) where
+  -- the call of `root_for`: what it is passed, what it asks, and what is known of its result
+  abbrev to-6 : (a0 : Registers) (v0 : Val) (a1 : Way) (v1 : Val) → C6 𝓤 H A mem run .Ghost
+  to-6 a0 v0 a1 v1 = ((tt, tt, tt, (a0, (a1, tt)), (v0 ∷ [], (v1 ∷ [], tt))), tt)
+
+  goes-6 : (a0 : Registers) (v0 : Val) (a1 : Way) (v1 : Val) (i0 : Is row-Registers.the-row a0 (v0 ∷ [])) (i1 : Is row-Way.the-row a1 (v1 ∷ [])) → ent 𝓤 (emp 𝓤) (C6 𝓤 H A mem run .pre (to-6 a0 v0 a1 v1))
+  goes-6 a0 v0 a1 v1 i0 i1 =
+      qed W ([]) ∵ nothing ! $ owned ! row-Way.the-row (Is row-Way.the-row) (EL.makes row-Way.the-type law-Way.the-plain 𝓤 H A) a1 _ i1 $ fjoin ! $ owned ! row-Registers.the-row (Is row-Registers.the-row) (LL.makes row-Registers.the-type law-Registers.the-plain 𝓤 H A) a0 _ i0 $ fjoin ! $ nothing ! $ join ! $ frame ! $ done !
+
+  said-6 : (a0 : Registers) (a1 : Way) (r : Root) → ent 𝓤 (ensured 𝓤 H A c6.ended (c6.clauses 𝓤 H A mem run) tt (a0, (a1, tt)) tt r) (fact 𝓤 (r ≡ rootBy a0 a1))
+  said-6 a0 a1 r = exE 𝓤 _ (λ ws. snd∗ 𝓤 (sem 𝓤 H A (lasts c6.ended tt (a0, (a1, tt)) ws)) (fact 𝓤 (r ≡ rootBy a0 a1)))
+
+  -- the call of `walk_030_for`: what it is passed, what it asks, and what is known of its result
+  abbrev to-7 : (a0 : RefT (List ℕ)) (v0 : Val) (a1 : ℕ) (v1 : Val) (a2 : RefT (List Range)) (v2 : Val) (a3 : ℕ) (v3 : Val) (a4 : Root) (v4 : Val) (a5 : ℕ) (v5 : Val) (a6 : Way) (v6 : Val) → C7 𝓤 H A mem run .Ghost
+  to-7 a0 v0 a1 v1 a2 v2 a3 v3 a4 v4 a5 v5 a6 v6 = (((κ0, (κ1, tt)), (q0, (q1, tt)), tt, (a0, (a1, (a2, (a3, (a4, (a5, (a6, tt))))))), (v0 ∷ [], (v1 ∷ [], (v2 ∷ [], (v3 ∷ [], (v4 ∷ [], (v5 ∷ [], (v6 ∷ [], tt)))))))), tt)
+
+  goes-7 : (a0 : RefT (List ℕ)) (v0 : Val) (a1 : ℕ) (v1 : Val) (a2 : RefT (List Range)) (v2 : Val) (a3 : ℕ) (v3 : Val) (a4 : Root) (v4 : Val) (a5 : ℕ) (v5 : Val) (a6 : Way) (v6 : Val) (i1 : Is u32 a1 (v1 ∷ [])) (i3 : Is u32 a3 (v3 ∷ [])) (i4 : Is row-Root.the-row a4 (v4 ∷ [])) (i5 : Is u32 a5 (v5 ∷ [])) (i6 : Is row-Way.the-row a6 (v6 ∷ [])) → ent 𝓤 (⋆ 𝓤 H A (‵ (flft κ0 q0) ∷ ‵ (flft κ1 q1) ∷ ‵ ((ShrSlice (named 0) κ0 u32) .own a0 (v0 ∷ [])) ∷ ‵ ((ShrSlice (named 1) κ1 row-Range.the-row) .own a2 (v2 ∷ [])) ∷ [])) (C7 𝓤 H A mem run .pre (to-7 a0 v0 a1 v1 a2 v2 a3 v3 a4 v4 a5 v5 a6 v6))
+  goes-7 a0 v0 a1 v1 a2 v2 a3 v3 a4 v4 a5 v5 a6 v6 i1 i3 i4 i5 i6 =
+      qed W (‵ (flft κ0 q0) ∷ ‵ (flft κ1 q1) ∷ ‵ ((ShrSlice (named 0) κ0 u32) .own a0 (v0 ∷ [])) ∷ ‵ ((ShrSlice (named 1) κ1 row-Range.the-row) .own a2 (v2 ∷ [])) ∷ []) ∵ nothing ! $ owned ! row-Way.the-row (Is row-Way.the-row) (EL.makes row-Way.the-type law-Way.the-plain 𝓤 H A) a6 _ i6 $ fjoin ! $ owned ! u32 (Is u32) (uint-makes 𝓤 H A W w32) a5 _ i5 $ fjoin ! $ owned ! row-Root.the-row (Is row-Root.the-row) (LL.makes row-Root.the-type law-Root.the-plain 𝓤 H A) a4 _ i4 $ fjoin ! $ owned ! u32 (Is u32) (uint-makes 𝓤 H A W w32) a3 _ i3 $ fjoin ! $ move ! (4 ∷ 0 ∷ []) $ fjoin ! $ owned ! u32 (Is u32) (uint-makes 𝓤 H A W w32) a1 _ i1 $ fjoin ! $ move ! (3 ∷ 0 ∷ []) $ fjoin ! $ nothing ! $ move ! (3 ∷ 0 ∷ []) $ join ! $ move ! (2 ∷ 0 ∷ []) $ join ! $ join ! $ frame ! $ done !
+
+  said-7 : (a0 : RefT (List ℕ)) (a1 : ℕ) (a2 : RefT (List Range)) (a3 : ℕ) (a4 : Root) (a5 : ℕ) (a6 : Way) (r : Walks) → ent 𝓤 (ensured 𝓤 H A c7.ended (c7.clauses 𝓤 H A mem run) (κ0, (κ1, tt)) (a0, (a1, (a2, (a3, (a4, (a5, (a6, tt))))))) tt r) (fact 𝓤 (r ≡ walks030 (memory (now a0) a1 (now a2)) a3 a4 a5 a6))
+  said-7 a0 a1 a2 a3 a4 a5 a6 r = exE 𝓤 _ (λ ws. snd∗ 𝓤 (sem 𝓤 H A (lasts c7.ended (κ0, (κ1, tt)) (a0, (a1, (a2, (a3, (a4, (a5, (a6, tt))))))) ws)) (fact 𝓤 (r ≡ walks030 (memory (now a0) a1 (now a2)) a3 a4 a5 a6)))
+
+  module _ (𝓣 : Tables 𝓤 H) (known-0 : Triple 𝓤 (𝓣 .C #tables·tc-of) (C0 𝓤 H A mem run)) (known-1 : Triple 𝓤 (𝓣 .C #tables·is-by-040) (C1 𝓤 H A mem run)) (known-2 : Triple 𝓤 (𝓣 .C #tables·supervisor-of) (C2 𝓤 H A mem run)) (known-3 : Triple 𝓤 (𝓣 .C #tables·root-at) (C3 𝓤 H A mem run)) (known-4 : Triple 𝓤 (𝓣 .C #tables·walk-040) (C4 𝓤 H A mem run)) (known-5 : Triple 𝓤 (𝓣 .C #tables·done-040) (C5 𝓤 H A mem run)) (known-6 : Triple 𝓤 (𝓣 .C #tables·root-for) (C6 𝓤 H A mem run)) (known-7 : Triple 𝓤 (𝓣 .C #tables·walk-030-for) (C7 𝓤 H A mem run)) where
     abbrev C : Calls 𝓤 H
     C = 𝓣 .C
 
@@ -334,126 +239,83 @@ module _ {M : Type 1} (𝓤 : URA M) (H : Heap 𝓤) (A : Atoms 𝓤) (W : Given
     walk : ent 𝓤 (onEntry 𝓤 H A self.signature (κ0, (κ1, tt)) (q0, (q1, tt)) (x1, (x2, (x3, (x4, (x5, (x6, tt)))))) at-entry) (WpFn 𝓤 H (𝓣 .C) (𝓣 .Λ) code.function ((sliceVal (x1 .ptr) (length (x1 .now))) ∷ (vint w32 x2) ∷ (sliceVal (x3 .ptr) (length (x3 .now))) ∷ (LL.val row-Registers.the-type law-Registers.the-laws x4) ∷ (vint w32 x5) ∷ (EL.val row-Way.the-type law-Way.the-laws x6) ∷ []) Post)
     walk =
         qed W ((‵ (flft κ0 q0) ⊛ ‵ (flft κ1 q1) ⊛ ‵ ftrue) ∷ ‵ (owns ((ShrSlice (named 0) κ0 u32) ∷ u32 ∷ (ShrSlice (named 1) κ1 row-Range.the-row) ∷ row-Registers.the-row ∷ u32 ∷ row-Way.the-row ∷ []) (x1, (x2, (x3, (x4, (x5, (x6, tt)))))) at-entry) ∷ []) ∵ enter ! (𝓣 .C) (𝓣 .Λ) code.function ((sliceVal (x1 .ptr) (length (x1 .now))) ∷ (vint w32 x2) ∷ (sliceVal (x3 .ptr) (length (x3 .now))) ∷ (LL.val row-Registers.the-type law-Registers.the-laws x4) ∷ (vint w32 x5) ∷ (EL.val row-Way.the-type law-Way.the-laws x6) ∷ []) _ $
-        alloc1 ! (λ l0. alloc1 ! (λ l1. alloc1 ! (λ l2. alloc1 ! (λ l3. alloc1 ! (λ l4. alloc1 ! (λ l5. alloc1 ! (λ l6. alloc1 ! (λ l7. alloc1 ! (λ l8. alloc1 ! (λ l9. alloc1 ! (λ l10. alloc1 ! (λ l11. alloc1 ! (λ l12. alloc1 ! (λ l13. alloc1 ! (λ l14. alloc1 ! (λ l15. alloc1 ! (λ l16. alloc1 ! (λ l17. alloc0 ! $ params1 ! $
-        pass1 ! (init ! 32 refl (shr-slice-lawful 𝓤 H A W (named 0) κ0 u32 .typed x1 _ i1 .0)) $ pass1 ! (init ! 30 refl (uint-lawful 𝓤 H A W w32 .typed x2 _ i2 .0)) $ pass1 ! (init ! 28 refl (shr-slice-lawful 𝓤 H A W (named 1) κ1 row-Range.the-row .typed x3 _ i3 .0)) $ pass1 ! (init ! 26 refl (LL.lawful row-Registers.the-type law-Registers.the-laws 𝓤 H A W .typed x4 _ i4 .0)) $ pass1 ! (init ! 24 refl (uint-lawful 𝓤 H A W w32 .typed x5 _ i5 .0)) $ pass1 ! (init ! 22 refl (EL.lawful row-Way.the-type law-Way.the-laws 𝓤 H A W tt .typed x6 _ i6 .0)) $ pass0 ! $
-        move ! (37 ∷ []) $ fsplit ! $ move ! (1 ∷ []) $ fsplit ! $ drop ! $ fsplit ! $ move ! (1 ∷ []) $ fsplit ! $ drop ! $ fsplit ! $ drop ! $ fsplit ! $ drop ! $ drop ! $
-        move ! (38 ∷ []) $ split ! $ move ! (1 ∷ []) $ split ! $ move ! (1 ∷ []) $ drop ! $
-        use0 W (raw (C0 𝓤 H A mem run .pre (to-0 x6 (EL.val row-Way.the-type law-Way.the-laws x6)))) (goes-0 x6 (EL.val row-Way.the-type law-Way.the-laws x6) i6) $
-        calls-at ! fm (C0 𝓤 H A mem run) known-0 (to-0 x6 (EL.val row-Way.the-type law-Way.the-laws x6)) (and-then ! (load ! (from ! (stop !)) (look ! 27 refl)) (no-more !)) (λ u1.
-        use1 W (later (some (λ (r : Bool). (‵ ftrue ⊛ ‵ (Boolean .own r (u1 ∷ []))) ⊛ raw (ensured 𝓤 H A c0.ended (c0.clauses 𝓤 H A mem run) tt (x6, tt) tt r)))) (id⊢ 𝓤 _) $ await ! tt $ choose ! (λ r2. split ! $ move ! (1 ∷ []) $ use1 W (raw (fact 𝓤 (r2 ≡ idle x6))) (said-0 x6 r2) $ heard ! (r2 ≡ idle x6) (λ e3. split ! $
-        drop ! $ facts ! Boolean (Is Boolean) (shows 𝓤 H A Boolean) r2 (u1 ∷ []) (λ is4. land ! (from ! (stop !)) (init ! 6 refl (bool-lawful 𝓤 H A W .typed r2 _ is4 .0)) $
-        rewrite ! 6 (λ (u : Val). ‵ (fat fullShare tyBool l16 0 u)) (ap only (bool-tells r2 _ is4)) refl $
-        leaves-if ! (load ! (from ! (stop !)) (look ! 6 refl))
-        (λ h5. use0 W (raw (C1 𝓤 H A mem run .pre to-1)) goes-1 $
-        calls-at ! fm (C1 𝓤 H A mem run) known-1 to-1 (no-more !) (λ u6.
-        use1 W (later (some (λ (r : Walks). (‵ ftrue ⊛ ‵ (row-Walks.the-row .own r (u6 ∷ []))) ⊛ raw (ensured 𝓤 H A c1.ended (c1.clauses 𝓤 H A mem run) tt tt tt r)))) (id⊢ 𝓤 _) $ await ! tt $ choose ! (λ r7. split ! $ move ! (1 ∷ []) $ use1 W (raw (fact 𝓤 (r7 ≡ Walks.Idle))) (said-1 r7) $ heard ! (r7 ≡ Walks.Idle) (λ e8. split ! $
+        alloc1 ! (λ l0. alloc1 ! (λ l1. alloc1 ! (λ l2. alloc1 ! (λ l3. alloc1 ! (λ l4. alloc1 ! (λ l5. alloc1 ! (λ l6. alloc1 ! (λ l7. alloc1 ! (λ l8. alloc1 ! (λ l9. alloc1 ! (λ l10. alloc1 ! (λ l11. alloc1 ! (λ l12. alloc0 ! $ params1 ! $
+        pass1 ! (init ! 22 refl (shr-slice-lawful 𝓤 H A W (named 0) κ0 u32 .typed x1 _ i1 .0)) $ pass1 ! (init ! 20 refl (uint-lawful 𝓤 H A W w32 .typed x2 _ i2 .0)) $ pass1 ! (init ! 18 refl (shr-slice-lawful 𝓤 H A W (named 1) κ1 row-Range.the-row .typed x3 _ i3 .0)) $ pass1 ! (init ! 16 refl (LL.lawful row-Registers.the-type law-Registers.the-laws 𝓤 H A W .typed x4 _ i4 .0)) $ pass1 ! (init ! 14 refl (uint-lawful 𝓤 H A W w32 .typed x5 _ i5 .0)) $ pass1 ! (init ! 12 refl (EL.lawful row-Way.the-type law-Way.the-laws 𝓤 H A W tt .typed x6 _ i6 .0)) $ pass0 ! $
+        move ! (27 ∷ []) $ fsplit ! $ move ! (1 ∷ []) $ fsplit ! $ drop ! $ fsplit ! $ move ! (1 ∷ []) $ fsplit ! $ drop ! $ fsplit ! $ drop ! $ fsplit ! $ drop ! $ drop ! $
+        move ! (28 ∷ []) $ split ! $ move ! (1 ∷ []) $ split ! $ move ! (1 ∷ []) $ drop ! $
+        use0 W (raw (C0 𝓤 H A mem run .pre (to-0 x4 (LL.val row-Registers.the-type law-Registers.the-laws x4)))) (goes-0 x4 (LL.val row-Registers.the-type law-Registers.the-laws x4) i4) $
+        calls-at ! fm (C0 𝓤 H A mem run) known-0 (to-0 x4 (LL.val row-Registers.the-type law-Registers.the-laws x4)) (and-then ! (load ! (from ! (stop !)) (look ! 21 refl)) (no-more !)) (λ u1.
+        use1 W (later (some (λ (r : ℕ). (‵ ftrue ⊛ ‵ (u32 .own r (u1 ∷ []))) ⊛ raw (ensured 𝓤 H A c0.ended (c0.clauses 𝓤 H A mem run) tt (x4, tt) tt r)))) (id⊢ 𝓤 _) $ await ! tt $ choose ! (λ r2. split ! $ move ! (1 ∷ []) $ use1 W (raw (fact 𝓤 (r2 ≡ x4 .tc))) (said-0 x4 r2) $ heard ! (r2 ≡ x4 .tc) (λ e3. split ! $
+        drop ! $ facts ! u32 (Is u32) (shows 𝓤 H A u32) r2 (u1 ∷ []) (λ is4. land ! (from ! (stop !)) (init ! 14 refl (uint-lawful 𝓤 H A W w32 .typed r2 _ is4 .0)) $
+        rewrite ! 14 (λ (u : Val). ‵ (fat fullShare (tyInt w32) l7 0 u)) (ap only (uint-tells w32 r2 _ is4)) refl $
+        use0 W (raw (C1 𝓤 H A mem run .pre (to-1 x6 (EL.val row-Way.the-type law-Way.the-laws x6)))) (goes-1 x6 (EL.val row-Way.the-type law-Way.the-laws x6) i6) $
+        calls-at ! fm (C1 𝓤 H A mem run) known-1 (to-1 x6 (EL.val row-Way.the-type law-Way.the-laws x6)) (and-then ! (load ! (from ! (stop !)) (look ! 17 refl)) (no-more !)) (λ u5.
+        use1 W (later (some (λ (r : Bool). (‵ ftrue ⊛ ‵ (Boolean .own r (u5 ∷ []))) ⊛ raw (ensured 𝓤 H A c1.ended (c1.clauses 𝓤 H A mem run) tt (x6, tt) tt r)))) (id⊢ 𝓤 _) $ await ! tt $ choose ! (λ r6. split ! $ move ! (1 ∷ []) $ use1 W (raw (fact 𝓤 (r6 ≡ by040 x6))) (said-1 x6 r6) $ heard ! (r6 ≡ by040 x6) (λ e7. split ! $
+        drop ! $ facts ! Boolean (Is Boolean) (shows 𝓤 H A Boolean) r6 (u5 ∷ []) (λ is8. land ! (from ! (stop !)) (init ! 4 refl (bool-lawful 𝓤 H A W .typed r6 _ is8 .0)) $
+        rewrite ! 4 (λ (u : Val). ‵ (fat fullShare tyBool l12 0 u)) (ap only (bool-tells r6 _ is8)) refl $
+        leaves-if ! (load ! (from ! (stop !)) (look ! 4 refl))
+        (λ h9. use0 W (raw (C2 𝓤 H A mem run .pre (to-2 x6 (EL.val row-Way.the-type law-Way.the-laws x6)))) (goes-2 x6 (EL.val row-Way.the-type law-Way.the-laws x6) i6) $
+        calls-at ! fm (C2 𝓤 H A mem run) known-2 (to-2 x6 (EL.val row-Way.the-type law-Way.the-laws x6)) (and-then ! (load ! (from ! (stop !)) (look ! 17 refl)) (no-more !)) (λ u10.
+        use1 W (later (some (λ (r : Bool). (‵ ftrue ⊛ ‵ (Boolean .own r (u10 ∷ []))) ⊛ raw (ensured 𝓤 H A c2.ended (c2.clauses 𝓤 H A mem run) tt (x6, tt) tt r)))) (id⊢ 𝓤 _) $ await ! tt $ choose ! (λ r11. split ! $ move ! (1 ∷ []) $ use1 W (raw (fact 𝓤 (r11 ≡ supervisorBy x6))) (said-2 x6 r11) $ heard ! (r11 ≡ supervisorBy x6) (λ e12. split ! $
+        drop ! $ facts ! Boolean (Is Boolean) (shows 𝓤 H A Boolean) r11 (u10 ∷ []) (λ is13. land ! (from ! (stop !)) (init ! 12 refl (bool-lawful 𝓤 H A W .typed r11 _ is13 .0)) $
+        rewrite ! 12 (λ (u : Val). ‵ (fat fullShare tyBool l8 0 u)) (ap only (bool-tells r11 _ is13)) refl $
+        use0 W (raw (C3 𝓤 H A mem run .pre (to-3 x4 (LL.val row-Registers.the-type law-Registers.the-laws x4) r11 (vbool r11) x5 (vint w32 x5)))) (goes-3 x4 (LL.val row-Registers.the-type law-Registers.the-laws x4) r11 (vbool r11) x5 (vint w32 x5) i4 (subst (Is Boolean r11) (bool-tells r11 _ is13) is13) i5) $
+        calls-at ! fm (C3 𝓤 H A mem run) known-3 (to-3 x4 (LL.val row-Registers.the-type law-Registers.the-laws x4) r11 (vbool r11) x5 (vint w32 x5)) (and-then ! (load ! (from ! (stop !)) (look ! 21 refl)) (and-then ! (load ! (from ! (stop !)) (look ! 13 refl)) (and-then ! (load ! (from ! (stop !)) (look ! 19 refl)) (no-more !)))) (λ u14.
+        use1 W (later (some (λ (r : ℕ). (‵ ftrue ⊛ ‵ (u32 .own r (u14 ∷ []))) ⊛ raw (ensured 𝓤 H A c3.ended (c3.clauses 𝓤 H A mem run) tt (x4, (r11, (x5, tt))) tt r)))) (id⊢ 𝓤 _) $ await ! tt $ choose ! (λ r15. split ! $ move ! (1 ∷ []) $ use1 W (raw (fact 𝓤 (r15 ≡ rootAt x4 r11 x5))) (said-3 x4 r11 x5 r15) $ heard ! (r15 ≡ rootAt x4 r11 x5) (λ e16. split ! $
+        drop ! $ facts ! u32 (Is u32) (shows 𝓤 H A u32) r15 (u14 ∷ []) (λ is17. land ! (from ! (stop !)) (init ! 10 refl (uint-lawful 𝓤 H A W w32 .typed r15 _ is17 .0)) $
+        rewrite ! 10 (λ (u : Val). ‵ (fat fullShare (tyInt w32) l9 0 u)) (ap only (uint-tells w32 r15 _ is17)) refl $ move ! (3 ∷ []) $
+        use1 W (‵ ((ShrSlice (named 0) κ0 u32) .own x1 (sliceVal (x1 .ptr) (length (x1 .now)) ∷ [])) ⊛ ‵ ((ShrSlice (named 0) κ0 u32) .own x1 (sliceVal (x1 .ptr) (length (x1 .now)) ∷ []))) (shr-slice-copy 𝓤 H A W (named 0) κ0 u32 .twice x1 _) $
+        split ! $ move ! (4 ∷ []) $
+        use1 W (‵ ((ShrSlice (named 1) κ1 row-Range.the-row) .own x3 (sliceVal (x3 .ptr) (length (x3 .now)) ∷ [])) ⊛ ‵ ((ShrSlice (named 1) κ1 row-Range.the-row) .own x3 (sliceVal (x3 .ptr) (length (x3 .now)) ∷ []))) (shr-slice-copy 𝓤 H A W (named 1) κ1 row-Range.the-row .twice x3 _) $
+        split ! $ move ! (5 ∷ 4 ∷ 2 ∷ 0 ∷ []) $ group ! 4 $
+        use1 W (raw (C4 𝓤 H A mem run .pre (to-4 x1 (sliceVal (x1 .ptr) (length (x1 .now))) x2 (vint w32 x2) x3 (sliceVal (x3 .ptr) (length (x3 .now))) r2 (vint w32 r2) r15 (vint w32 r15) x5 (vint w32 x5)))) (goes-4 x1 (sliceVal (x1 .ptr) (length (x1 .now))) x2 (vint w32 x2) x3 (sliceVal (x3 .ptr) (length (x3 .now))) r2 (vint w32 r2) r15 (vint w32 r15) x5 (vint w32 x5) i2 (subst (Is u32 r2) (uint-tells w32 r2 _ is4) is4) (subst (Is u32 r15) (uint-tells w32 r15 _ is17) is17) i5) $
+        calls-at ! fm (C4 𝓤 H A mem run) known-4 (to-4 x1 (sliceVal (x1 .ptr) (length (x1 .now))) x2 (vint w32 x2) x3 (sliceVal (x3 .ptr) (length (x3 .now))) r2 (vint w32 r2) r15 (vint w32 r15) x5 (vint w32 x5)) (and-then ! (load ! (from ! (stop !)) (look ! 25 refl)) (and-then ! (load ! (from ! (stop !)) (look ! 23 refl)) (and-then ! (load ! (from ! (stop !)) (look ! 21 refl)) (and-then ! (load ! (from ! (stop !)) (look ! 13 refl)) (and-then ! (load ! (from ! (stop !)) (look ! 9 refl)) (and-then ! (load ! (from ! (stop !)) (look ! 17 refl)) (no-more !))))))) (λ u18.
+        use1 W (later (some (λ (r : Walked040). ((‵ (flft κ0 q0) ⊛ ‵ (flft κ1 q1) ⊛ ‵ ftrue) ⊛ ‵ (row-Walked040.the-row .own r (u18 ∷ []))) ⊛ raw (ensured 𝓤 H A c4.ended (c4.clauses 𝓤 H A mem run) (κ0, (κ1, tt)) (x1, (x2, (x3, (r2, (r15, (x5, tt)))))) tt r)))) (id⊢ 𝓤 _) $ await ! tt $ choose ! (λ r19. split ! $ move ! (1 ∷ []) $ use1 W (raw (fact 𝓤 (r19 ≡ shown040 (walk040From (memory (now x1) x2 (now x3)) r2 r15 x5)))) (said-4 x1 x2 x3 r2 r15 x5 r19) $ heard ! (r19 ≡ shown040 (walk040From (memory (now x1) x2 (now x3)) r2 r15 x5)) (λ e20. split ! $
+        split ! $ move ! (1 ∷ []) $ split ! $ move ! (1 ∷ []) $ drop ! $ move ! (2 ∷ []) $
+        facts ! row-Walked040.the-row (Is row-Walked040.the-row) (shows 𝓤 H A row-Walked040.the-row) r19 (u18 ∷ []) (λ is21. land ! (from ! (stop !)) (init ! 8 refl (LL.lawful row-Walked040.the-type law-Walked040.the-laws 𝓤 H A W .typed r19 _ is21 .0)) $
+        rewrite ! 8 (λ (u : Val). ‵ (fat fullShare law-Walked040.mir l10 0 u)) (ap only (LL.tells row-Walked040.the-type law-Walked040.the-laws r19 _ is21)) refl $
+        use0 W (raw (C5 𝓤 H A mem run .pre (to-5 r19 (LL.val row-Walked040.the-type law-Walked040.the-laws r19)))) (goes-5 r19 (LL.val row-Walked040.the-type law-Walked040.the-laws r19) (subst (Is row-Walked040.the-row r19) (LL.tells row-Walked040.the-type law-Walked040.the-laws r19 _ is21) is21)) $
+        calls-at ! fm (C5 𝓤 H A mem run) known-5 (to-5 r19 (LL.val row-Walked040.the-type law-Walked040.the-laws r19)) (and-then ! (load ! (from ! (stop !)) (look ! 9 refl)) (no-more !)) (λ u22.
+        use1 W (later (some (λ (r : Walks). (‵ ftrue ⊛ ‵ (row-Walks.the-row .own r (u22 ∷ []))) ⊛ raw (ensured 𝓤 H A c5.ended (c5.clauses 𝓤 H A mem run) tt (r19, tt) tt r)))) (id⊢ 𝓤 _) $ await ! tt $ choose ! (λ r23. split ! $ move ! (1 ∷ []) $ use1 W (raw (fact 𝓤 (r23 ≡ Walks.By040 r19))) (said-5 r19 r23) $ heard ! (r23 ≡ Walks.By040 r19) (λ e24. split ! $
         drop ! $
-        facts ! row-Walks.the-row (Is row-Walks.the-row) (shows 𝓤 H A row-Walks.the-row) r7 (u6 ∷ []) (λ is9. land ! (from ! (stop !)) (init ! 38 refl (EL.lawful row-Walks.the-type law-Walks.the-laws 𝓤 H A W tt .typed r7 _ is9 .0)) $
-        rewrite ! 38 (λ (u : Val). ‵ (fat fullShare law-Walks.mir l0 0 u)) (ap only (EL.tells row-Walks.the-type law-Walks.the-laws r7 _ is9)) refl $
-        returns-within ! Post refl (look ! 38 refl) $ forget ! 38 refl $ forget ! 36 refl $ forget ! 34 refl $ forget ! 32 refl $ forget ! 30 refl $ forget ! 28 refl $
-        forget ! 26 refl $ forget ! 6 refl $ move ! (38 ∷ 39 ∷ []) $ free1 ! $ move ! (36 ∷ 37 ∷ []) $ free1 ! $ move ! (34 ∷ 35 ∷ []) $ free1 ! $ move ! (32 ∷ 33 ∷ []) $ free1 ! $
-        move ! (30 ∷ 31 ∷ []) $ free1 ! $ move ! (28 ∷ 29 ∷ []) $ free1 ! $ move ! (26 ∷ 27 ∷ []) $ free1 ! $ move ! (24 ∷ 25 ∷ []) $ free1 ! $ move ! (22 ∷ 23 ∷ []) $ free1 ! $
+        facts ! row-Walks.the-row (Is row-Walks.the-row) (shows 𝓤 H A row-Walks.the-row) r23 (u22 ∷ []) (λ is25. land ! (from ! (stop !)) (init ! 28 refl (EL.lawful row-Walks.the-type law-Walks.the-laws 𝓤 H A W tt .typed r23 _ is25 .0)) $
+        rewrite ! 28 (λ (u : Val). ‵ (fat fullShare law-Walks.mir l0 0 u)) (ap only (EL.tells row-Walks.the-type law-Walks.the-laws r23 _ is25)) refl $
+        returns-within ! Post refl (look ! 28 refl) $ forget ! 28 refl $ forget ! 26 refl $ forget ! 24 refl $ forget ! 22 refl $ forget ! 20 refl $ forget ! 18 refl $
+        forget ! 16 refl $ forget ! 14 refl $ forget ! 12 refl $ forget ! 10 refl $ forget ! 8 refl $ forget ! 4 refl $ move ! (28 ∷ 29 ∷ []) $ free1 ! $ move ! (26 ∷ 27 ∷ []) $
+        free1 ! $ move ! (24 ∷ 25 ∷ []) $ free1 ! $ move ! (22 ∷ 23 ∷ []) $ free1 ! $ move ! (20 ∷ 21 ∷ []) $ free1 ! $ move ! (18 ∷ 19 ∷ []) $ free1 ! $ move ! (16 ∷ 17 ∷ []) $
+        free1 ! $ move ! (14 ∷ 15 ∷ []) $ free1 ! $ move ! (12 ∷ 13 ∷ []) $ free1 ! $ move ! (10 ∷ 11 ∷ []) $ free1 ! $ move ! (8 ∷ 9 ∷ []) $ free1 ! $ move ! (6 ∷ 7 ∷ []) $
+        free1 ! $ move ! (4 ∷ 5 ∷ []) $ free1 ! $ free0 ! $ keep ! (1 ∷ 0 ∷ 3 ∷ 2 ∷ []) $
+        by ! (exits r23 (EL.val row-Walks.the-type law-Walks.the-laws r23) (subst (Is row-Walks.the-row r23) (EL.tells row-Walks.the-type law-Walks.the-laws r23 _ is25) is25) (law.done-040 (memory (now x1) x2 (now x3)) x4 x5 x6 e3 e7 h9 e12 e16 e20 e24)))))))))))))))))))
+        (λ h9.
+        use0 W (raw (C6 𝓤 H A mem run .pre (to-6 x4 (LL.val row-Registers.the-type law-Registers.the-laws x4) x6 (EL.val row-Way.the-type law-Way.the-laws x6)))) (goes-6 x4 (LL.val row-Registers.the-type law-Registers.the-laws x4) x6 (EL.val row-Way.the-type law-Way.the-laws x6) i4 i6) $
+        calls-at ! fm (C6 𝓤 H A mem run) known-6 (to-6 x4 (LL.val row-Registers.the-type law-Registers.the-laws x4) x6 (EL.val row-Way.the-type law-Way.the-laws x6)) (and-then ! (load ! (from ! (stop !)) (look ! 21 refl)) (and-then ! (load ! (from ! (stop !)) (look ! 17 refl)) (no-more !))) (λ u26.
+        use1 W (later (some (λ (r : Root). (‵ ftrue ⊛ ‵ (row-Root.the-row .own r (u26 ∷ []))) ⊛ raw (ensured 𝓤 H A c6.ended (c6.clauses 𝓤 H A mem run) tt (x4, (x6, tt)) tt r)))) (id⊢ 𝓤 _) $ await ! tt $ choose ! (λ r27. split ! $ move ! (1 ∷ []) $ use1 W (raw (fact 𝓤 (r27 ≡ rootBy x4 x6))) (said-6 x4 x6 r27) $ heard ! (r27 ≡ rootBy x4 x6) (λ e28. split ! $
+        drop ! $
+        facts ! row-Root.the-row (Is row-Root.the-row) (shows 𝓤 H A row-Root.the-row) r27 (u26 ∷ []) (λ is29. land ! (from ! (stop !)) (init ! 6 refl (LL.lawful row-Root.the-type law-Root.the-laws 𝓤 H A W .typed r27 _ is29 .0)) $
+        rewrite ! 6 (λ (u : Val). ‵ (fat fullShare law-Root.mir l11 0 u)) (ap only (LL.tells row-Root.the-type law-Root.the-laws r27 _ is29)) refl $ move ! (3 ∷ []) $
+        use1 W (‵ ((ShrSlice (named 0) κ0 u32) .own x1 (sliceVal (x1 .ptr) (length (x1 .now)) ∷ [])) ⊛ ‵ ((ShrSlice (named 0) κ0 u32) .own x1 (sliceVal (x1 .ptr) (length (x1 .now)) ∷ []))) (shr-slice-copy 𝓤 H A W (named 0) κ0 u32 .twice x1 _) $
+        split ! $ move ! (4 ∷ []) $
+        use1 W (‵ ((ShrSlice (named 1) κ1 row-Range.the-row) .own x3 (sliceVal (x3 .ptr) (length (x3 .now)) ∷ [])) ⊛ ‵ ((ShrSlice (named 1) κ1 row-Range.the-row) .own x3 (sliceVal (x3 .ptr) (length (x3 .now)) ∷ []))) (shr-slice-copy 𝓤 H A W (named 1) κ1 row-Range.the-row .twice x3 _) $
+        split ! $ move ! (5 ∷ 4 ∷ 2 ∷ 0 ∷ []) $ group ! 4 $
+        use1 W (raw (C7 𝓤 H A mem run .pre (to-7 x1 (sliceVal (x1 .ptr) (length (x1 .now))) x2 (vint w32 x2) x3 (sliceVal (x3 .ptr) (length (x3 .now))) r2 (vint w32 r2) r27 (LL.val row-Root.the-type law-Root.the-laws r27) x5 (vint w32 x5) x6 (EL.val row-Way.the-type law-Way.the-laws x6)))) (goes-7 x1 (sliceVal (x1 .ptr) (length (x1 .now))) x2 (vint w32 x2) x3 (sliceVal (x3 .ptr) (length (x3 .now))) r2 (vint w32 r2) r27 (LL.val row-Root.the-type law-Root.the-laws r27) x5 (vint w32 x5) x6 (EL.val row-Way.the-type law-Way.the-laws x6) i2 (subst (Is u32 r2) (uint-tells w32 r2 _ is4) is4) (subst (Is row-Root.the-row r27) (LL.tells row-Root.the-type law-Root.the-laws r27 _ is29) is29) i5 i6) $
+        calls-at ! fm (C7 𝓤 H A mem run) known-7 (to-7 x1 (sliceVal (x1 .ptr) (length (x1 .now))) x2 (vint w32 x2) x3 (sliceVal (x3 .ptr) (length (x3 .now))) r2 (vint w32 r2) r27 (LL.val row-Root.the-type law-Root.the-laws r27) x5 (vint w32 x5) x6 (EL.val row-Way.the-type law-Way.the-laws x6)) (and-then ! (load ! (from ! (stop !)) (look ! 25 refl)) (and-then ! (load ! (from ! (stop !)) (look ! 23 refl)) (and-then ! (load ! (from ! (stop !)) (look ! 21 refl)) (and-then ! (load ! (from ! (stop !)) (look ! 13 refl)) (and-then ! (load ! (from ! (stop !)) (look ! 5 refl)) (and-then ! (load ! (from ! (stop !)) (look ! 17 refl)) (and-then ! (load ! (from ! (stop !)) (look ! 15 refl)) (no-more !)))))))) (λ u30.
+        use1 W (later (some (λ (r : Walks). ((‵ (flft κ0 q0) ⊛ ‵ (flft κ1 q1) ⊛ ‵ ftrue) ⊛ ‵ (row-Walks.the-row .own r (u30 ∷ []))) ⊛ raw (ensured 𝓤 H A c7.ended (c7.clauses 𝓤 H A mem run) (κ0, (κ1, tt)) (x1, (x2, (x3, (r2, (r27, (x5, (x6, tt))))))) tt r)))) (id⊢ 𝓤 _) $ await ! tt $ choose ! (λ r31. split ! $ move ! (1 ∷ []) $ use1 W (raw (fact 𝓤 (r31 ≡ walks030 (memory (now x1) x2 (now x3)) r2 r27 x5 x6))) (said-7 x1 x2 x3 r2 r27 x5 x6 r31) $ heard ! (r31 ≡ walks030 (memory (now x1) x2 (now x3)) r2 r27 x5 x6) (λ e32. split ! $
+        split ! $ move ! (1 ∷ []) $ split ! $ move ! (1 ∷ []) $ drop ! $ move ! (2 ∷ []) $
+        facts ! row-Walks.the-row (Is row-Walks.the-row) (shows 𝓤 H A row-Walks.the-row) r31 (u30 ∷ []) (λ is33. land ! (from ! (stop !)) (init ! 28 refl (EL.lawful row-Walks.the-type law-Walks.the-laws 𝓤 H A W tt .typed r31 _ is33 .0)) $
+        rewrite ! 28 (λ (u : Val). ‵ (fat fullShare law-Walks.mir l0 0 u)) (ap only (EL.tells row-Walks.the-type law-Walks.the-laws r31 _ is33)) refl $ returns ! (look ! 28 refl) $
+        forget ! 28 refl $ forget ! 26 refl $ forget ! 24 refl $ forget ! 22 refl $ forget ! 20 refl $ forget ! 18 refl $ forget ! 16 refl $ forget ! 14 refl $ forget ! 6 refl $
+        forget ! 4 refl $ move ! (28 ∷ 29 ∷ []) $ free1 ! $ move ! (26 ∷ 27 ∷ []) $ free1 ! $ move ! (24 ∷ 25 ∷ []) $ free1 ! $ move ! (22 ∷ 23 ∷ []) $ free1 ! $
         move ! (20 ∷ 21 ∷ []) $ free1 ! $ move ! (18 ∷ 19 ∷ []) $ free1 ! $ move ! (16 ∷ 17 ∷ []) $ free1 ! $ move ! (14 ∷ 15 ∷ []) $ free1 ! $ move ! (12 ∷ 13 ∷ []) $ free1 ! $
         move ! (10 ∷ 11 ∷ []) $ free1 ! $ move ! (8 ∷ 9 ∷ []) $ free1 ! $ move ! (6 ∷ 7 ∷ []) $ free1 ! $ move ! (4 ∷ 5 ∷ []) $ free1 ! $ free0 ! $ keep ! (1 ∷ 0 ∷ 3 ∷ 2 ∷ []) $
-        by ! (exits r7 (EL.val row-Walks.the-type law-Walks.the-laws r7) (subst (Is row-Walks.the-row r7) (EL.tells row-Walks.the-type law-Walks.the-laws r7 _ is9) is9) (law.none (memory (now x1) x2 (now x3)) x4 x5 x6 e3 h5 e8)))))))
-        (λ h5.
-        use0 W (raw (C2 𝓤 H A mem run .pre (to-2 x6 (EL.val row-Way.the-type law-Way.the-laws x6)))) (goes-2 x6 (EL.val row-Way.the-type law-Way.the-laws x6) i6) $
-        calls-at ! fm (C2 𝓤 H A mem run) known-2 (to-2 x6 (EL.val row-Way.the-type law-Way.the-laws x6)) (and-then ! (load ! (from ! (stop !)) (look ! 27 refl)) (no-more !)) (λ u10.
-        use1 W (later (some (λ (r : Bool). (‵ ftrue ⊛ ‵ (Boolean .own r (u10 ∷ []))) ⊛ raw (ensured 𝓤 H A c2.ended (c2.clauses 𝓤 H A mem run) tt (x6, tt) tt r)))) (id⊢ 𝓤 _) $ await ! tt $ choose ! (λ r11. split ! $ move ! (1 ∷ []) $ use1 W (raw (fact 𝓤 (r11 ≡ by030 x6))) (said-2 x6 r11) $ heard ! (r11 ≡ by030 x6) (λ e12. split ! $
-        drop ! $ facts ! Boolean (Is Boolean) (shows 𝓤 H A Boolean) r11 (u10 ∷ []) (λ is13. land ! (from ! (stop !)) (init ! 4 refl (bool-lawful 𝓤 H A W .typed r11 _ is13 .0)) $
-        rewrite ! 4 (λ (u : Val). ‵ (fat fullShare tyBool l17 0 u)) (ap only (bool-tells r11 _ is13)) refl $
-        leaves-if ! (load ! (from ! (stop !)) (look ! 4 refl))
-        (λ h14. use0 W (raw (C3 𝓤 H A mem run .pre (to-3 x6 (EL.val row-Way.the-type law-Way.the-laws x6)))) (goes-3 x6 (EL.val row-Way.the-type law-Way.the-laws x6) i6) $
-        calls-at ! fm (C3 𝓤 H A mem run) known-3 (to-3 x6 (EL.val row-Way.the-type law-Way.the-laws x6)) (and-then ! (load ! (from ! (stop !)) (look ! 27 refl)) (no-more !)) (λ u15.
-        use1 W (later (some (λ (r : ℕ). (‵ ftrue ⊛ ‵ (u32 .own r (u15 ∷ []))) ⊛ raw (ensured 𝓤 H A c3.ended (c3.clauses 𝓤 H A mem run) tt (x6, tt) tt r)))) (id⊢ 𝓤 _) $ await ! tt $ choose ! (λ r16. split ! $ move ! (1 ∷ []) $ use1 W (raw (fact 𝓤 (r16 ≡ codeBy x6))) (said-3 x6 r16) $ heard ! (r16 ≡ codeBy x6) (λ e17. split ! $
-        drop ! $ facts ! u32 (Is u32) (shows 𝓤 H A u32) r16 (u15 ∷ []) (λ is18. land ! (from ! (stop !)) (init ! 24 refl (uint-lawful 𝓤 H A W w32 .typed r16 _ is18 .0)) $
-        rewrite ! 24 (λ (u : Val). ‵ (fat fullShare (tyInt w32) l7 0 u)) (ap only (uint-tells w32 r16 _ is18)) refl $
-        use0 W (raw (C4 𝓤 H A mem run .pre (to-4 x6 (EL.val row-Way.the-type law-Way.the-laws x6)))) (goes-4 x6 (EL.val row-Way.the-type law-Way.the-laws x6) i6) $
-        calls-at ! fm (C4 𝓤 H A mem run) known-4 (to-4 x6 (EL.val row-Way.the-type law-Way.the-laws x6)) (and-then ! (load ! (from ! (stop !)) (look ! 27 refl)) (no-more !)) (λ u19.
-        use1 W (later (some (λ (r : ℕ). (‵ ftrue ⊛ ‵ (u32 .own r (u19 ∷ []))) ⊛ raw (ensured 𝓤 H A c4.ended (c4.clauses 𝓤 H A mem run) tt (x6, tt) tt r)))) (id⊢ 𝓤 _) $ await ! tt $ choose ! (λ r20. split ! $ move ! (1 ∷ []) $ use1 W (raw (fact 𝓤 (r20 ≡ limitBy x6))) (said-4 x6 r20) $ heard ! (r20 ≡ limitBy x6) (λ e21. split ! $
-        drop ! $ facts ! u32 (Is u32) (shows 𝓤 H A u32) r20 (u19 ∷ []) (λ is22. land ! (from ! (stop !)) (init ! 22 refl (uint-lawful 𝓤 H A W w32 .typed r20 _ is22 .0)) $
-        rewrite ! 22 (λ (u : Val). ‵ (fat fullShare (tyInt w32) l8 0 u)) (ap only (uint-tells w32 r20 _ is22)) refl $
-        use0 W (raw (C5 𝓤 H A mem run .pre (to-5 x4 (LL.val row-Registers.the-type law-Registers.the-laws x4)))) (goes-5 x4 (LL.val row-Registers.the-type law-Registers.the-laws x4) i4) $
-        calls-at ! fm (C5 𝓤 H A mem run) known-5 (to-5 x4 (LL.val row-Registers.the-type law-Registers.the-laws x4)) (and-then ! (load ! (from ! (stop !)) (look ! 31 refl)) (no-more !)) (λ u23.
-        use1 W (later (some (λ (r : ℕ). (‵ ftrue ⊛ ‵ (u32 .own r (u23 ∷ []))) ⊛ raw (ensured 𝓤 H A c5.ended (c5.clauses 𝓤 H A mem run) tt (x4, tt) tt r)))) (id⊢ 𝓤 _) $ await ! tt $ choose ! (λ r24. split ! $ move ! (1 ∷ []) $ use1 W (raw (fact 𝓤 (r24 ≡ x4 .tc))) (said-5 x4 r24) $ heard ! (r24 ≡ x4 .tc) (λ e25. split ! $
-        drop ! $ facts ! u32 (Is u32) (shows 𝓤 H A u32) r24 (u23 ∷ []) (λ is26. land ! (from ! (stop !)) (init ! 20 refl (uint-lawful 𝓤 H A W w32 .typed r24 _ is26 .0)) $
-        rewrite ! 20 (λ (u : Val). ‵ (fat fullShare (tyInt w32) l9 0 u)) (ap only (uint-tells w32 r24 _ is26)) refl $
-        use0 W (raw (C6 𝓤 H A mem run .pre (to-6 x4 (LL.val row-Registers.the-type law-Registers.the-laws x4) r16 (vint w32 r16)))) (goes-6 x4 (LL.val row-Registers.the-type law-Registers.the-laws x4) r16 (vint w32 r16) i4 (subst (Is u32 r16) (uint-tells w32 r16 _ is18) is18)) $
-        calls-at ! fm (C6 𝓤 H A mem run) known-6 (to-6 x4 (LL.val row-Registers.the-type law-Registers.the-laws x4) r16 (vint w32 r16)) (and-then ! (load ! (from ! (stop !)) (look ! 31 refl)) (and-then ! (load ! (from ! (stop !)) (look ! 25 refl)) (no-more !))) (λ u27.
-        use1 W (later (some (λ (r : Root). (‵ ftrue ⊛ ‵ (row-Root.the-row .own r (u27 ∷ []))) ⊛ raw (ensured 𝓤 H A c6.ended (c6.clauses 𝓤 H A mem run) tt (x4, (r16, tt)) tt r)))) (id⊢ 𝓤 _) $ await ! tt $ choose ! (λ r28. split ! $ move ! (1 ∷ []) $ use1 W (raw (fact 𝓤 (r28 ≡ rootOf x4 r16))) (said-6 x4 r16 r28) $ heard ! (r28 ≡ rootOf x4 r16) (λ e29. split ! $
-        drop ! $
-        facts ! row-Root.the-row (Is row-Root.the-row) (shows 𝓤 H A row-Root.the-row) r28 (u27 ∷ []) (λ is30. land ! (from ! (stop !)) (init ! 18 refl (LL.lawful row-Root.the-type law-Root.the-laws 𝓤 H A W .typed r28 _ is30 .0)) $
-        rewrite ! 18 (λ (u : Val). ‵ (fat fullShare law-Root.mir l10 0 u)) (ap only (LL.tells row-Root.the-type law-Root.the-laws r28 _ is30)) refl $ move ! (3 ∷ []) $
-        use1 W (‵ ((ShrSlice (named 0) κ0 u32) .own x1 (sliceVal (x1 .ptr) (length (x1 .now)) ∷ [])) ⊛ ‵ ((ShrSlice (named 0) κ0 u32) .own x1 (sliceVal (x1 .ptr) (length (x1 .now)) ∷ []))) (shr-slice-copy 𝓤 H A W (named 0) κ0 u32 .twice x1 _) $
-        split ! $ move ! (4 ∷ []) $
-        use1 W (‵ ((ShrSlice (named 1) κ1 row-Range.the-row) .own x3 (sliceVal (x3 .ptr) (length (x3 .now)) ∷ [])) ⊛ ‵ ((ShrSlice (named 1) κ1 row-Range.the-row) .own x3 (sliceVal (x3 .ptr) (length (x3 .now)) ∷ []))) (shr-slice-copy 𝓤 H A W (named 1) κ1 row-Range.the-row .twice x3 _) $
-        split ! $ move ! (5 ∷ 4 ∷ 2 ∷ 0 ∷ []) $ group ! 4 $
-        use1 W (raw (C7 𝓤 H A mem run .pre (to-7 x1 (sliceVal (x1 .ptr) (length (x1 .now))) x2 (vint w32 x2) x3 (sliceVal (x3 .ptr) (length (x3 .now))) r24 (vint w32 r24) r28 (LL.val row-Root.the-type law-Root.the-laws r28) x5 (vint w32 x5) r16 (vint w32 r16) r20 (vint w32 r20)))) (goes-7 x1 (sliceVal (x1 .ptr) (length (x1 .now))) x2 (vint w32 x2) x3 (sliceVal (x3 .ptr) (length (x3 .now))) r24 (vint w32 r24) r28 (LL.val row-Root.the-type law-Root.the-laws r28) x5 (vint w32 x5) r16 (vint w32 r16) r20 (vint w32 r20) i2 (subst (Is u32 r24) (uint-tells w32 r24 _ is26) is26) (subst (Is row-Root.the-row r28) (LL.tells row-Root.the-type law-Root.the-laws r28 _ is30) is30) i5 (subst (Is u32 r16) (uint-tells w32 r16 _ is18) is18) (subst (Is u32 r20) (uint-tells w32 r20 _ is22) is22)) $
-        calls-at ! fm (C7 𝓤 H A mem run) known-7 (to-7 x1 (sliceVal (x1 .ptr) (length (x1 .now))) x2 (vint w32 x2) x3 (sliceVal (x3 .ptr) (length (x3 .now))) r24 (vint w32 r24) r28 (LL.val row-Root.the-type law-Root.the-laws r28) x5 (vint w32 x5) r16 (vint w32 r16) r20 (vint w32 r20)) (and-then ! (load ! (from ! (stop !)) (look ! 35 refl)) (and-then ! (load ! (from ! (stop !)) (look ! 33 refl)) (and-then ! (load ! (from ! (stop !)) (look ! 31 refl)) (and-then ! (load ! (from ! (stop !)) (look ! 19 refl)) (and-then ! (load ! (from ! (stop !)) (look ! 17 refl)) (and-then ! (load ! (from ! (stop !)) (look ! 27 refl)) (and-then ! (load ! (from ! (stop !)) (look ! 23 refl)) (and-then ! (load ! (from ! (stop !)) (look ! 21 refl)) (no-more !))))))))) (λ u31.
-        use1 W (later (some (λ (r : Walked). ((‵ (flft κ0 q0) ⊛ ‵ (flft κ1 q1) ⊛ ‵ ftrue) ⊛ ‵ (row-Walked.the-row .own r (u31 ∷ []))) ⊛ raw (ensured 𝓤 H A c7.ended (c7.clauses 𝓤 H A mem run) (κ0, (κ1, tt)) (x1, (x2, (x3, (r24, (r28, (x5, (r16, (r20, tt)))))))) tt r)))) (id⊢ 𝓤 _) $ await ! tt $ choose ! (λ r32. split ! $ move ! (1 ∷ []) $ use1 W (raw (fact 𝓤 (r32 ≡ shown (outcomeOf (memory (now x1) x2 (now x3)) r24 r28 x5 r16 r20)))) (said-7 x1 x2 x3 r24 r28 x5 r16 r20 r32) $ heard ! (r32 ≡ shown (outcomeOf (memory (now x1) x2 (now x3)) r24 r28 x5 r16 r20)) (λ e33. split ! $
-        split ! $ move ! (1 ∷ []) $ split ! $ move ! (1 ∷ []) $ drop ! $ move ! (2 ∷ []) $
-        facts ! row-Walked.the-row (Is row-Walked.the-row) (shows 𝓤 H A row-Walked.the-row) r32 (u31 ∷ []) (λ is34. land ! (from ! (stop !)) (init ! 16 refl (LL.lawful row-Walked.the-type law-Walked.the-laws 𝓤 H A W .typed r32 _ is34 .0)) $
-        rewrite ! 16 (λ (u : Val). ‵ (fat fullShare law-Walked.mir l11 0 u)) (ap only (LL.tells row-Walked.the-type law-Walked.the-laws r32 _ is34)) refl $
-        use0 W (raw (C8 𝓤 H A mem run .pre (to-8 r32 (LL.val row-Walked.the-type law-Walked.the-laws r32)))) (goes-8 r32 (LL.val row-Walked.the-type law-Walked.the-laws r32) (subst (Is row-Walked.the-row r32) (LL.tells row-Walked.the-type law-Walked.the-laws r32 _ is34) is34)) $
-        calls-at ! fm (C8 𝓤 H A mem run) known-8 (to-8 r32 (LL.val row-Walked.the-type law-Walked.the-laws r32)) (and-then ! (load ! (from ! (stop !)) (look ! 17 refl)) (no-more !)) (λ u35.
-        use1 W (later (some (λ (r : Walks). (‵ ftrue ⊛ ‵ (row-Walks.the-row .own r (u35 ∷ []))) ⊛ raw (ensured 𝓤 H A c8.ended (c8.clauses 𝓤 H A mem run) tt (r32, tt) tt r)))) (id⊢ 𝓤 _) $ await ! tt $ choose ! (λ r36. split ! $ move ! (1 ∷ []) $ use1 W (raw (fact 𝓤 (r36 ≡ Walks.By030 r32))) (said-8 r32 r36) $ heard ! (r36 ≡ Walks.By030 r32) (λ e37. split ! $
-        drop ! $
-        facts ! row-Walks.the-row (Is row-Walks.the-row) (shows 𝓤 H A row-Walks.the-row) r36 (u35 ∷ []) (λ is38. land ! (from ! (stop !)) (init ! 38 refl (EL.lawful row-Walks.the-type law-Walks.the-laws 𝓤 H A W tt .typed r36 _ is38 .0)) $
-        rewrite ! 38 (λ (u : Val). ‵ (fat fullShare law-Walks.mir l0 0 u)) (ap only (EL.tells row-Walks.the-type law-Walks.the-laws r36 _ is38)) refl $
-        returns-within ! Post refl (look ! 38 refl) $ forget ! 38 refl $ forget ! 36 refl $ forget ! 34 refl $ forget ! 32 refl $ forget ! 30 refl $ forget ! 28 refl $
-        forget ! 26 refl $ forget ! 24 refl $ forget ! 22 refl $ forget ! 20 refl $ forget ! 18 refl $ forget ! 16 refl $ forget ! 6 refl $ forget ! 4 refl $ move ! (38 ∷ 39 ∷ []) $
-        free1 ! $ move ! (36 ∷ 37 ∷ []) $ free1 ! $ move ! (34 ∷ 35 ∷ []) $ free1 ! $ move ! (32 ∷ 33 ∷ []) $ free1 ! $ move ! (30 ∷ 31 ∷ []) $ free1 ! $ move ! (28 ∷ 29 ∷ []) $
-        free1 ! $ move ! (26 ∷ 27 ∷ []) $ free1 ! $ move ! (24 ∷ 25 ∷ []) $ free1 ! $ move ! (22 ∷ 23 ∷ []) $ free1 ! $ move ! (20 ∷ 21 ∷ []) $ free1 ! $ move ! (18 ∷ 19 ∷ []) $
-        free1 ! $ move ! (16 ∷ 17 ∷ []) $ free1 ! $ move ! (14 ∷ 15 ∷ []) $ free1 ! $ move ! (12 ∷ 13 ∷ []) $ free1 ! $ move ! (10 ∷ 11 ∷ []) $ free1 ! $ move ! (8 ∷ 9 ∷ []) $
-        free1 ! $ move ! (6 ∷ 7 ∷ []) $ free1 ! $ move ! (4 ∷ 5 ∷ []) $ free1 ! $ free0 ! $ keep ! (1 ∷ 0 ∷ 3 ∷ 2 ∷ []) $
-        by ! (exits r36 (EL.val row-Walks.the-type law-Walks.the-laws r36) (subst (Is row-Walks.the-row r36) (EL.tells row-Walks.the-type law-Walks.the-laws r36 _ is38) is38) (law.done-030 (memory (now x1) x2 (now x3)) x4 x5 x6 e3 h5 e12 h14 e17 e21 e25 e29 e33 e37)))))))))))))))))))))))))))
-        (λ h14.
-        use0 W (raw (C9 𝓤 H A mem run .pre (to-9 x6 (EL.val row-Way.the-type law-Way.the-laws x6)))) (goes-9 x6 (EL.val row-Way.the-type law-Way.the-laws x6) i6) $
-        calls-at ! fm (C9 𝓤 H A mem run) known-9 (to-9 x6 (EL.val row-Way.the-type law-Way.the-laws x6)) (and-then ! (load ! (from ! (stop !)) (look ! 27 refl)) (no-more !)) (λ u39.
-        use1 W (later (some (λ (r : Bool). (‵ ftrue ⊛ ‵ (Boolean .own r (u39 ∷ []))) ⊛ raw (ensured 𝓤 H A c9.ended (c9.clauses 𝓤 H A mem run) tt (x6, tt) tt r)))) (id⊢ 𝓤 _) $ await ! tt $ choose ! (λ r40. split ! $ move ! (1 ∷ []) $ use1 W (raw (fact 𝓤 (r40 ≡ supervisorBy x6))) (said-9 x6 r40) $ heard ! (r40 ≡ supervisorBy x6) (λ e41. split ! $
-        drop ! $ facts ! Boolean (Is Boolean) (shows 𝓤 H A Boolean) r40 (u39 ∷ []) (λ is42. land ! (from ! (stop !)) (init ! 14 refl (bool-lawful 𝓤 H A W .typed r40 _ is42 .0)) $
-        rewrite ! 14 (λ (u : Val). ‵ (fat fullShare tyBool l12 0 u)) (ap only (bool-tells r40 _ is42)) refl $
-        use0 W (raw (C5 𝓤 H A mem run .pre (to-5 x4 (LL.val row-Registers.the-type law-Registers.the-laws x4)))) (goes-5 x4 (LL.val row-Registers.the-type law-Registers.the-laws x4) i4) $
-        calls-at ! fm (C5 𝓤 H A mem run) known-5 (to-5 x4 (LL.val row-Registers.the-type law-Registers.the-laws x4)) (and-then ! (load ! (from ! (stop !)) (look ! 31 refl)) (no-more !)) (λ u43.
-        use1 W (later (some (λ (r : ℕ). (‵ ftrue ⊛ ‵ (u32 .own r (u43 ∷ []))) ⊛ raw (ensured 𝓤 H A c5.ended (c5.clauses 𝓤 H A mem run) tt (x4, tt) tt r)))) (id⊢ 𝓤 _) $ await ! tt $ choose ! (λ r44. split ! $ move ! (1 ∷ []) $ use1 W (raw (fact 𝓤 (r44 ≡ x4 .tc))) (said-5 x4 r44) $ heard ! (r44 ≡ x4 .tc) (λ e45. split ! $
-        drop ! $ facts ! u32 (Is u32) (shows 𝓤 H A u32) r44 (u43 ∷ []) (λ is46. land ! (from ! (stop !)) (init ! 12 refl (uint-lawful 𝓤 H A W w32 .typed r44 _ is46 .0)) $
-        rewrite ! 12 (λ (u : Val). ‵ (fat fullShare (tyInt w32) l13 0 u)) (ap only (uint-tells w32 r44 _ is46)) refl $
-        use0 W (raw (C10 𝓤 H A mem run .pre (to-10 x4 (LL.val row-Registers.the-type law-Registers.the-laws x4) r40 (vbool r40) x5 (vint w32 x5)))) (goes-10 x4 (LL.val row-Registers.the-type law-Registers.the-laws x4) r40 (vbool r40) x5 (vint w32 x5) i4 (subst (Is Boolean r40) (bool-tells r40 _ is42) is42) i5) $
-        calls-at ! fm (C10 𝓤 H A mem run) known-10 (to-10 x4 (LL.val row-Registers.the-type law-Registers.the-laws x4) r40 (vbool r40) x5 (vint w32 x5)) (and-then ! (load ! (from ! (stop !)) (look ! 31 refl)) (and-then ! (load ! (from ! (stop !)) (look ! 15 refl)) (and-then ! (load ! (from ! (stop !)) (look ! 29 refl)) (no-more !)))) (λ u47.
-        use1 W (later (some (λ (r : ℕ). (‵ ftrue ⊛ ‵ (u32 .own r (u47 ∷ []))) ⊛ raw (ensured 𝓤 H A c10.ended (c10.clauses 𝓤 H A mem run) tt (x4, (r40, (x5, tt))) tt r)))) (id⊢ 𝓤 _) $ await ! tt $ choose ! (λ r48. split ! $ move ! (1 ∷ []) $ use1 W (raw (fact 𝓤 (r48 ≡ rootAt x4 r40 x5))) (said-10 x4 r40 x5 r48) $ heard ! (r48 ≡ rootAt x4 r40 x5) (λ e49. split ! $
-        drop ! $ facts ! u32 (Is u32) (shows 𝓤 H A u32) r48 (u47 ∷ []) (λ is50. land ! (from ! (stop !)) (init ! 10 refl (uint-lawful 𝓤 H A W w32 .typed r48 _ is50 .0)) $
-        rewrite ! 10 (λ (u : Val). ‵ (fat fullShare (tyInt w32) l14 0 u)) (ap only (uint-tells w32 r48 _ is50)) refl $ move ! (3 ∷ []) $
-        use1 W (‵ ((ShrSlice (named 0) κ0 u32) .own x1 (sliceVal (x1 .ptr) (length (x1 .now)) ∷ [])) ⊛ ‵ ((ShrSlice (named 0) κ0 u32) .own x1 (sliceVal (x1 .ptr) (length (x1 .now)) ∷ []))) (shr-slice-copy 𝓤 H A W (named 0) κ0 u32 .twice x1 _) $
-        split ! $ move ! (4 ∷ []) $
-        use1 W (‵ ((ShrSlice (named 1) κ1 row-Range.the-row) .own x3 (sliceVal (x3 .ptr) (length (x3 .now)) ∷ [])) ⊛ ‵ ((ShrSlice (named 1) κ1 row-Range.the-row) .own x3 (sliceVal (x3 .ptr) (length (x3 .now)) ∷ []))) (shr-slice-copy 𝓤 H A W (named 1) κ1 row-Range.the-row .twice x3 _) $
-        split ! $ move ! (5 ∷ 4 ∷ 2 ∷ 0 ∷ []) $ group ! 4 $
-        use1 W (raw (C11 𝓤 H A mem run .pre (to-11 x1 (sliceVal (x1 .ptr) (length (x1 .now))) x2 (vint w32 x2) x3 (sliceVal (x3 .ptr) (length (x3 .now))) r44 (vint w32 r44) r48 (vint w32 r48) x5 (vint w32 x5)))) (goes-11 x1 (sliceVal (x1 .ptr) (length (x1 .now))) x2 (vint w32 x2) x3 (sliceVal (x3 .ptr) (length (x3 .now))) r44 (vint w32 r44) r48 (vint w32 r48) x5 (vint w32 x5) i2 (subst (Is u32 r44) (uint-tells w32 r44 _ is46) is46) (subst (Is u32 r48) (uint-tells w32 r48 _ is50) is50) i5) $
-        calls-at ! fm (C11 𝓤 H A mem run) known-11 (to-11 x1 (sliceVal (x1 .ptr) (length (x1 .now))) x2 (vint w32 x2) x3 (sliceVal (x3 .ptr) (length (x3 .now))) r44 (vint w32 r44) r48 (vint w32 r48) x5 (vint w32 x5)) (and-then ! (load ! (from ! (stop !)) (look ! 35 refl)) (and-then ! (load ! (from ! (stop !)) (look ! 33 refl)) (and-then ! (load ! (from ! (stop !)) (look ! 31 refl)) (and-then ! (load ! (from ! (stop !)) (look ! 11 refl)) (and-then ! (load ! (from ! (stop !)) (look ! 9 refl)) (and-then ! (load ! (from ! (stop !)) (look ! 27 refl)) (no-more !))))))) (λ u51.
-        use1 W (later (some (λ (r : Walked040). ((‵ (flft κ0 q0) ⊛ ‵ (flft κ1 q1) ⊛ ‵ ftrue) ⊛ ‵ (row-Walked040.the-row .own r (u51 ∷ []))) ⊛ raw (ensured 𝓤 H A c11.ended (c11.clauses 𝓤 H A mem run) (κ0, (κ1, tt)) (x1, (x2, (x3, (r44, (r48, (x5, tt)))))) tt r)))) (id⊢ 𝓤 _) $ await ! tt $ choose ! (λ r52. split ! $ move ! (1 ∷ []) $ use1 W (raw (fact 𝓤 (r52 ≡ shown040 (walk040From (memory (now x1) x2 (now x3)) r44 r48 x5)))) (said-11 x1 x2 x3 r44 r48 x5 r52) $ heard ! (r52 ≡ shown040 (walk040From (memory (now x1) x2 (now x3)) r44 r48 x5)) (λ e53. split ! $
-        split ! $ move ! (1 ∷ []) $ split ! $ move ! (1 ∷ []) $ drop ! $ move ! (2 ∷ []) $
-        facts ! row-Walked040.the-row (Is row-Walked040.the-row) (shows 𝓤 H A row-Walked040.the-row) r52 (u51 ∷ []) (λ is54. land ! (from ! (stop !)) (init ! 8 refl (LL.lawful row-Walked040.the-type law-Walked040.the-laws 𝓤 H A W .typed r52 _ is54 .0)) $
-        rewrite ! 8 (λ (u : Val). ‵ (fat fullShare law-Walked040.mir l15 0 u)) (ap only (LL.tells row-Walked040.the-type law-Walked040.the-laws r52 _ is54)) refl $
-        use0 W (raw (C12 𝓤 H A mem run .pre (to-12 r52 (LL.val row-Walked040.the-type law-Walked040.the-laws r52)))) (goes-12 r52 (LL.val row-Walked040.the-type law-Walked040.the-laws r52) (subst (Is row-Walked040.the-row r52) (LL.tells row-Walked040.the-type law-Walked040.the-laws r52 _ is54) is54)) $
-        calls-at ! fm (C12 𝓤 H A mem run) known-12 (to-12 r52 (LL.val row-Walked040.the-type law-Walked040.the-laws r52)) (and-then ! (load ! (from ! (stop !)) (look ! 9 refl)) (no-more !)) (λ u55.
-        use1 W (later (some (λ (r : Walks). (‵ ftrue ⊛ ‵ (row-Walks.the-row .own r (u55 ∷ []))) ⊛ raw (ensured 𝓤 H A c12.ended (c12.clauses 𝓤 H A mem run) tt (r52, tt) tt r)))) (id⊢ 𝓤 _) $ await ! tt $ choose ! (λ r56. split ! $ move ! (1 ∷ []) $ use1 W (raw (fact 𝓤 (r56 ≡ Walks.By040 r52))) (said-12 r52 r56) $ heard ! (r56 ≡ Walks.By040 r52) (λ e57. split ! $
-        drop ! $
-        facts ! row-Walks.the-row (Is row-Walks.the-row) (shows 𝓤 H A row-Walks.the-row) r56 (u55 ∷ []) (λ is58. land ! (from ! (stop !)) (init ! 38 refl (EL.lawful row-Walks.the-type law-Walks.the-laws 𝓤 H A W tt .typed r56 _ is58 .0)) $
-        rewrite ! 38 (λ (u : Val). ‵ (fat fullShare law-Walks.mir l0 0 u)) (ap only (EL.tells row-Walks.the-type law-Walks.the-laws r56 _ is58)) refl $ returns ! (look ! 38 refl) $
-        forget ! 38 refl $ forget ! 36 refl $ forget ! 34 refl $ forget ! 32 refl $ forget ! 30 refl $ forget ! 28 refl $ forget ! 26 refl $ forget ! 14 refl $ forget ! 12 refl $
-        forget ! 10 refl $ forget ! 8 refl $ forget ! 6 refl $ forget ! 4 refl $ move ! (38 ∷ 39 ∷ []) $ free1 ! $ move ! (36 ∷ 37 ∷ []) $ free1 ! $ move ! (34 ∷ 35 ∷ []) $ free1 ! $
-        move ! (32 ∷ 33 ∷ []) $ free1 ! $ move ! (30 ∷ 31 ∷ []) $ free1 ! $ move ! (28 ∷ 29 ∷ []) $ free1 ! $ move ! (26 ∷ 27 ∷ []) $ free1 ! $ move ! (24 ∷ 25 ∷ []) $ free1 ! $
-        move ! (22 ∷ 23 ∷ []) $ free1 ! $ move ! (20 ∷ 21 ∷ []) $ free1 ! $ move ! (18 ∷ 19 ∷ []) $ free1 ! $ move ! (16 ∷ 17 ∷ []) $ free1 ! $ move ! (14 ∷ 15 ∷ []) $ free1 ! $
-        move ! (12 ∷ 13 ∷ []) $ free1 ! $ move ! (10 ∷ 11 ∷ []) $ free1 ! $ move ! (8 ∷ 9 ∷ []) $ free1 ! $ move ! (6 ∷ 7 ∷ []) $ free1 ! $ move ! (4 ∷ 5 ∷ []) $ free1 ! $ free0 ! $
-        keep ! (1 ∷ 0 ∷ 3 ∷ 2 ∷ []) $
-        by ! (exits r56 (EL.val row-Walks.the-type law-Walks.the-laws r56) (subst (Is row-Walks.the-row r56) (EL.tells row-Walks.the-type law-Walks.the-laws r56 _ is58) is58) (law.done-040 (memory (now x1) x2 (now x3)) x4 x5 x6 e3 h5 e12 h14 e41 e45 e49 e53 e57))))))))))))))))))))))))))))))))))))))))))))))))))
+        by ! (exits r31 (EL.val row-Walks.the-type law-Walks.the-laws r31) (subst (Is row-Walks.the-row r31) (EL.tells row-Walks.the-type law-Walks.the-laws r31 _ is33) is33) (law.done-030 (memory (now x1) x2 (now x3)) x4 x5 x6 e3 e7 h9 e28 e32))))))))))))))))))))))))))))))))
 
 module _ {M : Type 1} (𝓤 : URA M) (H : Heap 𝓤) (A : Atoms 𝓤) (W : Given 𝓤 H A) (mem : Memory → SProp 𝓤) (run : Routine → Fun 𝓤) (𝓣 : Tables 𝓤 H) where
-  self-walks : Triple 𝓤 (𝓣 .C #tables·is-idle) (C0 𝓤 H A mem run) → Triple 𝓤 (𝓣 .C #tables·no-walk-done) (C1 𝓤 H A mem run) → Triple 𝓤 (𝓣 .C #tables·is-by-030) (C2 𝓤 H A mem run) → Triple 𝓤 (𝓣 .C #tables·code-of) (C3 𝓤 H A mem run) → Triple 𝓤 (𝓣 .C #tables·limit-of) (C4 𝓤 H A mem run) → Triple 𝓤 (𝓣 .C #tables·tc-of) (C5 𝓤 H A mem run) → Triple 𝓤 (𝓣 .C #tables·root-of) (C6 𝓤 H A mem run) → Triple 𝓤 (𝓣 .C #tables·walk-030) (C7 𝓤 H A mem run) → Triple 𝓤 (𝓣 .C #tables·done-030) (C8 𝓤 H A mem run) → Triple 𝓤 (𝓣 .C #tables·supervisor-of) (C9 𝓤 H A mem run) → Triple 𝓤 (𝓣 .C #tables·root-at) (C10 𝓤 H A mem run) → Triple 𝓤 (𝓣 .C #tables·walk-040) (C11 𝓤 H A mem run) → Triple 𝓤 (𝓣 .C #tables·done-040) (C12 𝓤 H A mem run) → AllWalks 𝓤 H A self.ended stayed (WpFn 𝓤 H (𝓣 .C) (𝓣 .Λ) code.function) (self.clauses 𝓤 H A mem run)
-  self-walks known-0 known-1 known-2 known-3 known-4 known-5 known-6 known-7 known-8 known-9 known-10 known-11 known-12 = walked 𝓤 H A self.ended stayed (self.clauses 𝓤 H A mem run) (WpFn 𝓤 H (𝓣 .C) (𝓣 .Λ) code.function) (λ κs. (slice-vals, (uint-vals w32, (slice-vals, (LL.vals row-Registers.the-type law-Registers.the-laws, (uint-vals w32, (EL.vals row-Way.the-type law-Way.the-laws, tt))))))) (λ κs. (shr-slice-tells (named 0) (κs .0) u32, (uint-tells w32, (shr-slice-tells (named 1) (κs .1 .0) row-Range.the-row, (LL.tells row-Registers.the-type law-Registers.the-laws, (uint-tells w32, (EL.tells row-Way.the-type law-Way.the-laws, tt)))))))
-      (λ κs qs bounds a g are. via 𝓤 _ (fst∗ 𝓤 _ (emp 𝓤)) (walk 𝓤 H A W mem run (κs .0) (κs .1 .0) (qs .0) (qs .1 .0) (a .0) (a .1 .0) (a .1 .1 .0) (a .1 .1 .1 .0) (a .1 .1 .1 .1 .0) (a .1 .1 .1 .1 .1 .0) (are .0) (are .1 .0) (are .1 .1 .0) (are .1 .1 .1 .0) (are .1 .1 .1 .1 .0) (are .1 .1 .1 .1 .1 .0) 𝓣 known-0 known-1 known-2 known-3 known-4 known-5 known-6 known-7 known-8 known-9 known-10 known-11 known-12))
+  self-walks : Triple 𝓤 (𝓣 .C #tables·tc-of) (C0 𝓤 H A mem run) → Triple 𝓤 (𝓣 .C #tables·is-by-040) (C1 𝓤 H A mem run) → Triple 𝓤 (𝓣 .C #tables·supervisor-of) (C2 𝓤 H A mem run) → Triple 𝓤 (𝓣 .C #tables·root-at) (C3 𝓤 H A mem run) → Triple 𝓤 (𝓣 .C #tables·walk-040) (C4 𝓤 H A mem run) → Triple 𝓤 (𝓣 .C #tables·done-040) (C5 𝓤 H A mem run) → Triple 𝓤 (𝓣 .C #tables·root-for) (C6 𝓤 H A mem run) → Triple 𝓤 (𝓣 .C #tables·walk-030-for) (C7 𝓤 H A mem run) → AllWalks 𝓤 H A self.ended stayed (WpFn 𝓤 H (𝓣 .C) (𝓣 .Λ) code.function) (self.clauses 𝓤 H A mem run)
+  self-walks known-0 known-1 known-2 known-3 known-4 known-5 known-6 known-7 = walked 𝓤 H A self.ended stayed (self.clauses 𝓤 H A mem run) (WpFn 𝓤 H (𝓣 .C) (𝓣 .Λ) code.function) (λ κs. (slice-vals, (uint-vals w32, (slice-vals, (LL.vals row-Registers.the-type law-Registers.the-laws, (uint-vals w32, (EL.vals row-Way.the-type law-Way.the-laws, tt))))))) (λ κs. (shr-slice-tells (named 0) (κs .0) u32, (uint-tells w32, (shr-slice-tells (named 1) (κs .1 .0) row-Range.the-row, (LL.tells row-Registers.the-type law-Registers.the-laws, (uint-tells w32, (EL.tells row-Way.the-type law-Way.the-laws, tt)))))))
+      (λ κs qs bounds a g are. via 𝓤 _ (fst∗ 𝓤 _ (emp 𝓤)) (walk 𝓤 H A W mem run (κs .0) (κs .1 .0) (qs .0) (qs .1 .0) (a .0) (a .1 .0) (a .1 .1 .0) (a .1 .1 .1 .0) (a .1 .1 .1 .1 .0) (a .1 .1 .1 .1 .1 .0) (are .0) (are .1 .0) (are .1 .1 .0) (are .1 .1 .1 .0) (are .1 .1 .1 .1 .0) (are .1 .1 .1 .1 .1 .0) 𝓣 known-0 known-1 known-2 known-3 known-4 known-5 known-6 known-7))
 
-  self-meets : Triple 𝓤 (𝓣 .C #tables·is-idle) (C0 𝓤 H A mem run) → Triple 𝓤 (𝓣 .C #tables·no-walk-done) (C1 𝓤 H A mem run) → Triple 𝓤 (𝓣 .C #tables·is-by-030) (C2 𝓤 H A mem run) → Triple 𝓤 (𝓣 .C #tables·code-of) (C3 𝓤 H A mem run) → Triple 𝓤 (𝓣 .C #tables·limit-of) (C4 𝓤 H A mem run) → Triple 𝓤 (𝓣 .C #tables·tc-of) (C5 𝓤 H A mem run) → Triple 𝓤 (𝓣 .C #tables·root-of) (C6 𝓤 H A mem run) → Triple 𝓤 (𝓣 .C #tables·walk-030) (C7 𝓤 H A mem run) → Triple 𝓤 (𝓣 .C #tables·done-030) (C8 𝓤 H A mem run) → Triple 𝓤 (𝓣 .C #tables·supervisor-of) (C9 𝓤 H A mem run) → Triple 𝓤 (𝓣 .C #tables·root-at) (C10 𝓤 H A mem run) → Triple 𝓤 (𝓣 .C #tables·walk-040) (C11 𝓤 H A mem run) → Triple 𝓤 (𝓣 .C #tables·done-040) (C12 𝓤 H A mem run) → Meets 𝓤 H A self.signature (WpFn 𝓤 H (𝓣 .C) (𝓣 .Λ) code.function) (self.spec 𝓤 H A mem run)
-  self-meets known-0 known-1 known-2 known-3 known-4 known-5 known-6 known-7 known-8 known-9 known-10 known-11 known-12 = walk-meets 𝓤 H A self.ended stayed W (goes-none-slice 𝓤 H A W 2 (0 ∷ []) tt (plain (λ _. u32)) yes, (goes-none 𝓤 H A W 2 (λ _. u32) yes (λ κs x f. refl), (goes-none-slice 𝓤 H A W 2 (1 ∷ []) tt (plain (λ _. row-Range.the-row)) yes, (goes-none 𝓤 H A W 2 (λ _. row-Registers.the-row) yes (λ κs x f. refl), (goes-none 𝓤 H A W 2 (λ _. u32) yes (λ κs x f. refl), (goes-none 𝓤 H A W 2 (λ _. row-Way.the-row) yes (λ κs x f. refl), tt)))))) (self.clauses 𝓤 H A mem run) (WpFn 𝓤 H (𝓣 .C) (𝓣 .Λ) code.function) (WpFn-mono 𝓤 H (W .laws) 𝓣 code.function) (self-walks known-0 known-1 known-2 known-3 known-4 known-5 known-6 known-7 known-8 known-9 known-10 known-11 known-12)
+  self-meets : Triple 𝓤 (𝓣 .C #tables·tc-of) (C0 𝓤 H A mem run) → Triple 𝓤 (𝓣 .C #tables·is-by-040) (C1 𝓤 H A mem run) → Triple 𝓤 (𝓣 .C #tables·supervisor-of) (C2 𝓤 H A mem run) → Triple 𝓤 (𝓣 .C #tables·root-at) (C3 𝓤 H A mem run) → Triple 𝓤 (𝓣 .C #tables·walk-040) (C4 𝓤 H A mem run) → Triple 𝓤 (𝓣 .C #tables·done-040) (C5 𝓤 H A mem run) → Triple 𝓤 (𝓣 .C #tables·root-for) (C6 𝓤 H A mem run) → Triple 𝓤 (𝓣 .C #tables·walk-030-for) (C7 𝓤 H A mem run) → Meets 𝓤 H A self.signature (WpFn 𝓤 H (𝓣 .C) (𝓣 .Λ) code.function) (self.spec 𝓤 H A mem run)
+  self-meets known-0 known-1 known-2 known-3 known-4 known-5 known-6 known-7 = walk-meets 𝓤 H A self.ended stayed W (goes-none-slice 𝓤 H A W 2 (0 ∷ []) tt (plain (λ _. u32)) yes, (goes-none 𝓤 H A W 2 (λ _. u32) yes (λ κs x f. refl), (goes-none-slice 𝓤 H A W 2 (1 ∷ []) tt (plain (λ _. row-Range.the-row)) yes, (goes-none 𝓤 H A W 2 (λ _. row-Registers.the-row) yes (λ κs x f. refl), (goes-none 𝓤 H A W 2 (λ _. u32) yes (λ κs x f. refl), (goes-none 𝓤 H A W 2 (λ _. row-Way.the-row) yes (λ κs x f. refl), tt)))))) (self.clauses 𝓤 H A mem run) (WpFn 𝓤 H (𝓣 .C) (𝓣 .Λ) code.function) (WpFn-mono 𝓤 H (W .laws) 𝓣 code.function) (self-walks known-0 known-1 known-2 known-3 known-4 known-5 known-6 known-7)
 
 pub walk-for-spec : {M : Type 1} → stated.statement M
 unfolding code.routine tablesOf
@@ -461,16 +323,11 @@ walk-for-spec 𝓤 H 𝓜 𝓖 𝓡 =
     entered 𝓤 H (tripleOf 𝓤 H (𝓖 .A) self.signature (self.spec 𝓤 H (𝓖 .A) (𝓜 .mem) (𝓡 .run)))
     (tables 𝓤 H 𝓜 𝓡 code.env .C) (tables 𝓤 H 𝓜 𝓡 code.env .Λ) #tables·walk-for code.function (code.unfolded 𝓤 H 𝓜 𝓡)
     (self-meets 𝓤 H (𝓖 .A) (givenOf 𝓤 H 𝓜 𝓖) (𝓜 .mem) (𝓡 .run) (tablesOf 𝓤 H 𝓜 (tables 𝓤 H 𝓜 𝓡 code.env))
-    (cited 𝓤 H (C0 𝓤 H (𝓖 .A) (𝓜 .mem) (𝓡 .run)) 𝓜 𝓡 code.env #tables·is-idle c0-def.routine code.calls-tables·is-idle (c0-thm.met 𝓤 H 𝓜 𝓖 𝓡))
-    (cited 𝓤 H (C1 𝓤 H (𝓖 .A) (𝓜 .mem) (𝓡 .run)) 𝓜 𝓡 code.env #tables·no-walk-done c1-def.routine code.calls-tables·no-walk-done (c1-thm.met 𝓤 H 𝓜 𝓖 𝓡))
-    (cited 𝓤 H (C2 𝓤 H (𝓖 .A) (𝓜 .mem) (𝓡 .run)) 𝓜 𝓡 code.env #tables·is-by-030 c2-def.routine code.calls-tables·is-by-030 (c2-thm.met 𝓤 H 𝓜 𝓖 𝓡))
-    (cited 𝓤 H (C3 𝓤 H (𝓖 .A) (𝓜 .mem) (𝓡 .run)) 𝓜 𝓡 code.env #tables·code-of c3-def.routine code.calls-tables·code-of (c3-thm.met 𝓤 H 𝓜 𝓖 𝓡))
-    (cited 𝓤 H (C4 𝓤 H (𝓖 .A) (𝓜 .mem) (𝓡 .run)) 𝓜 𝓡 code.env #tables·limit-of c4-def.routine code.calls-tables·limit-of (c4-thm.met 𝓤 H 𝓜 𝓖 𝓡))
-    (cited 𝓤 H (C5 𝓤 H (𝓖 .A) (𝓜 .mem) (𝓡 .run)) 𝓜 𝓡 code.env #tables·tc-of c5-def.routine code.calls-tables·tc-of (c5-thm.met 𝓤 H 𝓜 𝓖 𝓡))
-    (cited 𝓤 H (C6 𝓤 H (𝓖 .A) (𝓜 .mem) (𝓡 .run)) 𝓜 𝓡 code.env #tables·root-of c6-def.routine code.calls-tables·root-of (c6-thm.met 𝓤 H 𝓜 𝓖 𝓡))
-    (cited 𝓤 H (C7 𝓤 H (𝓖 .A) (𝓜 .mem) (𝓡 .run)) 𝓜 𝓡 code.env #tables·walk-030 c7-def.routine code.calls-tables·walk-030 (c7-thm.met 𝓤 H 𝓜 𝓖 𝓡))
-    (cited 𝓤 H (C8 𝓤 H (𝓖 .A) (𝓜 .mem) (𝓡 .run)) 𝓜 𝓡 code.env #tables·done-030 c8-def.routine code.calls-tables·done-030 (c8-thm.met 𝓤 H 𝓜 𝓖 𝓡))
-    (cited 𝓤 H (C9 𝓤 H (𝓖 .A) (𝓜 .mem) (𝓡 .run)) 𝓜 𝓡 code.env #tables·supervisor-of c9-def.routine code.calls-tables·supervisor-of (c9-thm.met 𝓤 H 𝓜 𝓖 𝓡))
-    (cited 𝓤 H (C10 𝓤 H (𝓖 .A) (𝓜 .mem) (𝓡 .run)) 𝓜 𝓡 code.env #tables·root-at c10-def.routine code.calls-tables·root-at (c10-thm.met 𝓤 H 𝓜 𝓖 𝓡))
-    (cited 𝓤 H (C11 𝓤 H (𝓖 .A) (𝓜 .mem) (𝓡 .run)) 𝓜 𝓡 code.env #tables·walk-040 c11-def.routine code.calls-tables·walk-040 (c11-thm.met 𝓤 H 𝓜 𝓖 𝓡))
-    (cited 𝓤 H (C12 𝓤 H (𝓖 .A) (𝓜 .mem) (𝓡 .run)) 𝓜 𝓡 code.env #tables·done-040 c12-def.routine code.calls-tables·done-040 (c12-thm.met 𝓤 H 𝓜 𝓖 𝓡)))
+    (cited 𝓤 H (C0 𝓤 H (𝓖 .A) (𝓜 .mem) (𝓡 .run)) 𝓜 𝓡 code.env #tables·tc-of c0-def.routine code.calls-tables·tc-of (c0-thm.met 𝓤 H 𝓜 𝓖 𝓡))
+    (cited 𝓤 H (C1 𝓤 H (𝓖 .A) (𝓜 .mem) (𝓡 .run)) 𝓜 𝓡 code.env #tables·is-by-040 c1-def.routine code.calls-tables·is-by-040 (c1-thm.met 𝓤 H 𝓜 𝓖 𝓡))
+    (cited 𝓤 H (C2 𝓤 H (𝓖 .A) (𝓜 .mem) (𝓡 .run)) 𝓜 𝓡 code.env #tables·supervisor-of c2-def.routine code.calls-tables·supervisor-of (c2-thm.met 𝓤 H 𝓜 𝓖 𝓡))
+    (cited 𝓤 H (C3 𝓤 H (𝓖 .A) (𝓜 .mem) (𝓡 .run)) 𝓜 𝓡 code.env #tables·root-at c3-def.routine code.calls-tables·root-at (c3-thm.met 𝓤 H 𝓜 𝓖 𝓡))
+    (cited 𝓤 H (C4 𝓤 H (𝓖 .A) (𝓜 .mem) (𝓡 .run)) 𝓜 𝓡 code.env #tables·walk-040 c4-def.routine code.calls-tables·walk-040 (c4-thm.met 𝓤 H 𝓜 𝓖 𝓡))
+    (cited 𝓤 H (C5 𝓤 H (𝓖 .A) (𝓜 .mem) (𝓡 .run)) 𝓜 𝓡 code.env #tables·done-040 c5-def.routine code.calls-tables·done-040 (c5-thm.met 𝓤 H 𝓜 𝓖 𝓡))
+    (cited 𝓤 H (C6 𝓤 H (𝓖 .A) (𝓜 .mem) (𝓡 .run)) 𝓜 𝓡 code.env #tables·root-for c6-def.routine code.calls-tables·root-for (c6-thm.met 𝓤 H 𝓜 𝓖 𝓡))
+    (cited 𝓤 H (C7 𝓤 H (𝓖 .A) (𝓜 .mem) (𝓡 .run)) 𝓜 𝓡 code.env #tables·walk-030-for c7-def.routine code.calls-tables·walk-030-for (c7-thm.met 𝓤 H 𝓜 𝓖 𝓡)))

@@ -1,3 +1,4 @@
+-- `tables::widths_sum` meets its contract. Assumes nothing.
 use native.Mathlib.Omega.{arith}
 use Rattle.tables.proofs.Lemmas as law
 use borrow.Author.Needs.{needs}
