@@ -4,7 +4,7 @@ use mathlib.Core.Path.{_≡_, refl, ap, sym, _∙_}
 use mathlib.Core.Bool.{Bool, true, false, _&&_, _||_, not, and-true, and-false}
 use mathlib.Core.List.{List, [], _∷_, map}
 use native.Mathlib.Omega.{arith}
-use borrow.Author.Tests.{eq-eqb, ne-eqb, lt-ltb, le-ltb}
+use borrow.Author.Tests.{eq-eqb, ne-eqb, eqb-false, lt-ltb, le-ltb}
 use lib.Dec.{eqb, ltb}
 use lib.Bits.{bitXor, and-zero-r}
 use lib.ListN.{length, getD, set, length-set, length-map}
@@ -17,13 +17,20 @@ use Rattle.cache.specs.Packed.{bit, odd, dropTag}
 use Rattle.cache.specs.Atc030.{entryOf, entriesOf, cacheOf, Sized, Stepped, Looked, keyOf, matchIn, heldIn, placeOf, ranked, restStamps, restClock, usedStamps, usedMarks}
 use Rattle.cache.proofs.Entries.{Level, key-matches, key-entry, drop-tag, entries-length, entries-get, entries-set, entries-first, entries-stamps, entries-tags, smaller-is, oldest-is}
 
+-- a clock that is not at its end has a next
+pub has-next : {k n : ℕ} → n ≡ k → n < 2 ^ 64 → eqb k (2 ^ 64 - 1) ≡ false → n + 1 < 2 ^ 64
+has-next {k} e h f = omega (arith, eqb-false k (2 ^ 64 - 1) f)
+
 -- ---- lengths
-length-rest : (k : ℕ) (ss : List ℕ) → length (restStamps k ss) ≡ length ss
+pub length-ranked : (ss : List ℕ) → length (ranked ss) ≡ length ss
 unfolding ranked
+length-ranked ss = simp length-map
+
+length-rest : (k : ℕ) (ss : List ℕ) → length (restStamps k ss) ≡ length ss
 length-rest k ss = go (eqb k (2 ^ 64 - 1))
   where
     go : (b : Bool) → length (if b then ranked ss else ss) ≡ length ss
-    go true = simp length-map
+    go true = length-ranked ss
     go false = refl
 
 -- three marks

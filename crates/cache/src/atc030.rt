@@ -4,7 +4,7 @@ use crate::packed::lengths;
 use crate::packed::word;
 use definition::Hit;
 ghost use mathlib.Core.Path.{_≡_};
-ghost use mathlib.Core.Bool.{not, _&&_, _||_};
+ghost use mathlib.Core.Bool.{true, false, not, _&&_, _||_};
 ghost use mathlib.Core.List.{map};
 ghost use Prim.Native.Nat.{ℕ, _+_, _/_, _%_, _^_, _<_};
 ghost use lib.Dec.{eqb, ltb};
@@ -13,7 +13,7 @@ ghost use Rattle.definition.specs.Words.{if_then_else_, agrees, firstOf, countO
 ghost use Rattle.definition.specs.Refusal.{badCache};
 ghost use Rattle.definition.specs.Cache030.{Cache030, touched, hitOf, shifted, inserted, flushedAll, flushedCode, flushedPage};
 ghost use Rattle.cache.specs.Packed.{odd, dropTag};
-ghost use Rattle.cache.specs.Atc030.{cacheOf, Sized, Stepped, Looked, keyOf, heldIn, leastOf, placeOf, ranked, restStamps, restClock, usedStamps, usedMarks};
+ghost use Rattle.cache.specs.Atc030.{cacheOf, Sized, Stepped, Looked, keyOf, heldIn, leastOf, placeOf, ranked, usedStamps, usedMarks};
 
 // ---- searches
 
@@ -99,30 +99,41 @@ fn rank(stamps: &mut [u64; 22])
     }
 }
 
-// The clock is raised by 1; at 2^64 - 1 the stamps are ranked first, and the clock becomes 22.
-fn tick(stamps: &mut [u64; 22], marks: &mut [u64; 3]) -> u64
-    requires { ⌜ (length (now stamps) ≡ 22) × (length (now marks) ≡ 3) ⌝ }
-    ensures { λ r. ⌜ (now (stamps .exit) ≡ restStamps (getD (now (marks .entry)) 1 0) (now (stamps .entry))) × (now (marks .exit) ≡ set (now (marks .entry)) 1 r) × (r ≡ restClock (getD (now (marks .entry)) 1 0) + 1) ⌝ }
+// Whether the clock stands at 2^64 - 1.
+fn is_last(marks: &[u64; 3]) -> bool
+    requires { ⌜ length (now marks) ≡ 3 ⌝ }
+    ensures { λ r. ⌜ r ≡ eqb (getD (now (marks .entry)) 1 0) 18446744073709551615 ⌝ }
 {
-    let clock = word(marks[1]);
-    if clock == 18446744073709551615 {
-        rank(stamps);
-        marks[1] = 23;
-        return 23;
-    }
-    let n = clock + 1;
+    marks[1] == 18446744073709551615
+}
+
+// The clock becomes `n`, the entry is stamped with it and is most recent.
+fn put(stamps: &mut [u64; 22], marks: &mut [u64; 3], i: usize, n: u64)
+    requires { ⌜ (length (now stamps) ≡ 22) × (length (now marks) ≡ 3) × (i < 22) ⌝ }
+    ensures { λ _. ⌜ (now (stamps .exit) ≡ set (now (stamps .entry)) i n) × (now (marks .exit) ≡ set (set (now (marks .entry)) 1 n) 0 i) ⌝ }
+{
     marks[1] = n;
-    n
+    stamps[i] = n;
+    marks[0] = i as u64;
 }
 
 // A use raises the clock by 1, stamps the entry with it and makes it most recent.
 fn stamp(stamps: &mut [u64; 22], marks: &mut [u64; 3], i: usize)
-    requires { ⌜ (length (now stamps) ≡ 22) × (length (now marks) ≡ 3) × (i < 22) ⌝ }
+    requires { ⌜ (length (now stamps) ≡ 22) × (length (now marks) ≡ 3) × (i < 22) × (eqb (getD (now marks) 1 0) 18446744073709551615 ≡ false) ⌝ }
     ensures { λ _. ⌜ (now (stamps .exit) ≡ usedStamps (now (stamps .entry)) (now (marks .entry)) i) × (now (marks .exit) ≡ usedMarks (now (marks .entry)) i) ⌝ }
 {
-    let n = tick(stamps, marks);
-    stamps[i] = n;
-    marks[0] = i as u64;
+    let clock = word(marks[1]);
+    put(stamps, marks, i, clock + 1);
+}
+
+// The same at 2^64 - 1: the stamps are ranked first, and the clock becomes 22. A use that has room for its stamp does not come here,
+// so that the ranking is not in its code.
+fn stamp_last(stamps: &mut [u64; 22], marks: &mut [u64; 3], i: usize)
+    requires { ⌜ (length (now stamps) ≡ 22) × (length (now marks) ≡ 3) × (i < 22) × (eqb (getD (now marks) 1 0) 18446744073709551615 ≡ true) ⌝ }
+    ensures { λ _. ⌜ (now (stamps .exit) ≡ usedStamps (now (stamps .entry)) (now (marks .entry)) i) × (now (marks .exit) ≡ usedMarks (now (marks .entry)) i) ⌝ }
+{
+    rank(stamps);
+    put(stamps, marks, i, 23);
 }
 
 // A hit on entry i: a recorded one, on another than the most recent entry, is a use.
@@ -139,6 +150,10 @@ fn touch(
 {
     if recorded {
         if marks[0] == i as u64 {
+            return;
+        }
+        if is_last(marks) {
+            stamp_last(stamps, marks, i);
             return;
         }
         stamp(stamps, marks, i);
@@ -385,5 +400,9 @@ pub fn insert(
     let i = place(tags, stamps, key);
     tags[i] = key;
     pages[i] = (base as u64) * 2 + flag(wp);
+    if is_last(marks) {
+        stamp_last(stamps, marks, i);
+        return;
+    }
     stamp(stamps, marks, i);
 }

@@ -1,7 +1,8 @@
+use mathlib.Core.Path.{sym, _∙_}
 use native.Mathlib.Omega.{arith}
 use native.Mathlib.Nat.{mod-lt}
-use borrow.Author.Needs.{needs}
 use Rattle.cache.proofs.Laws030.{inserted-put}
+use borrow.Author.Needs.{needs}
 use Rattle.cache.proofs.atc030.insert.Statement.{statement}
 use Rattle.cache.proofs.atc030.insert.Tie as tie
 
@@ -41,13 +42,24 @@ mul-pages-2 c = search needs
 element-write-pages : tie.Need-element-write-pages
 element-write-pages c = search needs
 
-stamp-requires : tie.Need-stamp-requires
-stamp-requires c κs = search needs
+is-last-requires : tie.Need-is-last-requires
+is-last-requires c κs = search needs
+
+stamp-last-requires : tie.Need-stamp-last-requires
+stamp-last-requires c κs = (search needs, search needs, search needs, sym (c .before .before .before .is-last .ensures) ∙ c .before .before .if1 .taken)
 
 returns : tie.Need-returns
 returns c =
-    inserted-put _ _ _ _ _ _ _ (c .before .before .before .before .before .before .before .before .fit .ensures) _ _ _ _ _ _ _ _ _ (mod-lt _ (omega arith)) (c .before .before .before .before .before .before .before .key-of .ensures) (c .before .before .before .before .place .ensures .0)
-    (c .before .before .before .flag .ensures .0) (c .stamp .ensures .0) (c .stamp .ensures .1)
+    inserted-put _ _ _ _ _ _ _ (c .before .before .before .before .before .before .before .before .before .before .before .fit .ensures) _ _ _ _ _ _ _ _ _ (mod-lt _ (omega arith)) (c .before .before .before .before .before .before .before .before .before .before .key-of .ensures) (c .before .before .before .before .before .before .before .place .ensures .0)
+    (c .before .before .before .before .before .before .flag .ensures .0) (c .stamp-last .ensures .0) (c .stamp-last .ensures .1)
+
+stamp-requires : tie.Need-stamp-requires
+stamp-requires c κs = (search needs, search needs, search needs, sym (c .before .before .before .is-last .ensures) ∙ c .before .before .if1 .left)
+
+returns-2 : tie.Need-returns-2
+returns-2 c =
+    inserted-put _ _ _ _ _ _ _ (c .before .before .before .before .before .before .before .before .before .before .before .fit .ensures) _ _ _ _ _ _ _ _ _ (mod-lt _ (omega arith)) (c .before .before .before .before .before .before .before .before .before .before .key-of .ensures) (c .before .before .before .before .before .before .before .place .ensures .0)
+    (c .before .before .before .before .before .before .flag .ensures .0) (c .stamp .ensures .0) (c .stamp .ensures .1)
 
 pub insert-spec : {M : Type 1} → statement M
 insert-spec =
@@ -65,5 +77,8 @@ insert-spec =
     add-pages
     mul-pages-2
     element-write-pages
+    is-last-requires
+    stamp-last-requires
+    returns
     stamp-requires
-    returns)
+    returns-2)

@@ -1,26 +1,28 @@
-use borrow.Author.Needs.{needs}
+use mathlib.Core.Path.{_∙_}
+use native.Mathlib.Omega.{arith}
+use Rattle.cache.proofs.Laws030.{has-next}
 use Rattle.cache.specs.Atc030.{usedStamps, usedMarks}
+use borrow.Author.Needs.{needs}
 use Rattle.cache.proofs.atc030.stamp.Statement.{statement}
 use Rattle.cache.proofs.atc030.stamp.Tie as tie
 
-tick-requires : tie.Need-tick-requires
-tick-requires c κs = search needs
+element-copy-out-word : tie.Need-element-copy-out-word
+element-copy-out-word c = search needs
 
-mul-stamps : tie.Need-mul-stamps
-mul-stamps c = search needs
+word-requires : tie.Need-word-requires
+word-requires c κs = search needs
 
-element-write-stamps : tie.Need-element-write-stamps
-element-write-stamps c = search needs
+add-put : tie.Need-add-put
+add-put c = omega (arith, has-next (c .before .before .word .ensures .0) (c .before .before .word .ensures .1) (c .before .before .before .before .pre .3))
 
-element-write-marks : tie.Need-element-write-marks
-element-write-marks c = search needs
+put-requires : tie.Need-put-requires
+put-requires c κs = search needs
 
 returns : tie.Need-returns
 unfolding usedStamps usedMarks
 returns c =
-    let e = c .tick .ensures in
-    (rw (e .0, e .2), rw (e .1, e .2))
+    let clock = c .before .before .before .word .ensures .0 in
+    rw (c .before .before .before .before .before .pre .3) (c .put .ensures .0 ∙ rw clock, c .put .ensures .1 ∙ rw clock)
 
 pub stamp-spec : {M : Type 1} → statement M
-stamp-spec =
-    tie.close (tie.spec tick-requires mul-stamps element-write-stamps element-write-marks returns)
+stamp-spec = tie.close (tie.spec element-copy-out-word word-requires add-put put-requires returns)
