@@ -137,7 +137,7 @@ twentyThree recorded held =
     on030 pagesMapped
     (map (readPage true 3) (countFrom 1 22) ++ (readPage recorded 0 1 ∷ readPage true 3 23 ∷ held))
 
--- ---- the table
+-- ---- the table: the twelve examples by their numbers, some in several rows
 abbrev pub rows : List Row
 rows =
     -- 1. Read: 00055ABC, count 3. Again: count 0.
@@ -161,7 +161,8 @@ rows =
     ∷ shiftIs 0x80000000 NoPage
     -- 10. Family 40, TC 8000, 3004=55085: user write WriteProtect, user read SupervisorProtect.
     ∷ row 40 0x8000 0x80000002 (tree 0x3002 0x55085) (write (F 2 4 0x02041ABC 3) ∷ read (F 2 5 0x02041ABC 3) ∷ [])
-    -- 11. Family 40, TC C000, 3000=55001: 00055ABC.
+    -- 11. Family 40, TC C000, 3000=55001: 00055ABC. The same with 3004=0, where an index by 17:12 would fault.
+    ∷ row 40 0xC000 0x80000002 ((0x3000, 0x55001) ∷ tree 0x3002 0x55001) (read (A 0x55ABC 3) ∷ [])
     ∷ row 40 0xC000 0x80000002 ((0x3000, 0x55001) ∷ tree 0x3002 0) (read (A 0x55ABC 3) ∷ [])
     -- 12. Pages 1 to 22 inserted, recorded hit on 1, then 23: page 2 goes. Unrecorded: page 1 goes.
     ∷ twentyThree true (here 1 ∷ gone 2 ∷ map here (countFrom 3 21))
