@@ -15,13 +15,13 @@ use Rattle.definition.specs.Walk040.{walk040, pageBits}
 use Rattle.definition.specs.Cache030.{Cache030, hitOf, afterHit}
 use Rattle.definition.specs.Cache040.{hit040}
 use Rattle.definition.specs.Refusal.{Check, Checks, firstThat, ordered, refusalOf, unless}
-use Rattle.definition.specs.Translate.{Caches, Translated, Searched, hitAddress, joined, atOnce, onEnd030, search030, onHit030, with030, translate030, onEnd040, onHit040, translate040, inOrder, translateChecks, translate}
-use Rattle.definition.specs.Load.{Loaded, loaded, stopped, loadInOrder, loadChecks, load}
-use Rattle.definition.specs.Test.{Tested, tested, testInOrder, testChecks, test}
-use Rattle.definition.specs.Probe.{probed, probe030, probeInOrder, probeChecks, probe}
-use Rattle.definition.specs.Flush.{Flushed, flushed, flushUnless}
-use Rattle.definition.specs.Calls.{Line, A, F, L, T, K, N, R}
-use Rattle.definition.specs.Trace.{State, Played, played, keeping}
+use Rattle.definition.specs.Translate.{Caches, Translated, Searched, hitAddress, joined, atOnce, onPage030, onEnd030, concluded030, search030, onHit030, with030, translate030, onEnd040, concluded040, onHit040, translate040, inOrder, translateChecks, translate}
+use Rattle.definition.specs.Load.{Loaded, loaded, stopped, searchedFor, afterDrop, loadInOrder, loadChecks, load}
+use Rattle.definition.specs.Test.{Tested, tested, statusOf, testInOrder, testChecks, test}
+use Rattle.definition.specs.Probe.{probed, probe030, probe040, probeInOrder, probeChecks, probe}
+use Rattle.definition.specs.Flush.{Flushed, flushed, flushUnless, flushAll, flushCode, flushPage, flushFrame}
+use Rattle.definition.specs.Calls.{Call, access, loading, testing, probing, flushingAll, flushingCode, flushingPage, flushingFrame, Line, A, F, L, T, K, N, R, translationLine, loadLine, flushLine, calling}
+use Rattle.definition.specs.Trace.{Record, Loads, Calls, Stores, Adds, Malformed, State, memoryOf, Played, played, keeping, stepOf}
 use Rattle.definition.specs.Replay.{In}
 use Rattle.definition.specs.declared.Registers.{Registers}
 use Rattle.definition.specs.declared.Access.{Access}
@@ -297,7 +297,7 @@ module _ (k : Checks) (c : Caches) (done : Flushed) (is : done .answer ≡ Flush
   pub flush-leaves : (n : ℕ) → flushUnless k c done .answer ≡ Flush.Refused n → flushUnless k c done ≡ flushed (Flush.Refused n) (c .c030) (c .c040)
   flush-leaves n e = whole inFlushed k (λ n. flushed (Flush.Refused n) (c .c030) (c .c040)) done (λ n. refl) (ap inFlush is) n (ap inFlush e)
 
--- ---- the program's own records: a refusal stores nothing
+-- ---- a record of the trace
 abbrev pub inLine : Line → List ℕ
 inLine (A address count) = []
 inLine (F kind cause address count) = []
@@ -310,9 +310,55 @@ inLine (R n) = n ∷ []
 abbrev inPlayed : Played → List ℕ
 inPlayed p = inLine (p .line)
 
+-- the program's own records
 module _ (k : Checks) (s next : State) where
   pub record-refuses : inLine (keeping k s next .line) ≡ numbers (refusalOf k)
   record-refuses = exactly inPlayed k (λ n. played (R n) s) (played K next) (λ n. refl) refl
 
-  pub record-leaves : (n : ℕ) → keeping k s next .line ≡ R n → keeping k s next ≡ played (R n) s
-  record-leaves n e = whole inPlayed k (λ n. played (R n) s) (played K next) (λ n. refl) refl n (ap inLine e)
+  record-leaves : (n : ℕ) → keeping k s next .line ≡ R n → keeping k s next .state ≡ s
+  record-leaves n e = ap (λ (p : Played). p .state) (whole inPlayed k (λ n. played (R n) s) (played K next) (λ n. refl) refl n (ap inLine e))
+
+-- the other lines are no refusals
+other-line : {X : Type 0} (n : ℕ) (l : Line) → inLine l ≡ [] → l ≡ R n → X
+other-line n l e f = let z : _≡_ {A = ℕ} 0 1 = cc in absurd (omega arith)
+
+module _ (n count : ℕ) where
+  translation-refused : (t : Translation) → translationLine count t ≡ R n → t ≡ Translation.Refused n
+  translation-refused (translation.Address address) e = other-line n _ refl e
+  translation-refused (translation.Fault kind cause address) e = other-line n _ refl e
+  translation-refused (translation.Refused k) e = cc
+
+  load-refused : (l : Load) → loadLine count l ≡ R n → l ≡ Load.Refused n
+  load-refused load′.Loaded e = other-line n _ refl e
+  load-refused (load′.Refused k) e = cc
+
+flush-refused : (n : ℕ) (f : Flush) → flushLine f ≡ R n → f ≡ Flush.Refused n
+flush-refused n flush′.Flushed e = other-line n _ refl e
+flush-refused n (flush′.Refused k) e = cc
+
+flushed-leaves : (n : ℕ) (k : Checks) (c : Caches) (done : Flushed) → done .answer ≡ Flush.Flushed → flushLine (flushUnless k c done .answer) ≡ R n
+    → flushUnless k c done .caches ≡ c
+flushed-leaves n k c done is e = ap (λ (f : Flushed). f .caches) (flush-leaves k c done is n (flush-refused n _ e))
+
+call-leaves : (g : Registers) (m : Memory) (c : Caches) (n : ℕ) (call : Call) → calling g m c call .line ≡ R n → calling g m c call .caches ≡ c
+unfolding calling flushAll flushCode flushPage flushFrame
+call-leaves g m c n (access a) e = ap (λ (t : Translated). t .caches) (translate-leaves g m a c n (translation-refused n _ _ e))
+call-leaves g m c n (loading code write address) e =
+    ap (λ (l : Loaded). l .caches) (load-leaves g code write address m c n (load-refused n _ _ e))
+call-leaves g m c n (testing code write level address) e = refl
+call-leaves g m c n (probing own instruction write address) e = refl
+call-leaves g m c n flushingAll e = flushed-leaves n _ c _ refl e
+call-leaves g m c n (flushingCode code mask) e = flushed-leaves n _ c _ refl e
+call-leaves g m c n (flushingPage code mask address) e = flushed-leaves n _ c _ refl e
+call-leaves g m c n (flushingFrame frame) e = flushed-leaves n _ c _ refl e
+
+-- 'A refusal prints R and its number, stores nothing and goes on': of every record
+pub step-leaves : (s : State) (r : Record) (n : ℕ) → stepOf s r .line ≡ R n → stepOf s r .state ≡ s
+unfolding stepOf
+step-leaves s (Loads g) n e = record-leaves _ s _ n e
+step-leaves s (Calls call) n e =
+    ap (λ (c : Caches). record { registers = s .registers; longs = s .longs; ranges = s .ranges; caches = c })
+    (call-leaves (s .registers) (memoryOf s) (s .caches) n call e)
+step-leaves s (Stores address value) n e = record-leaves _ s _ n e
+step-leaves s (Adds range) n e = record-leaves _ s _ n e
+step-leaves s Malformed n e = refl
