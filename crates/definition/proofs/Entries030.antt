@@ -39,16 +39,16 @@ pub record Walked030 (g : Registers) (P : Memory → Type 0) (s code page base :
   pub allowed : (walk030 over g address code everyLevel .found .sup && not (bitOf code 2)) ≡ false
   pub based : baseOf (physicalOf field consumed address) address s ≡ base
 
--- a valid entry has its walk
-abbrev pub Backed030 : Registers → (Memory → Type 0) → ℕ → Entry → Type 0
-Backed030 g P s e = e .valid ≡ true → Walked030 g P s (e .code) (e .page) (e .base) (e .wp)
+-- a valid entry has its walk, under registers and over a memory of P
+abbrev pub Backed030 : (Registers → Memory → Type 0) → ℕ → Entry → Type 0
+Backed030 P s e = e .valid ≡ true → (g : Registers) × Walked030 g (P g) s (e .code) (e .page) (e .base) (e .wp)
 
 -- a cache as it can be: check 4 passes, and each valid entry has its walk
-pub record Sound030 (g : Registers) (P : Memory → Type 0) (c : Cache030) : Type 0 where
+pub record Sound030 (P : Registers → Memory → Type 0) (c : Cache030) : Type 0 where
   pub size : length (c .entries) ≡ 22
   pub recent : c .recent ≤ 21
   pub shift : c .shift ≤ 31
-  pub backed : All (Backed030 g P (c .shift)) (c .entries)
+  pub backed : All (Backed030 P (c .shift)) (c .entries)
 
 -- ---- where an insert goes
 oldest-within : (l : List Entry) → 0 < length l → oldest l < length l
@@ -83,113 +83,113 @@ shifted-shift c s = if-by (λ (d : Cache030). d .shift ≡ s) (eqb (c .shift) s)
 
 -- ---- each entry changed in its place
 -- no valid entry is added where each valid one had its walk before; also between registers and memories
-mapped-sound : (g g′ : Registers) (P P′ : Memory → Type 0) (c : Cache030) (f : Entry → Entry) (clock s : ℕ) → s ≤ 31
-    → ((e : Entry) → Backed030 g P (c .shift) e → Backed030 g′ P′ s (f e)) → Sound030 g P c
-    → Sound030 g′ P′ (record { entries = map f (c .entries); recent = c .recent; clock = clock; shift = s })
-mapped-sound g g′ P P′ c f clock s l k h =
+mapped-sound : (P P′ : Registers → Memory → Type 0) (c : Cache030) (f : Entry → Entry) (clock s : ℕ) → s ≤ 31
+    → ((e : Entry) → Backed030 P (c .shift) e → Backed030 P′ s (f e)) → Sound030 P c
+    → Sound030 P′ (record { entries = map f (c .entries); recent = c .recent; clock = clock; shift = s })
+mapped-sound P P′ c f clock s l k h =
     record {
       size = length-map (c .entries) f ∙ h .size;
       recent = h .recent;
       shift = l;
-      backed = all-map (Backed030 g P (c .shift)) (Backed030 g′ P′ s) f k (c .entries) (h .backed);
+      backed = all-map (Backed030 P (c .shift)) (Backed030 P′ s) f k (c .entries) (h .backed);
     }
 
-dropped-backed : (g : Registers) (P : Memory → Type 0) (s : ℕ) (e : Entry) → Backed030 g P s (dropped e)
-dropped-backed g P s e v = absurd (false≢true v)
+dropped-backed : (P : Registers → Memory → Type 0) (s : ℕ) (e : Entry) → Backed030 P s (dropped e)
+dropped-backed P s e v = absurd (false≢true v)
 
 -- no valid entry is left, so the cache is as it can be under any registers and memories
-pub flushed-all-sound : (g g′ : Registers) (P P′ : Memory → Type 0) (c : Cache030) → Sound030 g P c → Sound030 g′ P′ (flushedAll c)
+pub flushed-all-sound : (P P′ : Registers → Memory → Type 0) (c : Cache030) → Sound030 P c → Sound030 P′ (flushedAll c)
 unfolding flushedAll
-flushed-all-sound g g′ P P′ c h = mapped-sound g g′ P P′ c dropped (c .clock) (c .shift) (h .shift) (λ e k. dropped-backed g′ P′ (c .shift) e) h
+flushed-all-sound P P′ c h = mapped-sound P P′ c dropped (c .clock) (c .shift) (h .shift) (λ e k. dropped-backed P′ (c .shift) e) h
 
 -- ---- each change of the cache
-module _ (g : Registers) (P : Memory → Type 0) where
-  pub no-entry : (s : ℕ) → Backed030 g P s noEntry
+module _ (P : Registers → Memory → Type 0) where
+  pub no-entry : (s : ℕ) → Backed030 P s noEntry
   no-entry s e = absurd (false≢true e)
 
-  pub empty-sound : Sound030 g P empty030
+  pub empty-sound : Sound030 P empty030
   empty-sound =
-      record { size = refl; recent = omega arith; shift = omega arith; backed = all-replicate (Backed030 g P 0) 22 noEntry (no-entry 0) }
+      record { size = refl; recent = omega arith; shift = omega arith; backed = all-replicate (Backed030 P 0) 22 noEntry (no-entry 0) }
 
-  pub passes-four : (c : Cache030) → Sound030 g P c → badCache c ≡ false
+  pub passes-four : (c : Cache030) → Sound030 P c → badCache c ≡ false
   passes-four c h = rw (le-ltb 21 (c .recent) (h .recent), le-ltb 31 (c .shift) (h .shift))
 
-  rested-sound : (c : Cache030) → Sound030 g P c → Sound030 g P (rested c)
+  rested-sound : (c : Cache030) → Sound030 P c → Sound030 P (rested c)
   unfolding rested
   rested-sound c h =
-      if-both (Sound030 g P) (eqb (c .clock) (2 ^ 64 - 1)) _ _
-      (mapped-sound g g P P c _ 22 (c .shift) (h .shift) (λ e k. k) h) h
+      if-both (Sound030 P) (eqb (c .clock) (2 ^ 64 - 1)) _ _
+      (mapped-sound P P c _ 22 (c .shift) (h .shift) (λ e k. k) h) h
 
-  put-sound : (c : Cache030) (i : ℕ) (f : ℕ → Entry) → Sound030 g P c → i < 22 → Backed030 g P (c .shift) (f (c .clock + 1)) → Sound030 g P (putAt c i f)
+  put-sound : (c : Cache030) (i : ℕ) (f : ℕ → Entry) → Sound030 P c → i < 22 → Backed030 P (c .shift) (f (c .clock + 1)) → Sound030 P (putAt c i f)
   put-sound c i f h l k =
       record {
         size = length-set (c .entries) i (f (c .clock + 1)) ∙ h .size;
         recent = omega arith;
         shift = h .shift;
-        backed = all-set (Backed030 g P (c .shift)) (c .entries) i (f (c .clock + 1)) k (h .backed);
+        backed = all-set (Backed030 P (c .shift)) (c .entries) i (f (c .clock + 1)) k (h .backed);
       }
 
-  touched-sound : (c : Cache030) (i : ℕ) → i < 22 → Sound030 g P c → Sound030 g P (touched c i)
+  touched-sound : (c : Cache030) (i : ℕ) → i < 22 → Sound030 P c → Sound030 P (touched c i)
   unfolding touched
   touched-sound c i l h =
       let r = rested-sound c h in
-      if-both (Sound030 g P) (eqb i (c .recent)) _ _ h
+      if-both (Sound030 P) (eqb i (c .recent)) _ _ h
       (put-sound (rested c) i (λ (n : ℕ). stamped n (getD (rested c .entries) i noEntry)) r l
-      (all-get (Backed030 g P (rested c .shift)) (rested c .entries) i noEntry (no-entry (rested c .shift)) (r .backed)))
+      (all-get (Backed030 P (rested c .shift)) (rested c .entries) i noEntry (no-entry (rested c .shift)) (r .backed)))
 
   -- a look into the cache adds nothing
-  pub after-hit-sound : (c : Cache030) (recorded : Bool) (code page s : ℕ) → Sound030 g P c → Sound030 g P (afterHit c recorded code page s)
+  pub after-hit-sound : (c : Cache030) (recorded : Bool) (code page s : ℕ) → Sound030 P c → Sound030 P (afterHit c recorded code page s)
   unfolding afterHit
   after-hit-sound c recorded code page s h =
-      if-by (Sound030 g P) (recorded && found c code page s) _ _
+      if-by (Sound030 P) (recorded && found c code page s) _ _
       (λ t.
       let there = and-right (eqb (c .shift) s) _ (and-right recorded (found c code page s) t) in
       let l = ltb-true (matching c code page) (length (c .entries)) there in
       touched-sound c (matching c code page) (rw (h .size) at l) h)
       (λ f. h)
 
-  shifted-sound : (c : Cache030) (s : ℕ) → s ≤ 31 → Sound030 g P c → Sound030 g P (shifted c s)
+  shifted-sound : (c : Cache030) (s : ℕ) → s ≤ 31 → Sound030 P c → Sound030 P (shifted c s)
   unfolding shifted
   shifted-sound c s l h =
-      if-both (Sound030 g P) (eqb (c .shift) s) _ _ h
-      (mapped-sound g g P P c dropped (c .clock) s l (λ e k. dropped-backed g P s e) h)
+      if-both (Sound030 P) (eqb (c .shift) s) _ _ h
+      (mapped-sound P P c dropped (c .clock) s l (λ e k. dropped-backed P s e) h)
 
   -- an insert adds the one entry that its walk found
-  pub inserted-sound : (c : Cache030) (code page s base : ℕ) (wp : Bool) → s ≤ 31 → Walked030 g P s code page base wp → Sound030 g P c
-      → Sound030 g P (inserted c code page s base wp)
+  pub inserted-sound : (g : Registers) (c : Cache030) (code page s base : ℕ) (wp : Bool) → s ≤ 31 → Walked030 g (P g) s code page base wp → Sound030 P c
+      → Sound030 P (inserted c code page s base wp)
   unfolding inserted
-  inserted-sound c code page s base wp l w h =
+  inserted-sound g c code page s base wp l w h =
       let k = shifted-sound c s l h in
       let r = rested-sound (shifted c s) k in
       let v = victim-within (shifted c s .entries) code page (rw (k .size) (omega arith)) in
       put-sound (rested (shifted c s)) (victim (shifted c s .entries) code page)
       (λ (n : ℕ). record { valid = true; code = code; page = page; base = base; wp = wp; stamp = n }) r (rw (k .size) at v)
-      (λ _. rw (rested-shift (shifted c s) ∙ shifted-shift c s) w)
+      (λ _. (g, rw (rested-shift (shifted c s) ∙ shifted-shift c s) w))
 
   -- a flush adds nothing
-  drop-sound : (p : Entry → Bool) (c : Cache030) → Sound030 g P c → Sound030 g P (dropIf p c)
+  drop-sound : (p : Entry → Bool) (c : Cache030) → Sound030 P c → Sound030 P (dropIf p c)
   drop-sound p c h =
-      mapped-sound g g P P c _ (c .clock) (c .shift) (h .shift)
-      (λ e k. if-both (Backed030 g P (c .shift)) (p e) (dropped e) e (dropped-backed g P (c .shift) e) k) h
+      mapped-sound P P c _ (c .clock) (c .shift) (h .shift)
+      (λ e k. if-both (Backed030 P (c .shift)) (p e) (dropped e) e (dropped-backed P (c .shift) e) k) h
 
-  pub flushed-code-sound : (c : Cache030) (code mask : ℕ) → Sound030 g P c → Sound030 g P (flushedCode c code mask)
+  pub flushed-code-sound : (c : Cache030) (code mask : ℕ) → Sound030 P c → Sound030 P (flushedCode c code mask)
   unfolding flushedCode
   flushed-code-sound c code mask h = drop-sound (λ (e : Entry). agrees (e .code) code mask) c h
 
-  pub flushed-page-sound : (c : Cache030) (code mask address : ℕ) → Sound030 g P c → Sound030 g P (flushedPage c code mask address)
+  pub flushed-page-sound : (c : Cache030) (code mask address : ℕ) → Sound030 P c → Sound030 P (flushedPage c code mask address)
   unfolding flushedPage
   flushed-page-sound c code mask address h =
-      if-both (Sound030 g P) (eqb (c .shift) 0) _ _ h
+      if-both (Sound030 P) (eqb (c .shift) 0) _ _ h
       (drop-sound (λ (e : Entry). agrees (e .code) code mask && eqb (e .page) (address / 2 ^ (c .shift))) c h)
 
   -- ---- a search
-  module _ (m : Memory) (seen : P m) (c : Cache030) (h : Sound030 g P c) (code address : ℕ) (write : Bool) where
+  module _ (g : Registers) (m : Memory) (seen : P g m) (c : Cache030) (h : Sound030 P c) (code address : ℕ) (write : Bool) where
     cached-sound : (field consumed : ℕ) (sh : Shift) → shiftOf (g .tc) ≡ sh → walk030 m g address code everyLevel .end ≡ Page field consumed
         → (walk030 m g address code everyLevel .found .sup && not (bitOf code 2)) ≡ false
-        → Sound030 g P (cached sh c code address (physicalOf field consumed address) (walk030 m g address code everyLevel .found .wp))
+        → Sound030 P (cached sh c code address (physicalOf field consumed address) (walk030 m g address code everyLevel .found .wp))
     cached-sound field consumed NoPage e f a = h
     cached-sound field consumed (Bits s) e f a =
-        inserted-sound c code (address / 2 ^ s) s _ _ (shift-cut (g .tc) s e .most)
+        inserted-sound g c code (address / 2 ^ s) s _ _ (shift-cut (g .tc) s e .most)
         (record {
           over = m;
           seen = seen;
@@ -205,10 +205,10 @@ module _ (g : Registers) (P : Memory → Type 0) where
         }) h
 
     end-sound : (e : End) → walk030 m g address code everyLevel .end ≡ e
-        → Sound030 g P (onEnd030 (g .tc) c code address write (walk030 m g address code everyLevel .found .wp)
+        → Sound030 P (onEnd030 (g .tc) c code address write (walk030 m g address code everyLevel .found .wp)
         (walk030 m g address code everyLevel .found .sup) (walk030 m g address code everyLevel .found .asked) e .cache)
     end-sound (Page field consumed) f =
-        if-by (λ (s : Searched). Sound030 g P (s .cache)) (walk030 m g address code everyLevel .found .sup && not (bitOf code 2)) _ _ (λ t. h)
+        if-by (λ (s : Searched). Sound030 P (s .cache)) (walk030 m g address code everyLevel .found .sup && not (bitOf code 2)) _ _ (λ t. h)
         (λ a. cached-sound field consumed (shiftOf (g .tc)) refl f a)
     end-sound (Invalid indirect) f = h
     end-sound LevelStop f = h
@@ -216,18 +216,18 @@ module _ (g : Registers) (P : Memory → Type 0) where
     end-sound Config f = h
 
     -- a search adds nothing but the entry that its walk found
-    pub search-sound : Sound030 g P (search030 g m c code address write .cache)
+    pub search-sound : Sound030 P (search030 g m c code address write .cache)
     unfolding search030
     search-sound = end-sound (walk030 m g address code everyLevel .end) refl
 
-  module _ (m : Memory) (seen : P m) (code address : ℕ) (write : Bool) where
-    on-hit-sound : (c : Cache030) (s : ℕ) (hit : Hit) → Sound030 g P c → Sound030 g P (onHit030 g m c code address write s hit .cache)
+  module _ (g : Registers) (m : Memory) (seen : P g m) (code address : ℕ) (write : Bool) where
+    on-hit-sound : (c : Cache030) (s : ℕ) (hit : Hit) → Sound030 P c → Sound030 P (onHit030 g m c code address write s hit .cache)
     on-hit-sound c s (At base) h = h
-    on-hit-sound c s Miss h = search-sound m seen c h code address write
+    on-hit-sound c s Miss h = search-sound g m seen c h code address write
 
     -- a translation adds nothing but the entry that its walk found
-    pub with-sound : (c : Cache030) (recorded : Bool) (sh : Shift) → Sound030 g P c → Sound030 g P (with030 g m c recorded code address write sh .cache)
-    with-sound c recorded NoPage h = search-sound m seen c h code address write
+    pub with-sound : (c : Cache030) (recorded : Bool) (sh : Shift) → Sound030 P c → Sound030 P (with030 g m c recorded code address write sh .cache)
+    with-sound c recorded NoPage h = search-sound g m seen c h code address write
     with-sound c recorded (Bits s) h =
         on-hit-sound (afterHit c recorded code (address / 2 ^ s) s) s (hitOf c code (address / 2 ^ s) s write)
         (after-hit-sound c recorded code (address / 2 ^ s) s h)

@@ -21,37 +21,37 @@ pub record Walked040 (g : Registers) (P : Memory → Type 0) (frame : ℕ) (supe
   pub end : walk040 over g address supervisor .end ≡ Resident field wp sup
   pub based : frameOf (g .tc) field ≡ base
 
--- a valid slot has its walk
-abbrev pub Backed040 : Registers → (Memory → Type 0) → Slot → Type 0
-Backed040 g P s = s .valid ≡ true → Walked040 g P (s .frame) (s .supervisor) (s .base) (s .wp) (s .sup)
+-- a valid slot has its walk, under registers and over a memory of P
+abbrev pub Backed040 : (Registers → Memory → Type 0) → Slot → Type 0
+Backed040 P s = s .valid ≡ true → (g : Registers) × Walked040 g (P g) (s .frame) (s .supervisor) (s .base) (s .wp) (s .sup)
 
-abbrev pub Sound040 : Registers → (Memory → Type 0) → Cache040 → Type 0
-Sound040 g P c = All (Backed040 g P) (c .slots)
+abbrev pub Sound040 : (Registers → Memory → Type 0) → Cache040 → Type 0
+Sound040 P c = All (Backed040 P) (c .slots)
 
-emptied-backed : (g : Registers) (P : Memory → Type 0) (s : Slot) → Backed040 g P (emptied s)
-emptied-backed g P s v = absurd (false≢true v)
+emptied-backed : (P : Registers → Memory → Type 0) (s : Slot) → Backed040 P (emptied s)
+emptied-backed P s v = absurd (false≢true v)
 
 -- no valid slot is left, so the cache is as it can be under any registers and memories
-pub flushed-all-sound : (g g′ : Registers) (P P′ : Memory → Type 0) (c : Cache040) → Sound040 g P c → Sound040 g′ P′ (flushedAll040 c)
+pub flushed-all-sound : (P P′ : Registers → Memory → Type 0) (c : Cache040) → Sound040 P c → Sound040 P′ (flushedAll040 c)
 unfolding flushedAll040
-flushed-all-sound g g′ P P′ c h = all-map (Backed040 g P) (Backed040 g′ P′) emptied (λ s k. emptied-backed g′ P′ s) (c .slots) h
+flushed-all-sound P P′ c h = all-map (Backed040 P) (Backed040 P′) emptied (λ s k. emptied-backed P′ s) (c .slots) h
 
-module _ (g : Registers) (P : Memory → Type 0) where
-  pub no-slot : Backed040 g P noSlot
+module _ (P : Registers → Memory → Type 0) where
+  pub no-slot : Backed040 P noSlot
   no-slot v = absurd (false≢true v)
 
-  pub empty-sound : Sound040 g P empty040
-  empty-sound = all-replicate (Backed040 g P) 64 noSlot no-slot
+  pub empty-sound : Sound040 P empty040
+  empty-sound = all-replicate (Backed040 P) 64 noSlot no-slot
 
   -- an insert adds the one slot that its walk found
-  pub inserted-sound : (c : Cache040) (frame : ℕ) (supervisor : Bool) (base : ℕ) (wp sup : Bool) → Walked040 g P frame supervisor base wp sup
-      → Sound040 g P c → Sound040 g P (inserted040 c frame supervisor base wp sup)
+  pub inserted-sound : (g : Registers) (c : Cache040) (frame : ℕ) (supervisor : Bool) (base : ℕ) (wp sup : Bool) → Walked040 g (P g) frame supervisor base wp sup
+      → Sound040 P c → Sound040 P (inserted040 c frame supervisor base wp sup)
   unfolding inserted040
-  inserted-sound c frame supervisor base wp sup w h = all-set (Backed040 g P) (c .slots) (frame % 64) _ (λ _. w) h
+  inserted-sound g c frame supervisor base wp sup w h = all-set (Backed040 P) (c .slots) (frame % 64) _ (λ _. (g, w)) h
 
   -- a flush adds nothing
-  pub flushed-frame-sound : (c : Cache040) (frame : ℕ) → Sound040 g P c → Sound040 g P (flushedFrame c frame)
+  pub flushed-frame-sound : (c : Cache040) (frame : ℕ) → Sound040 P c → Sound040 P (flushedFrame c frame)
   unfolding flushedFrame
   flushed-frame-sound c frame h =
-      if-both (Sound040 g P) (eqb (slotAt c frame .frame) frame) _ c
-      (all-set (Backed040 g P) (c .slots) (frame % 64) (emptied (slotAt c frame)) (emptied-backed g P (slotAt c frame)) h) h
+      if-both (Sound040 P) (eqb (slotAt c frame .frame) frame) _ c
+      (all-set (Backed040 P) (c .slots) (frame % 64) (emptied (slotAt c frame)) (emptied-backed P (slotAt c frame)) h) h

@@ -22,7 +22,7 @@ use Rattle.definition.specs.declared.Shift.the-variants.{Bits, NoPage}
 use Rattle.definition.specs.declared.Translation.the-variants.{Address}
 use Rattle.definition.proofs.Choice.{if-by, if-both, if-alike, and-left, and-right}
 use Rattle.definition.proofs.Lists.{all-get, first-passes}
-use Rattle.definition.proofs.Agree.{None, Throughout}
+use Rattle.definition.proofs.Agree.{None, Throughout, Only}
 use Rattle.definition.proofs.Asked030.{asked-030}
 use Rattle.definition.proofs.Page030.{page-030, base-030, consumed-030}
 use Rattle.definition.proofs.Entries030.{Walked030, Backed030, Sound030, no-entry, empty-sound}
@@ -70,11 +70,15 @@ matching-matches c code page =
 -- a hit has its walk, and does not write where WP is
 pub record Hits030 (g : Registers) (P : Memory → Type 0) (s code page base : ℕ) (write : Bool) : Type 0 where
   pub wp : Bool
-  pub walked : Walked030 g P s code page base wp
+  pub walked : Walked030 g (Only g P g) s code page base wp
   pub may : (write && wp) ≡ false
 
 module _ (g : Registers) (P : Memory → Type 0) where
-  entry-hits : (e : Entry) (s code page base : ℕ) (write : Bool) → Backed030 g P s e → matches code page e ≡ true → permitted write e ≡ At base
+  -- the walk of an entry was under g
+  under-g : (s code page base : ℕ) (wp : Bool) → (r : Registers) × Walked030 r (Only g P r) s code page base wp → Walked030 g (Only g P g) s code page base wp
+  under-g s code page base wp w = subst (λ (r : Registers). Walked030 r (Only g P r) s code page base wp) (w .1 .seen .0) (w .1)
+
+  entry-hits : (e : Entry) (s code page base : ℕ) (write : Bool) → Backed030 (Only g P) s e → matches code page e ≡ true → permitted write e ≡ At base
       → Hits030 g P s code page base write
   entry-hits e s code page base write k t =
       let key = and-right (e .valid) _ t in
@@ -86,11 +90,11 @@ module _ (g : Registers) (P : Memory → Type 0) where
         wp = e .wp;
         walked =
             rw (eqb-true (e .code) code (and-left _ _ key), eqb-true (e .page) page (and-right (eqb (e .code) code) _ key), same)
-            at (k (and-left (e .valid) _ t));
+            at (under-g s (e .code) (e .page) (e .base) (e .wp) (k (and-left (e .valid) _ t)));
         may = f;
       })
 
-  pub hit-030 : (c : Cache030) (code page s base : ℕ) (write : Bool) → Sound030 g P c → hitOf c code page s write ≡ At base
+  pub hit-030 : (c : Cache030) (code page s base : ℕ) (write : Bool) → Sound030 (Only g P) c → hitOf c code page s write ≡ At base
       → Hits030 g P s code page base write
   unfolding hitOf
   hit-030 c code page s base write h =
@@ -99,8 +103,8 @@ module _ (g : Registers) (P : Memory → Type 0) where
       let same = eqb-true (c .shift) s (and-left (eqb (c .shift) s) _ t) in
       let there = ltb-true (matching c code page) (length (c .entries)) (and-right (eqb (c .shift) s) _ t) in
       entry-hits (getD (c .entries) (matching c code page) noEntry) s code page base write
-      (subst (λ (n : ℕ). Backed030 g P n (getD (c .entries) (matching c code page) noEntry)) same
-      (all-get (Backed030 g P (c .shift)) (c .entries) (matching c code page) noEntry (no-entry g P (c .shift)) (h .backed)))
+      (subst (λ (n : ℕ). Backed030 (Only g P) n (getD (c .entries) (matching c code page) noEntry)) same
+      (all-get (Backed030 (Only g P) (c .shift)) (c .entries) (matching c code page) noEntry (no-entry (Only g P) (c .shift)) (h .backed)))
       (matching-matches c code page there) e)
       (λ f e. no-hit base e)
 
@@ -117,7 +121,7 @@ module _ (g : Registers) (P : Memory → Type 0) where
     hit-answer c s base k =
         let w = k .walked in
         let same : walk030 m g address code everyLevel ≡ walk030 (w .over) g (w .address) code everyLevel =
-        asked-030 m (w .over) g address code everyLevel (steady (w .over) (w .seen))
+        asked-030 m (w .over) g address code everyLevel (steady (w .over) (w .seen .1))
         ∙ page-030 address (w .address) s (sym (w .at)) (w .over) g code everyLevel (w .shift) in
         let left = consumed-030 (w .over) g (w .address) code everyLevel s (w .field) (w .consumed) (w .shift) (w .end) in
         ap (λ (b : ℕ). Address (hitAddress b address s)) (sym (w .based))
@@ -127,7 +131,7 @@ module _ (g : Registers) (P : Memory → Type 0) where
         ∙ ap (λ (o : Outcome). concluded030 (g .tc) c code address write o .answer) (sym same)
 
     -- the law: with such a cache a translation answers as a search from the empty one
-    pub with-answer : (c : Cache030) (recorded : Bool) (sh : Shift) → Sound030 g P c
+    pub with-answer : (c : Cache030) (recorded : Bool) (sh : Shift) → Sound030 (Only g P) c
         → with030 g m c recorded code address write sh .answer ≡ search030 g m empty030 code address write .answer
     with-answer c recorded NoPage h = search-answer g m code address write c empty030
     with-answer c recorded (Bits s) h = go (hitOf c code (address / 2 ^ s) s write) refl
@@ -142,7 +146,7 @@ module _ (g : Registers) (P : Memory → Type 0) where
 module _ (g : Registers) (m : Memory) (code address : ℕ) (write recorded : Bool) where
   pub empty-answer : (sh : Shift)
       → with030 g m empty030 recorded code address write sh .answer ≡ search030 g m empty030 code address write .answer
-  empty-answer sh = with-answer g None m code address write (λ m′ b. absurd b) empty030 recorded sh (empty-sound g None)
+  empty-answer sh = with-answer g None m code address write (λ m′ b. absurd b) empty030 recorded sh (empty-sound (Only g None))
 
   pub empty-asked : (sh : Shift)
       → with030 g m empty030 recorded code address write sh .asked ≡ walk030 m g address code everyLevel .found .asked
@@ -152,5 +156,5 @@ module _ (g : Registers) (m : Memory) (code address : ℕ) (write recorded : Boo
       go : (hit : Hit) → hitOf empty030 code (address / 2 ^ s) s write ≡ hit
           → onHit030 g m (afterHit empty030 recorded code (address / 2 ^ s) s) code address write s hit .asked
           ≡ walk030 m g address code everyLevel .found .asked
-      go (At base) e = absurd (hit-030 g None empty030 code (address / 2 ^ s) s base write (empty-sound g None) e .walked .seen)
+      go (At base) e = absurd (hit-030 g None empty030 code (address / 2 ^ s) s base write (empty-sound (Only g None)) e .walked .seen .1)
       go Miss e = search-asked g m code address write (afterHit empty030 recorded code (address / 2 ^ s) s)

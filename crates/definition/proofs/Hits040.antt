@@ -1,6 +1,6 @@
 -- A hit of the 68040 cache gives what the walk gives, where the walk's longs read the same over every memory that filled the cache. Assumes nothing.
 use Prim.Native.Nat.{ℕ, _/_, _%_, _^_}
-use mathlib.Core.Path.{_≡_, refl, ap, sym, _∙_}
+use mathlib.Core.Path.{_≡_, refl, ap, sym, subst, _∙_}
 use mathlib.Core.List.{List}
 use mathlib.Core.Bool.{Bool, false, not, _&&_}
 use borrow.Author.Tests.{eqb-true, not-true}
@@ -19,7 +19,7 @@ use Rattle.definition.specs.declared.Registers.{Registers}
 use Rattle.definition.specs.declared.Translation.the-variants.{Address}
 use Rattle.definition.proofs.Choice.{if-by, if-both, if-alike, and-left, and-right, or-left, or-right, same-bool}
 use Rattle.definition.proofs.Lists.{all-get}
-use Rattle.definition.proofs.Agree.{None, Throughout}
+use Rattle.definition.proofs.Agree.{None, Throughout, Only}
 use Rattle.definition.proofs.Asked040.{asked-040}
 use Rattle.definition.proofs.Page040.{page-040, base-040}
 use Rattle.definition.proofs.Hits030.{no-hit}
@@ -55,12 +55,17 @@ module _ (g : Registers) (m : Memory) (a : Access) where
 pub record Hits040 (g : Registers) (P : Memory → Type 0) (frame : ℕ) (supervisor : Bool) (base : ℕ) (write : Bool) : Type 0 where
   pub wp : Bool
   pub sup : Bool
-  pub walked : Walked040 g P frame supervisor base wp sup
+  pub walked : Walked040 g (Only g P g) frame supervisor base wp sup
   pub may : (write && wp) ≡ false
   pub allowed : (not supervisor && sup) ≡ false
 
 module _ (g : Registers) (P : Memory → Type 0) where
-  slot-hits : (s : Slot) (frame : ℕ) (supervisor : Bool) (base : ℕ) (write : Bool) → Backed040 g P s → slotHit frame supervisor write s ≡ At base
+  -- the walk of a slot was under g
+  under-g : (frame : ℕ) (supervisor : Bool) (base : ℕ) (wp sup : Bool) → (r : Registers) × Walked040 r (Only g P r) frame supervisor base wp sup
+      → Walked040 g (Only g P g) frame supervisor base wp sup
+  under-g frame supervisor base wp sup w = subst (λ (r : Registers). Walked040 r (Only g P r) frame supervisor base wp sup) (w .1 .seen .0) (w .1)
+
+  slot-hits : (s : Slot) (frame : ℕ) (supervisor : Bool) (base : ℕ) (write : Bool) → Backed040 (Only g P) s → slotHit frame supervisor write s ≡ At base
       → Hits040 g P frame supervisor base write
   slot-hits s frame supervisor base write k =
       if-by (λ (hit : Hit). hit ≡ At base → Hits040 g P frame supervisor base write) (holds frame supervisor s && not (forbids supervisor write s)) _ _
@@ -74,17 +79,17 @@ module _ (g : Registers) (P : Memory → Type 0) where
         sup = s .sup;
         walked =
             rw (eqb-true (s .frame) frame (and-left _ _ key), same-bool (s .supervisor) supervisor (and-right (eqb (s .frame) frame) _ key), same)
-            at (k (and-left (s .valid) _ held));
+            at (under-g (s .frame) (s .supervisor) (s .base) (s .wp) (s .sup) (k (and-left (s .valid) _ held)));
         may = or-left (write && s .wp) _ free;
         allowed = or-right (write && s .wp) _ free;
       })
       (λ f h. no-hit base h)
 
-  pub hit-040 : (c : Cache040) (frame : ℕ) (supervisor : Bool) (base : ℕ) (write : Bool) → Sound040 g P c → hit040 c frame supervisor write ≡ At base
+  pub hit-040 : (c : Cache040) (frame : ℕ) (supervisor : Bool) (base : ℕ) (write : Bool) → Sound040 (Only g P) c → hit040 c frame supervisor write ≡ At base
       → Hits040 g P frame supervisor base write
   unfolding hit040
   hit-040 c frame supervisor base write h e =
-      slot-hits (slotAt c frame) frame supervisor base write (all-get (Backed040 g P) (c .slots) (frame % 64) noSlot (no-slot g P) h) e
+      slot-hits (slotAt c frame) frame supervisor base write (all-get (Backed040 (Only g P)) (c .slots) (frame % 64) noSlot (no-slot (Only g P)) h) e
 
   -- ---- a hit answers as a search does
   page-answer : (a : Access) (c : Caches) (field : ℕ) (wp sup : Bool) (o : Outcome040) → o .end ≡ Resident field wp sup → (a .write && wp) ≡ false
@@ -97,7 +102,7 @@ module _ (g : Registers) (P : Memory → Type 0) where
     hit-answer c base k =
         let w = k .walked in
         let same : walked040 g a m ≡ walk040 (w .over) g (w .address) (asSupervisor a) =
-        asked-040 m (w .over) g (a .address) (asSupervisor a) (steady (w .over) (w .seen))
+        asked-040 m (w .over) g (a .address) (asSupervisor a) (steady (w .over) (w .seen .1))
         ∙ page-040 (w .over) g (a .address) (w .address) (sym (w .at)) (asSupervisor a) in
         ap (λ (b : ℕ). Address (joined (g .tc) b (a .address))) (sym (w .based))
         ∙ ap Address (base-040 (g .tc) (w .field) (a .address))
@@ -105,7 +110,7 @@ module _ (g : Registers) (P : Memory → Type 0) where
         ∙ ap (λ (o : Outcome040). concluded040 g a c o .answer) (sym same)
 
     -- the law: with such a cache a translation answers as a search from the empty one
-    pub with-answer : (c : Caches) → Sound040 g P (c .c040) → translate040 g a m c .answer ≡ concluded040 g a emptyCaches (walked040 g a m) .answer
+    pub with-answer : (c : Caches) → Sound040 (Only g P) (c .c040) → translate040 g a m c .answer ≡ concluded040 g a emptyCaches (walked040 g a m) .answer
     unfolding translate040
     with-answer c h = go (hit040 (c .c040) (a .address / 2 ^ pageBits (g .tc)) (asSupervisor a) (a .write)) refl
       where
@@ -118,7 +123,7 @@ module _ (g : Registers) (P : Memory → Type 0) where
 -- ---- the cacheless walk: no memory filled the empty cache
 module _ (g : Registers) (m : Memory) (a : Access) where
   pub empty-answer : translate040 g a m emptyCaches .answer ≡ concluded040 g a emptyCaches (walked040 g a m) .answer
-  empty-answer = with-answer g None m a (λ m′ b. absurd b) emptyCaches (empty-sound g None)
+  empty-answer = with-answer g None m a (λ m′ b. absurd b) emptyCaches (empty-sound (Only g None))
 
   pub empty-asked : translate040 g a m emptyCaches .asked ≡ walked040 g a m .asked
   unfolding translate040
@@ -127,5 +132,5 @@ module _ (g : Registers) (m : Memory) (a : Access) where
       go : (hit : Hit) → hit040 empty040 (a .address / 2 ^ pageBits (g .tc)) (asSupervisor a) (a .write) ≡ hit
           → onHit040 g a m emptyCaches hit .asked ≡ walked040 g a m .asked
       go (At base) e =
-          absurd (hit-040 g None empty040 (a .address / 2 ^ pageBits (g .tc)) (asSupervisor a) base (a .write) (empty-sound g None) e .walked .seen)
+          absurd (hit-040 g None empty040 (a .address / 2 ^ pageBits (g .tc)) (asSupervisor a) base (a .write) (empty-sound (Only g None)) e .walked .seen .1)
       go Miss e = search-asked g m a emptyCaches

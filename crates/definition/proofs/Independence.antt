@@ -22,7 +22,7 @@ use Rattle.definition.specs.declared.Access.{Access}
 use Rattle.definition.specs.declared.Translation.{Translation}
 use Rattle.definition.proofs.Choice.{if-given}
 use Rattle.definition.proofs.Lists.{in-left, in-right, map-alike}
-use Rattle.definition.proofs.Agree.{Agree, Throughout, Any}
+use Rattle.definition.proofs.Agree.{Agree, Throughout, Only, Any}
 use Rattle.definition.proofs.Asked030.{asked-030}
 use Rattle.definition.proofs.Asked040.{asked-040}
 use Rattle.definition.proofs.Entries030.{passes-four}
@@ -45,7 +45,7 @@ order-alike g a m m′ c c′ Q h k =
     (if-given Q answerOf (transparent g (a .address) (comparedCode a) (asInstruction a)) _ _ _ _ (λ _. refl)
     (if-given Q answerOf (eqb (g .family) 30) _ _ _ _ h k))
 
-module _ (g : Registers) (P : Memory → Type 0) (a : Access) (m : Memory) (c : Caches) (h : Sound g P c) where
+module _ (g : Registers) (P : Memory → Type 0) (a : Access) (m : Memory) (c : Caches) (h : Sound (Only g P) c) where
   same-030 : Throughout P m (translate030 g a m emptyCaches .asked) → translate030 g a m c .answer ≡ translate030 g a m emptyCaches .answer
   unfolding translate030
   same-030 t =
@@ -67,7 +67,7 @@ module _ (g : Registers) (P : Memory → Type 0) (a : Access) (m : Memory) (c : 
 
   -- check 4 passes, so the refusal is the cacheless walk's
   same-checks : translateChecks g a m c ≡ translateChecks g a m emptyCaches
-  same-checks = rw (passes-four g P (c .c030) (h .in030))
+  same-checks = rw (passes-four (Only g P) (c .c030) (h .in030))
 
   -- the law of one access: caches that were filled over memories where its walk's longs read the same change nothing
   pub translate-answer : Throughout P m (cacheless g a m .asked) → translate g a m c .answer ≡ cacheless g a m .answer
@@ -117,14 +117,15 @@ pub record Of (l : List Moment) (m : Memory) : Type 0 where
   pub one : In now l
   pub is : memoryAt now ≡ m
 
-module _ (g : Registers) (P : Memory → Type 0) where
-  pub run-sound : (l : List Moment) → ((now : Moment) → In now l → P (memoryAt now)) → (c : Caches) → Sound g P c → Sound g P (afterAll g c l)
+module _ (g : Registers) (P : Registers → Memory → Type 0) where
+  pub run-sound : (l : List Moment) → ((now : Moment) → In now l → P g (memoryAt now)) → (c : Caches) → Sound P c → Sound P (afterAll g c l)
   unfolding afterAll
   run-sound [] p c h = h
-  run-sound (now ∷ rest) p c h = run-sound rest (λ n i. p n (inr i)) (after g c now) (after-sound g P now (p now (inl refl)) c h)
+  run-sound (now ∷ rest) p c h = run-sound rest (λ n i. p n (inr i)) (after g c now) (after-sound P g now (p now (inl refl)) c h)
 
+module _ (g : Registers) (P : Memory → Type 0) where
   run-answers : (l : List Moment) → ((now : Moment) → In now l → P (memoryAt now))
-      → ((a : Access) (m : Memory) → In (watched a m) l → Throughout P m (cacheless g a m .asked)) → (c : Caches) → Sound g P c
+      → ((a : Access) (m : Memory) → In (watched a m) l → Throughout P m (cacheless g a m .asked)) → (c : Caches) → Sound (Only g P) c
       → answersFrom g c l ≡ walksOf g l
   unfolding answersFrom walksOf
   run-answers [] p s c h = refl
@@ -132,17 +133,16 @@ module _ (g : Registers) (P : Memory → Type 0) where
       rw (
         translate-answer g P a m c h (s a m (inl refl)),
         run-answers rest (λ n i. p n (inr i)) (λ b n i. s b n (inr i)) (after g c (watched a m))
-            (after-sound g P (watched a m) (p (watched a m) (inl refl)) c h),
+            (after-sound (Only g P) g (watched a m) (refl, p (watched a m) (inl refl)) c h),
       )
   run-answers (other call m ∷ rest) p s c h =
       run-answers rest (λ n i. p n (inr i)) (λ b n i. s b n (inr i)) (after g c (other call m))
-      (after-sound g P (other call m) (p (other call m) (inl refl)) c h)
+      (after-sound (Only g P) g (other call m) (refl, p (other call m) (inl refl)) c h)
 
 -- check 4 passes after any moments whatever: no call of a replay is refused by it
 pub passes-four-after : (g : Registers) (before : List Moment) → badCache (afterAll g emptyCaches before .c030) ≡ false
 passes-four-after g before =
-    passes-four g Any (afterAll g emptyCaches before .c030)
-    (run-sound g Any before (λ now i. tt) emptyCaches (empty-sound g Any) .in030)
+    passes-four Any (afterAll g emptyCaches before .c030) (run-sound g Any before (λ now i. tt) emptyCaches (empty-sound Any) .in030)
 
 -- after any moments whatever a watched access gets the cacheless walk's answer, if at each of them its longs read as they do now
 pub after-anything : (g : Registers) (before : List Moment) (a : Access) (m : Memory)
@@ -150,14 +150,14 @@ pub after-anything : (g : Registers) (before : List Moment) (a : Access) (m : Me
     → translate g a m (afterAll g emptyCaches before) .answer ≡ cacheless g a m .answer
 after-anything g before a m s =
     translate-answer g (Of before) a m (afterAll g emptyCaches before)
-    (run-sound g (Of before) before (λ now i. record { now = now; one = i; is = refl }) emptyCaches (empty-sound g (Of before)))
+    (run-sound g (Only g (Of before)) before (λ now i. (refl, record { now = now; one = i; is = refl })) emptyCaches (empty-sound (Only g (Of before))))
     (λ m′ o at i. sym (rw (o .is) at (s (o .now) at (o .one) i)))
 
 -- one replay: each watched access gets the cacheless walk's address, fault or refusal
 pub watched-is-cacheless : (g : Registers) (l : List Moment) → Steady g l → answers g l ≡ walksOf g l
 watched-is-cacheless g l s =
     run-answers g (Of l) l (λ now i. record { now = now; one = i; is = refl })
-    (λ a m i m′ o at j. sym (rw (o .is) at (s .same a m (o .now) at i (o .one) j))) emptyCaches (empty-sound g (Of l))
+    (λ a m i m′ o at j. sym (rw (o .is) at (s .same a m (o .now) at i (o .one) j))) emptyCaches (empty-sound (Only g (Of l)))
 
 -- ---- two replays
 -- the watched accesses, each with its memory

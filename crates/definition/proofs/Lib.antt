@@ -13,4 +13,5 @@ pub mod Entries
 pub mod Hits030
 pub mod Hits040
 pub mod Independence
+pub mod Records
 pub mod Witness

@@ -20,7 +20,7 @@ use Rattle.definition.specs.Load.{Loaded, loaded, stopped, searchedFor, 
 use Rattle.definition.specs.Test.{Tested, tested, statusOf, testInOrder, testChecks, test}
 use Rattle.definition.specs.Probe.{probed, probe030, probe040, probeInOrder, probeChecks, probe}
 use Rattle.definition.specs.Flush.{Flushed, flushed, flushUnless, flushAll, flushCode, flushPage, flushFrame}
-use Rattle.definition.specs.Calls.{Call, access, loading, testing, probing, flushingAll, flushingCode, flushingPage, flushingFrame, Line, A, F, L, T, K, N, R, translationLine, loadLine, flushLine, calling}
+use Rattle.definition.specs.Calls.{Call, access, loading, testing, probing, flushingAll, flushingCode, flushingPage, flushingFrame, Line, A, F, L, T, K, N, R, translationLine, loadLine, testLine, probeLine, flushLine, calling}
 use Rattle.definition.specs.Trace.{Record, Loads, Calls, Stores, Adds, Malformed, State, memoryOf, Played, played, keeping, stepOf}
 use Rattle.definition.specs.Replay.{In}
 use Rattle.definition.specs.declared.Registers.{Registers}
@@ -322,17 +322,27 @@ module _ (k : Checks) (s next : State) where
 other-line : {X : Type 0} (n : ℕ) (l : Line) → inLine l ≡ [] → l ≡ R n → X
 other-line n l e f = let z : _≡_ {A = ℕ} 0 1 = cc in absurd (omega arith)
 
+-- a line that says R n is a refused answer's
 module _ (n count : ℕ) where
-  translation-refused : (t : Translation) → translationLine count t ≡ R n → t ≡ Translation.Refused n
+  pub translation-refused : (t : Translation) → translationLine count t ≡ R n → t ≡ Translation.Refused n
   translation-refused (translation.Address address) e = other-line n _ refl e
   translation-refused (translation.Fault kind cause address) e = other-line n _ refl e
   translation-refused (translation.Refused k) e = cc
 
-  load-refused : (l : Load) → loadLine count l ≡ R n → l ≡ Load.Refused n
+  pub load-refused : (l : Load) → loadLine count l ≡ R n → l ≡ Load.Refused n
   load-refused load′.Loaded e = other-line n _ refl e
   load-refused (load′.Refused k) e = cc
 
-flush-refused : (n : ℕ) (f : Flush) → flushLine f ≡ R n → f ≡ Flush.Refused n
+  pub test-refused : (t : Test) → testLine count t ≡ R n → t ≡ Test.Refused n
+  test-refused (test′.Status mmusr address) e = other-line n _ refl e
+  test-refused (test′.Refused k) e = cc
+
+pub probe-refused : (n : ℕ) (p : Probe) → probeLine p ≡ R n → p ≡ Probe.Refused n
+probe-refused n (probe′.Address address) e = other-line n _ refl e
+probe-refused n probe′.Nothing e = other-line n _ refl e
+probe-refused n (probe′.Refused k) e = cc
+
+pub flush-refused : (n : ℕ) (f : Flush) → flushLine f ≡ R n → f ≡ Flush.Refused n
 flush-refused n flush′.Flushed e = other-line n _ refl e
 flush-refused n (flush′.Refused k) e = cc
 
