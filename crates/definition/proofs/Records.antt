@@ -1,12 +1,14 @@
--- A trace's records, from the first state: none is refused by check 4. Assumes nothing.
-use Prim.Native.Nat.{ℕ}
+-- A trace's records, from the program's first state: none is refused by check 4, and they are a replay in the sense of demand 3.
+-- Assumes nothing but what the statements say.
+use Prim.Native.Nat.{ℕ, zero, suc}
 use mathlib.Core.Path.{_≡_, refl, ap, sym, _∙_}
-use mathlib.Core.List.{List, [], _∷_}
-use mathlib.Core.Bool.{false}
+use mathlib.Core.List.{List, [], _∷_, _++_, map, append-assoc}
+use mathlib.Core.Bool.{Bool, true, false}
 use mathlib.Core.Logic.{inl, inr}
 use native.Mathlib.Omega.{arith}
 use lib.Dec.{eqb}
 use lib.ListN.{length}
+use Rattle.definition.specs.Words.{if_then_else_}
 use Rattle.definition.specs.Memory.{Memory}
 use Rattle.definition.specs.Refusal.{Checks, refusalOf, badCache}
 use Rattle.definition.specs.Translate.{Caches, translateChecks, translate}
@@ -14,16 +16,21 @@ use Rattle.definition.specs.Load.{loadChecks, load}
 use Rattle.definition.specs.Test.{testChecks, test}
 use Rattle.definition.specs.Probe.{probeChecks, probe}
 use Rattle.definition.specs.Flush.{Flushed, flushUnless, flushAll, flushCode, flushPage, flushFrame}
-use Rattle.definition.specs.Calls.{Call, access, loading, testing, probing, flushingAll, flushingCode, flushingPage, flushingFrame, R, flushLine, calling}
-use Rattle.definition.specs.Trace.{Record, Loads, Calls, Stores, Adds, Malformed, State, memoryOf, Played, keeping, stepOf, firstState}
-use Rattle.definition.specs.Replay.{In, linesFrom}
+use Rattle.definition.specs.Calls.{Call, access, loading, testing, probing, flushingAll, flushingCode, flushingPage, flushingFrame, R, translationLine, flushLine, calling}
+use Rattle.definition.specs.Trace.{Record, Loads, Calls, Stores, Adds, Malformed, recordOf, State, memoryOf, Played, keeping, stepOf, text, newline, firstState, isMalformed, Front, Ended, Body, Short, frontOf, ending, onFront, playFrom, play}
+use Rattle.definition.specs.Replay.{Moment, after, afterAll, answersFrom, watchedOf, walksOf, In, Steady, Accepted}
+use Rattle.definition.specs.Records.{linesFrom, keptAfter, Marked, watching, plainly, recordIn, momentIn, momentsOf, isCall, Under, uncounted, watchedLines, prints, inFront, recordsFrom, recordsOf, texts}
 use Rattle.definition.specs.declared.Registers.{Registers}
+use Rattle.definition.specs.declared.Access.{Access}
+use Rattle.definition.specs.declared.Translation.{Translation}
+use Rattle.definition.specs.declared.Translation.the-variants.{Address, Fault, Refused}
 use Rattle.definition.specs.declared.Flush.{Flush}
 use Rattle.definition.proofs.Choice.{if-both}
 use Rattle.definition.proofs.Agree.{Any}
 use Rattle.definition.proofs.Entries030.{passes-four}
 use Rattle.definition.proofs.Entries.{Sound, empty-sound, calling-sound}
 use Rattle.definition.proofs.Refusals.{numbers, inTranslation, translate-refuses, translation-refused, inLoad, load-refuses, load-refused, inTest, test-refuses, test-refused, inProbe, probe-refuses, probe-refused, inFlush, flush-refuses, flush-refused, inLine, record-refuses}
+use Rattle.definition.proofs.Independence.{independence}
 
 -- ---- check 4
 -- whatever the registers and the memory were, the caches stay as they can be
@@ -107,3 +114,129 @@ lines-not-four s (r ∷ l) h (inr i) = lines-not-four (stepOf s r .state) l (ste
 -- no trace prints R 4, whichever registers it loads
 pub never-four : (l : List Record) → In (R 4) (linesFrom firstState l) → ⊥
 never-four l = lines-not-four firstState l (empty-sound Any)
+
+-- ---- records as moments
+module _ (g : Registers) where
+  after-both : (c : Caches) (l l′ : List Moment) → afterAll g c (l ++ l′) ≡ afterAll g (afterAll g c l) l′
+  unfolding afterAll
+  after-both c [] l′ = refl
+  after-both c (now ∷ l) l′ = after-both (after g c now) l l′
+
+  -- a record that is not watched adds no answer
+  plain-answers : (c : Caches) (m : Memory) (r : Record) (l : List Moment)
+      → answersFrom g c (momentIn (plainly r) m ++ l) ≡ answersFrom g (afterAll g c (momentIn (plainly r) m)) l
+  unfolding answersFrom afterAll
+  plain-answers c m (Loads h) l = refl
+  plain-answers c m (Calls call) l = refl
+  plain-answers c m (Stores address value) l = refl
+  plain-answers c m (Adds range) l = refl
+  plain-answers c m Malformed l = refl
+
+  own-caches : (k : Checks) (s next : State) → next .caches ≡ s .caches → keeping k s next .state .caches ≡ s .caches
+  own-caches k s next e = if-both (λ (p : Played). p .state .caches ≡ s .caches) (eqb (refusalOf k) 0) _ _ e refl
+
+  -- a record leaves the caches that its moment leaves
+  step-caches : (s : State) (k : Marked) → (isCall (recordIn k) ≡ true → s .registers ≡ g)
+      → stepOf s (recordIn k) .state .caches ≡ afterAll g (s .caches) (momentIn k (memoryOf s))
+  unfolding stepOf afterAll calling
+  step-caches s (watching a) u = ap (λ (r : Registers). translate r a (memoryOf s) (s .caches) .caches) (u refl)
+  step-caches s (plainly (Calls call)) u = ap (λ (r : Registers). calling r (memoryOf s) (s .caches) call .caches) (u refl)
+  step-caches s (plainly (Loads h)) u = own-caches _ s _ refl
+  step-caches s (plainly (Stores address value)) u = own-caches _ s _ refl
+  step-caches s (plainly (Adds range)) u = own-caches _ s _ refl
+  step-caches s (plainly Malformed) u = refl
+
+  -- the caches that a trace leaves are those of the replay
+  pub kept-caches : (s : State) (l : List Marked) → Under g s l → keptAfter s (map recordIn l) .caches ≡ afterAll g (s .caches) (momentsOf s l)
+  unfolding keptAfter momentsOf Under afterAll
+  kept-caches s [] u = refl
+  kept-caches s (k ∷ rest) u =
+      let next = stepOf s (recordIn k) .state in
+      kept-caches next rest (u .1)
+      ∙ ap (λ (c : Caches). afterAll g c (momentsOf next rest)) (step-caches s k (u .0))
+      ∙ sym (after-both (s .caches) (momentIn k (memoryOf s)) (momentsOf next rest))
+
+  uncounted-line : (count : ℕ) (t : Translation) → uncounted (translationLine count t) ≡ translationLine 0 t
+  uncounted-line count (Address address) = refl
+  uncounted-line count (Fault kind cause address) = refl
+  uncounted-line count (Refused n) = refl
+
+  access-line : (s : State) (a : Access) → s .registers ≡ g → uncounted (stepOf s (Calls (access a)) .line) ≡ translationLine 0 (translate g a (memoryOf s) (s .caches) .answer)
+  unfolding stepOf calling
+  access-line s a e =
+      let t = translate (s .registers) a (memoryOf s) (s .caches) in
+      uncounted-line (length (t .asked)) (t .answer)
+      ∙ ap (λ (r : Registers). translationLine 0 (translate r a (memoryOf s) (s .caches) .answer)) e
+
+  -- and what the watched accesses print are the answers of the replay
+  pub prints-answers : (s : State) (l : List Marked) → Under g s l → prints s l ≡ map (translationLine 0) (answersFrom g (s .caches) (momentsOf s l))
+  unfolding linesFrom watchedLines momentsOf Under answersFrom afterAll
+  prints-answers s [] u = refl
+  prints-answers s (watching a ∷ rest) u =
+      let next = stepOf s (Calls (access a)) .state in
+      rw (
+        access-line s a (u .0 refl),
+        prints-answers next rest (u .1),
+        ap (λ (c : Caches). answersFrom g c (momentsOf next rest)) (step-caches s (watching a) (u .0)),
+      )
+  prints-answers s (plainly r ∷ rest) u =
+      let next = stepOf s r .state in
+      prints-answers next rest (u .1)
+      ∙ ap (λ (c : Caches). map (translationLine 0) (answersFrom g c (momentsOf next rest))) (step-caches s (plainly r) (u .0))
+      ∙ ap (map (translationLine 0)) (sym (plain-answers (s .caches) (memoryOf s) r (momentsOf next rest)))
+
+-- the demand, of two traces from the program's first state, all of whose calls are made under g: what each watched access prints, the count left
+-- out, is the same in both, and is what its cacheless walk gives
+pub traces-independent : (g : Registers) (l l′ : List Marked) → Under g firstState l → Under g firstState l′
+    → watchedOf (momentsOf firstState l) ≡ watchedOf (momentsOf firstState l′)
+    → Steady g (momentsOf firstState l ++ momentsOf firstState l′) → Accepted g (momentsOf firstState l ++ momentsOf firstState l′)
+    → (prints firstState l ≡ prints firstState l′) × (prints firstState l ≡ map (translationLine 0) (walksOf g (momentsOf firstState l)))
+traces-independent g l l′ u u′ e s t =
+    let d = independence g (momentsOf firstState l) (momentsOf firstState l′) e s t in
+    let one = prints-answers g firstState l u in
+    (one ∙ ap (map (translationLine 0)) (d .0) ∙ sym (prints-answers g firstState l′ u′), one ∙ ap (map (translationLine 0)) (d .1))
+
+-- ---- a file's records
+-- the bytes are the lines of the records, and then `end`, refusal 7, or nothing where `most` is used up
+pub record Shows (s : State) (l : List Record) (b : List ℕ) : Type 0 where
+  pub last : List ℕ
+  pub one : In last (ending ∷ text (R 7) ∷ [] ∷ [])
+  pub is : b ≡ texts (linesFrom s l) ++ last
+
+shows-more : (s : State) (r : Record) (l : List Record) (b : List ℕ) → Shows (stepOf s r .state) l b → Shows s (r ∷ l) (text (stepOf s r .line) ++ b)
+unfolding linesFrom
+shows-more s r l b k =
+    record {
+      last = k .last;
+      one = k .one;
+      is =
+          ap (λ (x : List ℕ). text (stepOf s r .line) ++ x) (k .is)
+          ∙ sym (append-assoc (text (stepOf s r .line)) (texts (linesFrom (stepOf s r .state) l)) (k .last));
+    }
+
+shows-last : (s : State) (last : List ℕ) → In last (ending ∷ text (R 7) ∷ [] ∷ []) → Shows s [] last
+unfolding linesFrom
+shows-last s last i = record { last = last; one = i; is = refl }
+
+module _ (s : State) (records : List ℕ → List Record) (plays : State → List ℕ → List ℕ)
+    (shows : (t : State) (rest : List ℕ) → Shows t (records rest) (plays t rest)) where
+  on-record : (bad : Bool) (r : Record) (rest : List ℕ)
+      → Shows s (if bad then [] else r ∷ records rest) (if bad then text (R 7) else text (stepOf s r .line) ++ plays (stepOf s r .state) rest)
+  on-record true r rest = shows-last s (text (R 7)) (inr (inl refl))
+  on-record false r rest = shows-more s r (records rest) (plays (stepOf s r .state) rest) (shows (stepOf s r .state) rest)
+
+  on-front : (f : Front) → Shows s (inFront records f) (onFront s plays f)
+  on-front Ended = shows-last s ending (inl refl)
+  on-front (Body body rest) = on-record (isMalformed (recordOf body)) (recordOf body) rest
+  on-front Short = shows-last s (text (R 7)) (inr (inl refl))
+
+plays-from : (most : ℕ) (s : State) (b : List ℕ) → Shows s (recordsFrom most b) (playFrom most s b)
+unfolding recordsFrom playFrom
+plays-from zero s b = shows-last s [] (inr (inr (inl refl)))
+plays-from (suc most) s b =
+    on-front s (λ rest. recordsFrom most rest) (λ t rest. playFrom most t rest) (λ t rest. plays-from most t rest) (frontOf b)
+
+-- a file prints v1 and the lines of its records, from the first state
+pub file-lines : (b : List ℕ) → (out : List ℕ) × ((play (1 ∷ b) ≡ 118 ∷ 49 ∷ newline ++ out) × Shows firstState (recordsOf b) out)
+unfolding play
+file-lines b = (playFrom (suc (length b)) firstState b, (refl, plays-from (suc (length b)) firstState b))

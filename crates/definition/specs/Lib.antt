@@ -16,3 +16,4 @@ pub mod Flush
 pub mod Calls
 pub mod Trace
 pub mod Replay
+pub mod Records

@@ -6,8 +6,7 @@ use mathlib.Core.List.{List, [], _∷_}
 use Rattle.definition.specs.Memory.{Memory, fetchOf}
 use Rattle.definition.specs.Refusal.{refusalOf}
 use Rattle.definition.specs.Translate.{Caches, emptyCaches, translate, translateChecks, cacheless}
-use Rattle.definition.specs.Calls.{Call, Line, calling}
-use Rattle.definition.specs.Trace.{Record, State, stepOf}
+use Rattle.definition.specs.Calls.{Call, calling}
 use Rattle.definition.specs.declared.Registers.{Registers}
 use Rattle.definition.specs.declared.Access.{Access}
 use Rattle.definition.specs.declared.Translation.{Translation}
@@ -66,9 +65,3 @@ pub record Steady (g : Registers) (l : List Moment) : Type 0 where
 -- no watched access is refused
 pub record Accepted (g : Registers) (l : List Moment) : Type 0 where
   pub none : (a : Access) (m : Memory) → In (watched a m) l → refusalOf (translateChecks g a m emptyCaches) ≡ 0
-
--- ---- a trace's records
--- the lines that records print, one after the other from a state
-unfoldable pub linesFrom : State → List Record → List Line
-linesFrom s [] = []
-linesFrom s (r ∷ rest) = stepOf s r .line ∷ linesFrom (stepOf s r .state) rest

@@ -270,8 +270,12 @@ frontOf (high ∷ low ∷ rest) =
     then Body (take (high * 256 + low) rest) (drop (high * 256 + low) rest)
     else Short
 
+-- the last line of a file that ends after a record: `end`
+abbrev pub ending : List ℕ
+ending = 101 ∷ 110 ∷ 100 ∷ newline
+
 abbrev pub onFront : State → (State → List ℕ → List ℕ) → Front → List ℕ
-onFront s next Ended = 101 ∷ 110 ∷ 100 ∷ newline
+onFront s next Ended = ending
 onFront s next (Body body rest) = goesOn s (recordOf body) (λ (t : State). next t rest)
 onFront s next Short = text (R 7)
 
