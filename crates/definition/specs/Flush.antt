@@ -40,7 +40,7 @@ flushPage code mask address c =
     flushUnless (flushChecks (aboveSeven code || aboveSeven mask) (badCache (c .c030))) c
     (flushed Flush.Flushed (flushedPage (c .c030) code mask address) (c .c040))
 
--- '040 frame, a long'
+-- '040 frame, a long'. The frame flush takes the 68040 cache alone; where it is handed a pair, the 68030 cache passes through unread
 unfoldable pub flushFrame : ℕ → Caches → Flushed
 flushFrame frame c =
     flushUnless (flushChecks (badFrame frame) false) c (flushed Flush.Flushed (c .c030) (flushedFrame (c .c040) frame))

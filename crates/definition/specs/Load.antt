@@ -29,7 +29,7 @@ abbrev pub stopped : Shift → Bool → Bool
 stopped NoPage tt = true
 stopped (Bits shift) tt = tt
 
--- 'searches and caches as above with the raw code': its answer is the search's but for the address
+-- 'searches and caches as above with the raw code': the search's address or fault is left out; the longs asked for and the cache are its own
 abbrev pub searchedFor : Searched → Caches → Loaded
 searchedFor s c = loaded Load.Loaded (s .asked) (s .cache) c
 

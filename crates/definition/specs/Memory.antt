@@ -30,7 +30,7 @@ touchesOf first last at =
 abbrev pub inRanges : List Range → ℕ → Bool
 inRanges ranges at = anyOf (λ (r : Range). touchesOf (r .first) (r .last) at) ranges
 
--- the long at `at` is one of the longs
+-- the long at `at` is one of the longs. Once check 2 has passed, (at - base) % 4 is 0 at every long that a walk asks for
 abbrev pub inside : List ℕ → ℕ → ℕ → Bool
 inside longs base at = leb base at && eqb ((at - base) % 4) 0 && ltb ((at - base) / 4) (length longs)
 

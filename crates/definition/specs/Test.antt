@@ -32,7 +32,7 @@ endFlags end.LevelStop = 0
 endFlags (end.BusError at) = 0x8000
 endFlags end.Config = 0x8000
 
--- 'S 2000 (user code), W 0800, .. N levels', which the manual has in bits 2:0
+-- 'S 2000 (user code), W 0800, .. N levels', which the manual has in bits 2:0: the mod 8 is the Rust's `& 7`; there are at most 5 levels
 abbrev pub mmusrOf : ℕ → Bool → Bool → ℕ → End → ℕ
 mmusrOf code wp sup levels e = endFlags e + flag (sup && not (bitOf code 2)) 0x2000 + flag wp 0x0800 + levels % 8
 
@@ -60,6 +60,7 @@ testChecks g code level m =
       eight = false;
     }
 
+-- `write` is what the record has; PTEST's write byte changes nothing in the base (docs/DECISIONS.md, The meaning 12)
 unfoldable pub test : Registers → ℕ → Bool → ℕ → ℕ → Memory → Tested
 test g code write level address m =
     unless (testChecks g code level m) (λ (n : ℕ). tested (Test.Refused n) []) (testInOrder g code level address m)
