@@ -17,7 +17,7 @@ use Rattle.definition.specs.Test.{testChecks, test}
 use Rattle.definition.specs.Probe.{probeChecks, probe}
 use Rattle.definition.specs.Flush.{Flushed, flushUnless, flushAll, flushCode, flushPage, flushFrame}
 use Rattle.definition.specs.Calls.{Call, access, loading, testing, probing, flushingAll, flushingCode, flushingPage, flushingFrame, R, translationLine, flushLine, calling}
-use Rattle.definition.specs.Trace.{Record, Loads, Calls, Stores, Adds, Malformed, recordOf, State, memoryOf, Played, keeping, stepOf, text, newline, firstState, isMalformed, Front, Ended, Body, Short, frontOf, ending, onFront, playFrom, play}
+use Rattle.definition.specs.Trace.{Record, Loads, Calls, Stores, Adds, Malformed, recordOf, State, memoryOf, Played, keeping, malformedLine, stepOf, text, newline, firstState, isMalformed, Front, Ended, Body, Short, frontOf, ending, onFront, playFrom, play}
 use Rattle.definition.specs.Replay.{Moment, after, afterAll, answersFrom, watchedOf, walksOf, In, Steady, Accepted}
 use Rattle.definition.specs.Records.{linesFrom, keptAfter, Marked, watching, plainly, recordIn, momentIn, momentsOf, isCall, Under, uncounted, watchedLines, prints, inFront, recordsFrom, recordsOf, texts}
 use Rattle.definition.specs.declared.Registers.{Registers}
@@ -200,7 +200,7 @@ traces-independent g l l′ u u′ e s t =
 -- the bytes are the lines of the records, and then `end`, refusal 7, or nothing where `most` is used up
 pub record Shows (s : State) (l : List Record) (b : List ℕ) : Type 0 where
   pub last : List ℕ
-  pub one : In last (ending ∷ text (R 7) ∷ [] ∷ [])
+  pub one : In last (ending ∷ text malformedLine ∷ [] ∷ [])
   pub is : b ≡ texts (linesFrom s l) ++ last
 
 shows-more : (s : State) (r : Record) (l : List Record) (b : List ℕ) → Shows (stepOf s r .state) l b → Shows s (r ∷ l) (text (stepOf s r .line) ++ b)
@@ -214,21 +214,21 @@ shows-more s r l b k =
           ∙ sym (append-assoc (text (stepOf s r .line)) (texts (linesFrom (stepOf s r .state) l)) (k .last));
     }
 
-shows-last : (s : State) (last : List ℕ) → In last (ending ∷ text (R 7) ∷ [] ∷ []) → Shows s [] last
+shows-last : (s : State) (last : List ℕ) → In last (ending ∷ text malformedLine ∷ [] ∷ []) → Shows s [] last
 unfolding linesFrom
 shows-last s last i = record { last = last; one = i; is = refl }
 
 module _ (s : State) (records : List ℕ → List Record) (plays : State → List ℕ → List ℕ)
     (shows : (t : State) (rest : List ℕ) → Shows t (records rest) (plays t rest)) where
   on-record : (bad : Bool) (r : Record) (rest : List ℕ)
-      → Shows s (if bad then [] else r ∷ records rest) (if bad then text (R 7) else text (stepOf s r .line) ++ plays (stepOf s r .state) rest)
-  on-record true r rest = shows-last s (text (R 7)) (inr (inl refl))
+      → Shows s (if bad then [] else r ∷ records rest) (if bad then text malformedLine else text (stepOf s r .line) ++ plays (stepOf s r .state) rest)
+  on-record true r rest = shows-last s (text malformedLine) (inr (inl refl))
   on-record false r rest = shows-more s r (records rest) (plays (stepOf s r .state) rest) (shows (stepOf s r .state) rest)
 
   on-front : (f : Front) → Shows s (inFront records f) (onFront s plays f)
   on-front Ended = shows-last s ending (inl refl)
   on-front (Body body rest) = on-record (isMalformed (recordOf body)) (recordOf body) rest
-  on-front Short = shows-last s (text (R 7)) (inr (inl refl))
+  on-front Short = shows-last s (text malformedLine) (inr (inl refl))
 
 plays-from : (most : ℕ) (s : State) (b : List ℕ) → Shows s (recordsFrom most b) (playFrom most s b)
 unfolding recordsFrom playFrom

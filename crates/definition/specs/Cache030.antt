@@ -96,12 +96,16 @@ afterHit c recorded code page shift =
 abbrev pub dropped : Entry → Entry
 dropped e = record { valid = false; code = e .code; page = e .page; base = e .base; wp = e .wp; stamp = e .stamp }
 
+-- all of them marked invalid
+abbrev pub allDropped : List Entry → List Entry
+allDropped l = map dropped l
+
 -- 'A different shift misses, and an insert then empties first.'
 unfoldable pub shifted : Cache030 → ℕ → Cache030
 shifted c shift =
     if eqb (c .shift) shift
     then c
-    else record { entries = map dropped (c .entries); recent = c .recent; clock = c .clock; shift = shift }
+    else record { entries = allDropped (c .entries); recent = c .recent; clock = c .clock; shift = shift }
 
 -- 'the smallest stamp, lowest index among equals'
 unfoldable pub oldest : List Entry → ℕ
@@ -128,7 +132,7 @@ abbrev pub dropIf : (Entry → Bool) → Cache030 → Cache030
 dropIf p c = withEntries (map (λ (e : Entry). if p e then dropped e else e) (c .entries)) c
 
 unfoldable pub flushedAll : Cache030 → Cache030
-flushedAll c = dropIf (λ (e : Entry). true) c
+flushedAll c = withEntries (allDropped (c .entries)) c
 
 -- 'A flush drops entries whose code agrees on the mask's bits ..'
 unfoldable pub flushedCode : Cache030 → ℕ → ℕ → Cache030

@@ -166,6 +166,10 @@ abbrev pub withCaches : State → Called → Played
 withCaches s c =
     played (c .line) (record { registers = s .registers; longs = s .longs; ranges = s .ranges; caches = c .caches })
 
+-- 7: 'malformed trace'
+abbrev pub malformedLine : Line
+malformedLine = R 7
+
 unfoldable pub stepOf : State → Record → Played
 stepOf s (Loads g) =
     keeping (programChecks (noFamily (g .family)) false false false) s
@@ -177,7 +181,7 @@ stepOf s (Stores address value) =
 stepOf s (Adds range) =
     keeping (programChecks false false (crossed range) (noRoom (s .ranges))) s
     (record { registers = s .registers; longs = s .longs; ranges = s .ranges ++ (range ∷ []); caches = s .caches })
-stepOf s Malformed = played (R 7) s
+stepOf s Malformed = played malformedLine s
 
 -- ---- lines, as bytes of ASCII
 -- 'Hex is upper case'
@@ -253,7 +257,7 @@ isMalformed Malformed = true
 
 -- 'Refusal 7 .. comes first in its record, after the lines before it, and stops the run without `end`'
 abbrev pub goesOn : State → Record → (State → List ℕ) → List ℕ
-goesOn s r next = if isMalformed r then text (R 7) else text (stepOf s r .line) ++ next (stepOf s r .state)
+goesOn s r next = if isMalformed r then text malformedLine else text (stepOf s r .line) ++ next (stepOf s r .state)
 
 -- what stands at the front of the bytes: nothing, a record's body with the bytes after it, or less than a record
 pub data Front : Type 0 where
@@ -277,7 +281,7 @@ ending = 101 ∷ 110 ∷ 100 ∷ newline
 abbrev pub onFront : State → (State → List ℕ → List ℕ) → Front → List ℕ
 onFront s next Ended = ending
 onFront s next (Body body rest) = goesOn s (recordOf body) (λ (t : State). next t rest)
-onFront s next Short = text (R 7)
+onFront s next Short = text malformedLine
 
 -- at most `most` records; a record takes two bytes or more, so the number of bytes is enough
 unfoldable pub playFrom : ℕ → State → List ℕ → List ℕ
@@ -286,6 +290,6 @@ playFrom (suc most) s b = onFront s (λ t rest. playFrom most t rest) (frontOf b
 
 -- 'The file .. starts with version byte 1.' '`v1` follows a good version byte.'
 unfoldable pub play : List ℕ → List ℕ
-play [] = text (R 7)
+play [] = text malformedLine
 play (version ∷ rest) =
-    if eqb version 1 then 118 ∷ 49 ∷ newline ++ playFrom (suc (length rest)) firstState rest else text (R 7)
+    if eqb version 1 then 118 ∷ 49 ∷ newline ++ playFrom (suc (length rest)) firstState rest else text malformedLine

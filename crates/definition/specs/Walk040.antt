@@ -5,6 +5,7 @@ use mathlib.Core.Bool.{Bool, _||_}
 use lib.Dec.{ltb, eqb}
 use Rattle.definition.specs.Words.{if_then_else_, bitOf}
 use Rattle.definition.specs.Memory.{Memory, fetchOf}
+use Rattle.definition.specs.Walk030.{entryOf}
 use Rattle.definition.specs.declared.Fetched.{Fetched}
 use Rattle.definition.specs.declared.Fetched.the-variants.{Long, Failed}
 use Rattle.definition.specs.declared.End040.{End040}
@@ -31,7 +32,7 @@ asks m at before next = onLong at before next (fetchOf m at)
 
 -- entry i of a table of longs
 abbrev pub longAt : ℕ → ℕ → ℕ
-longAt table index = (table + index * 4) % 2 ^ 32
+longAt table index = entryOf table index false
 
 -- 'with TC bit 14': 13 bits lie in a page, else 12
 abbrev pub pageBits : ℕ → ℕ
