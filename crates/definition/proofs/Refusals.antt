@@ -15,10 +15,10 @@ use Rattle.definition.specs.Walk040.{walk040, pageBits}
 use Rattle.definition.specs.Cache030.{Cache030, hitOf, afterHit}
 use Rattle.definition.specs.Cache040.{hit040}
 use Rattle.definition.specs.Refusal.{Check, Checks, firstThat, ordered, refusalOf, unless}
-use Rattle.definition.specs.Translate.{Caches, Translated, Searched, hitAddress, joined, atOnce, onPage030, onEnd030, concluded030, search030, onHit030, with030, translate030, onEnd040, concluded040, onHit040, translate040, inOrder, translateChecks, translate}
-use Rattle.definition.specs.Load.{Loaded, loaded, stopped, searchedFor, afterDrop, loadInOrder, loadChecks, load}
-use Rattle.definition.specs.Test.{Tested, tested, statusOf, testInOrder, testChecks, test}
-use Rattle.definition.specs.Probe.{probed, probe030, probe040, probeInOrder, probeChecks, probe}
+use Rattle.definition.specs.Translate.{Caches, Translated, Searched, hitAddress, joined, atOnce, onEnd030, search030, onHit030, with030, translate030, onEnd040, onHit040, translate040, inOrder, translateChecks, translate}
+use Rattle.definition.specs.Load.{Loaded, loaded, stopped, loadInOrder, loadChecks, load}
+use Rattle.definition.specs.Test.{Tested, tested, testInOrder, testChecks, test}
+use Rattle.definition.specs.Probe.{probed, probe030, probeInOrder, probeChecks, probe}
 use Rattle.definition.specs.Flush.{Flushed, flushed, flushUnless, flushAll, flushCode, flushPage, flushFrame}
 use Rattle.definition.specs.Calls.{Call, access, loading, testing, probing, flushingAll, flushingCode, flushingPage, flushingFrame, Line, A, F, L, T, K, N, R, translationLine, loadLine, testLine, probeLine, flushLine, calling}
 use Rattle.definition.specs.Trace.{Record, Loads, Calls, Stores, Adds, Malformed, State, memoryOf, Played, played, keeping, stepOf}

@@ -1,7 +1,7 @@
 -- Document 01, 'The 68040 walk, also for family 60'.
 use Prim.Native.Nat.{ℕ, _+_, _*_, _/_, _%_, _^_}
 use mathlib.Core.List.{List, [], _∷_, _++_}
-use mathlib.Core.Bool.{Bool, _||_}
+use mathlib.Core.Bool.{Bool, false, _||_}
 use lib.Dec.{ltb, eqb}
 use Rattle.definition.specs.Words.{if_then_else_, bitOf}
 use Rattle.definition.specs.Memory.{Memory, fetchOf}
