@@ -251,15 +251,7 @@ pub fn make(
             mask,
             address,
         } => {
-            let answer = flush::flush_page_in(
-                tags,
-                pages,
-                stamps,
-                marks,
-                code,
-                mask,
-                address,
-            );
+            let answer = flush::flush_page_in(tags, pages, stamps, marks, code, mask, address);
             flush_line(answer)
         }
         Call::FlushFrame { frame } => {

@@ -60,13 +60,17 @@ use Rattle.search.specs.Searched.{PlannedIn030}
 use Rattle.definition.specs.Refusal.{badBase}
 use Rattle.definition.specs.Words.{anyOf}
 use Rattle.definition.specs.Refusal.{crossed}
-use Rattle.tables.specs.Walked.{walksOf}
+use Rattle.tables.specs.Walked.{walks030}
+use Rattle.tables.specs.Choice.{rootBy}
 use Rattle.plan.specs.Plans.{wayOf}
 use Rattle.definition.specs.declared.Range.{Range}
 use Rattle.definition.proofs.Range as row-Range
 use Rattle.definition.specs.declared.Registers.{Registers}
 use Rattle.definition.proofs.Registers as row-Registers
 use Rattle.definition.proofs.Registers.Laws as law-Registers
+use Rattle.definition.specs.declared.Root.{Root}
+use Rattle.definition.proofs.Root as row-Root
+use Rattle.definition.proofs.Root.Laws as law-Root
 use Rattle.load.specs.declared.LoadOutcome.{LoadOutcome}
 use Rattle.load.proofs.LoadOutcome as row-LoadOutcome
 use Rattle.load.proofs.LoadOutcome.Laws as law-LoadOutcome
@@ -95,12 +99,20 @@ use Rattle.plan.proofs.way_of as c3
 use Rattle.plan.proofs.way_of.Symbol as c3-def
 use Rattle.plan.proofs.way_of.Symbol.{name as #plan·way-of}
 use Rattle.plan.proofs.way_of.Met as c3-thm
-use Rattle.tables.proofs.walk_for as c4
-use Rattle.tables.proofs.walk_for.Symbol as c4-def
-use Rattle.tables.proofs.walk_for.Symbol.{name as #tables·walk-for}
-use Rattle.tables.proofs.walk_for.Met as c4-thm
-use Rattle.lent.proofs.concluded_load as c5
-use Rattle.lent.proofs.concluded_load.Symbol as c5-def
+use Rattle.tables.proofs.tc_of as c4
+use Rattle.tables.proofs.tc_of.Symbol as c4-def
+use Rattle.tables.proofs.tc_of.Symbol.{name as #tables·tc-of}
+use Rattle.tables.proofs.tc_of.Met as c4-thm
+use Rattle.tables.proofs.root_for as c5
+use Rattle.tables.proofs.root_for.Symbol as c5-def
+use Rattle.tables.proofs.root_for.Symbol.{name as #tables·root-for}
+use Rattle.tables.proofs.root_for.Met as c5-thm
+use Rattle.tables.proofs.walk_030_for as c6
+use Rattle.tables.proofs.walk_030_for.Symbol as c6-def
+use Rattle.tables.proofs.walk_030_for.Symbol.{name as #tables·walk-030-for}
+use Rattle.tables.proofs.walk_030_for.Met as c6-thm
+use Rattle.lent.proofs.concluded_load as c7
+use Rattle.lent.proofs.concluded_load.Symbol as c7-def
 use Rattle.lent.proofs.concluded_load.Symbol.{name as #lent·concluded-load}
 use Rattle.lent.proofs.concluded_load.Met as c7-thm
 use Rattle.lent.proofs.load_lent.Key.{name as #lent·load-lent}
@@ -231,7 +243,7 @@ module _ {M : Type 1} (𝓤 : URA M) (H : Heap 𝓤) (A : Atoms 𝓤) (W : Given
   goes-7 κ10 q10 κ11 q11 κ12 q12 κ13 q13 a0 v0 a1 v1 a2 v2 a3 v3 a4 v4 a5 v5 a6 v6 a7 v7 a8 v8 a9 v9 i4 i5 i6 i7 i8 i9 =
       qed W (‵ (flft κ10 q10) ∷ ‵ (flft κ11 q11) ∷ ‵ (flft κ12 q12) ∷ ‵ (flft κ13 q13) ∷ ‵ ((MutRef (named 0) κ10 (Array u64 22)) .own a0 (v0 ∷ [])) ∷ ‵ ((MutRef (named 1) κ11 (Array u64 22)) .own a1 (v1 ∷ [])) ∷ ‵ ((MutRef (named 2) κ12 (Array u64 22)) .own a2 (v2 ∷ [])) ∷ ‵ ((MutRef (named 3) κ13 (Array u64 3)) .own a3 (v3 ∷ [])) ∷ []) ∵ nothing ! $ owned ! row-Walks.the-row (Is row-Walks.the-row) (EL.makes row-Walks.the-type law-Walks.the-plain 𝓤 H A) a9 _ i9 $ fjoin ! $ owned ! row-Plan.the-row (Is row-Plan.the-row) (EL.makes row-Plan.the-type law-Plan.the-plain 𝓤 H A) a8 _ i8 $ fjoin ! $ owned ! u32 (Is u32) (uint-makes 𝓤 H A W w32) a7 _ i7 $ fjoin ! $ owned ! Boolean (Is Boolean) (bool-makes 𝓤 H A W) a6 _ i6 $ fjoin ! $ owned ! u32 (Is u32) (uint-makes 𝓤 H A W w32) a5 _ i5 $ fjoin ! $ owned ! row-Registers.the-row (Is row-Registers.the-row) (LL.makes row-Registers.the-type law-Registers.the-plain 𝓤 H A) a4 _ i4 $ fjoin ! $ move ! (8 ∷ 0 ∷ []) $ fjoin ! $ move ! (7 ∷ 0 ∷ []) $ fjoin ! $ move ! (6 ∷ 0 ∷ []) $ fjoin ! $ move ! (5 ∷ 0 ∷ []) $ fjoin ! $ nothing ! $ move ! (5 ∷ 0 ∷ []) $ join ! $ move ! (4 ∷ 0 ∷ []) $ join ! $ move ! (3 ∷ 0 ∷ []) $ join ! $ move ! (2 ∷ 0 ∷ []) $ join ! $ join ! $ frame ! $ done !
 
-  module _ (𝓣 : Tables 𝓤 H) (known-0 : Triple 𝓤 (𝓣 .C #plan·checks·bad-longs) (C0 𝓤 H A mem run)) (known-1 : Triple 𝓤 (𝓣 .C #tables·any-crossed) (C1 𝓤 H A mem run)) (known-2 : Triple 𝓤 (𝓣 .C #lent·planned-load) (C2 𝓤 H A mem run)) (known-3 : Triple 𝓤 (𝓣 .C #plan·way-of) (C3 𝓤 H A mem run)) (known-4 : Triple 𝓤 (𝓣 .C #tables·walk-for) (C4 𝓤 H A mem run)) (known-5 : Triple 𝓤 (𝓣 .C #lent·concluded-load) (C5 𝓤 H A mem run)) where
+  module _ (𝓣 : Tables 𝓤 H) (known-0 : Triple 𝓤 (𝓣 .C #plan·checks·bad-longs) (C0 𝓤 H A mem run)) (known-1 : Triple 𝓤 (𝓣 .C #tables·any-crossed) (C1 𝓤 H A mem run)) (known-2 : Triple 𝓤 (𝓣 .C #lent·planned-load) (C2 𝓤 H A mem run)) (known-3 : Triple 𝓤 (𝓣 .C #plan·way-of) (C3 𝓤 H A mem run)) (known-4 : Triple 𝓤 (𝓣 .C #tables·tc-of) (C4 𝓤 H A mem run)) (known-5 : Triple 𝓤 (𝓣 .C #tables·root-for) (C5 𝓤 H A mem run)) (known-6 : Triple 𝓤 (𝓣 .C #tables·walk-030-for) (C6 𝓤 H A mem run)) (known-7 : Triple 𝓤 (𝓣 .C #lent·concluded-load) (C7 𝓤 H A mem run)) where
     abbrev C : Calls 𝓤 H
     C = 𝓣 .C
 
@@ -370,12 +382,12 @@ module _ {M : Type 1} (𝓤 : URA M) (H : Heap 𝓤) (A : Atoms 𝓤) (W : Given
         by ! (exits (ws42 .0) (ws42 .1 .0) (ws42 .1 .1 .0) (ws42 .1 .1 .1 .0) r39 (LL.val row-LoadOutcome.the-type law-LoadOutcome.the-laws r39) (subst (Is row-LoadOutcome.the-row r39) (LL.tells row-LoadOutcome.the-type law-LoadOutcome.the-laws r39 _ is41) is41) (law.loads x8 x9 x11 (cacheOf (now x1) (now x2) (now x3) (now x4)) _ _ e15 x10 (memory (now x5) x6 (now x7)) e3 e7 e20 e24 e28 e32 e40)))))))))))))))))))))))))))))))))))))))))))))))))))))))))))))))))))))))))))))))
 
 module _ {M : Type 1} (𝓤 : URA M) (H : Heap 𝓤) (A : Atoms 𝓤) (W : Given 𝓤 H A) (mem : Memory → SProp 𝓤) (run : Routine → Fun 𝓤) (𝓣 : Tables 𝓤 H) where
-  self-walks : Triple 𝓤 (𝓣 .C #plan·checks·bad-longs) (C0 𝓤 H A mem run) → Triple 𝓤 (𝓣 .C #tables·any-crossed) (C1 𝓤 H A mem run) → Triple 𝓤 (𝓣 .C #lent·planned-load) (C2 𝓤 H A mem run) → Triple 𝓤 (𝓣 .C #plan·way-of) (C3 𝓤 H A mem run) → Triple 𝓤 (𝓣 .C #tables·walk-for) (C4 𝓤 H A mem run) → Triple 𝓤 (𝓣 .C #lent·concluded-load) (C5 𝓤 H A mem run) → AllWalks 𝓤 H A self.ended stayed (WpFn 𝓤 H (𝓣 .C) (𝓣 .Λ) code.function) (self.clauses 𝓤 H A mem run)
-  self-walks known-0 known-1 known-2 known-3 known-4 known-5 = walked 𝓤 H A self.ended stayed (self.clauses 𝓤 H A mem run) (WpFn 𝓤 H (𝓣 .C) (𝓣 .Λ) code.function) (λ κs. (ptr-vals, (ptr-vals, (ptr-vals, (ptr-vals, (slice-vals, (uint-vals w32, (slice-vals, (LL.vals row-Registers.the-type law-Registers.the-laws, (uint-vals w32, (bool-vals, (uint-vals w32, tt)))))))))))) (λ κs. (mut-tells (named 0) (κs .0) (Array u64 22), (mut-tells (named 1) (κs .1 .0) (Array u64 22), (mut-tells (named 2) (κs .1 .1 .0) (Array u64 22), (mut-tells (named 3) (κs .1 .1 .1 .0) (Array u64 3), (shr-slice-tells (named 4) (κs .1 .1 .1 .1 .0) u32, (uint-tells w32, (shr-slice-tells (named 5) (κs .1 .1 .1 .1 .1 .0) row-Range.the-row, (LL.tells row-Registers.the-type law-Registers.the-laws, (uint-tells w32, (bool-tells, (uint-tells w32, tt))))))))))))
-      (λ κs qs bounds a g are. via 𝓤 _ (fst∗ 𝓤 _ (emp 𝓤)) (walk 𝓤 H A W mem run (κs .0) (κs .1 .0) (κs .1 .1 .0) (κs .1 .1 .1 .0) (κs .1 .1 .1 .1 .0) (κs .1 .1 .1 .1 .1 .0) (qs .0) (qs .1 .0) (qs .1 .1 .0) (qs .1 .1 .1 .0) (qs .1 .1 .1 .1 .0) (qs .1 .1 .1 .1 .1 .0) (a .0) (a .1 .0) (a .1 .1 .0) (a .1 .1 .1 .0) (a .1 .1 .1 .1 .0) (a .1 .1 .1 .1 .1 .0) (a .1 .1 .1 .1 .1 .1 .0) (a .1 .1 .1 .1 .1 .1 .1 .0) (a .1 .1 .1 .1 .1 .1 .1 .1 .0) (a .1 .1 .1 .1 .1 .1 .1 .1 .1 .0) (a .1 .1 .1 .1 .1 .1 .1 .1 .1 .1 .0) (are .0) (are .1 .0) (are .1 .1 .0) (are .1 .1 .1 .0) (are .1 .1 .1 .1 .0) (are .1 .1 .1 .1 .1 .0) (are .1 .1 .1 .1 .1 .1 .0) (are .1 .1 .1 .1 .1 .1 .1 .0) (are .1 .1 .1 .1 .1 .1 .1 .1 .0) (are .1 .1 .1 .1 .1 .1 .1 .1 .1 .0) (are .1 .1 .1 .1 .1 .1 .1 .1 .1 .1 .0) 𝓣 known-0 known-1 known-2 known-3 known-4 known-5))
+  self-walks : Triple 𝓤 (𝓣 .C #plan·checks·bad-longs) (C0 𝓤 H A mem run) → Triple 𝓤 (𝓣 .C #tables·any-crossed) (C1 𝓤 H A mem run) → Triple 𝓤 (𝓣 .C #lent·planned-load) (C2 𝓤 H A mem run) → Triple 𝓤 (𝓣 .C #plan·way-of) (C3 𝓤 H A mem run) → Triple 𝓤 (𝓣 .C #tables·tc-of) (C4 𝓤 H A mem run) → Triple 𝓤 (𝓣 .C #tables·root-for) (C5 𝓤 H A mem run) → Triple 𝓤 (𝓣 .C #tables·walk-030-for) (C6 𝓤 H A mem run) → Triple 𝓤 (𝓣 .C #lent·concluded-load) (C7 𝓤 H A mem run) → AllWalks 𝓤 H A self.ended stayed (WpFn 𝓤 H (𝓣 .C) (𝓣 .Λ) code.function) (self.clauses 𝓤 H A mem run)
+  self-walks known-0 known-1 known-2 known-3 known-4 known-5 known-6 known-7 = walked 𝓤 H A self.ended stayed (self.clauses 𝓤 H A mem run) (WpFn 𝓤 H (𝓣 .C) (𝓣 .Λ) code.function) (λ κs. (ptr-vals, (ptr-vals, (ptr-vals, (ptr-vals, (slice-vals, (uint-vals w32, (slice-vals, (LL.vals row-Registers.the-type law-Registers.the-laws, (uint-vals w32, (bool-vals, (uint-vals w32, tt)))))))))))) (λ κs. (mut-tells (named 0) (κs .0) (Array u64 22), (mut-tells (named 1) (κs .1 .0) (Array u64 22), (mut-tells (named 2) (κs .1 .1 .0) (Array u64 22), (mut-tells (named 3) (κs .1 .1 .1 .0) (Array u64 3), (shr-slice-tells (named 4) (κs .1 .1 .1 .1 .0) u32, (uint-tells w32, (shr-slice-tells (named 5) (κs .1 .1 .1 .1 .1 .0) row-Range.the-row, (LL.tells row-Registers.the-type law-Registers.the-laws, (uint-tells w32, (bool-tells, (uint-tells w32, tt))))))))))))
+      (λ κs qs bounds a g are. via 𝓤 _ (fst∗ 𝓤 _ (emp 𝓤)) (walk 𝓤 H A W mem run (κs .0) (κs .1 .0) (κs .1 .1 .0) (κs .1 .1 .1 .0) (κs .1 .1 .1 .1 .0) (κs .1 .1 .1 .1 .1 .0) (qs .0) (qs .1 .0) (qs .1 .1 .0) (qs .1 .1 .1 .0) (qs .1 .1 .1 .1 .0) (qs .1 .1 .1 .1 .1 .0) (a .0) (a .1 .0) (a .1 .1 .0) (a .1 .1 .1 .0) (a .1 .1 .1 .1 .0) (a .1 .1 .1 .1 .1 .0) (a .1 .1 .1 .1 .1 .1 .0) (a .1 .1 .1 .1 .1 .1 .1 .0) (a .1 .1 .1 .1 .1 .1 .1 .1 .0) (a .1 .1 .1 .1 .1 .1 .1 .1 .1 .0) (a .1 .1 .1 .1 .1 .1 .1 .1 .1 .1 .0) (are .0) (are .1 .0) (are .1 .1 .0) (are .1 .1 .1 .0) (are .1 .1 .1 .1 .0) (are .1 .1 .1 .1 .1 .0) (are .1 .1 .1 .1 .1 .1 .0) (are .1 .1 .1 .1 .1 .1 .1 .0) (are .1 .1 .1 .1 .1 .1 .1 .1 .0) (are .1 .1 .1 .1 .1 .1 .1 .1 .1 .0) (are .1 .1 .1 .1 .1 .1 .1 .1 .1 .1 .0) 𝓣 known-0 known-1 known-2 known-3 known-4 known-5 known-6 known-7))
 
-  self-meets : Triple 𝓤 (𝓣 .C #plan·checks·bad-longs) (C0 𝓤 H A mem run) → Triple 𝓤 (𝓣 .C #tables·any-crossed) (C1 𝓤 H A mem run) → Triple 𝓤 (𝓣 .C #lent·planned-load) (C2 𝓤 H A mem run) → Triple 𝓤 (𝓣 .C #plan·way-of) (C3 𝓤 H A mem run) → Triple 𝓤 (𝓣 .C #tables·walk-for) (C4 𝓤 H A mem run) → Triple 𝓤 (𝓣 .C #lent·concluded-load) (C5 𝓤 H A mem run) → Meets 𝓤 H A self.signature (WpFn 𝓤 H (𝓣 .C) (𝓣 .Λ) code.function) (self.spec 𝓤 H A mem run)
-  self-meets known-0 known-1 known-2 known-3 known-4 known-5 = walk-meets 𝓤 H A self.ended stayed W (goes-ref 𝓤 H A W 6 0 tt (plain (λ _. (Array u64 22))), (goes-ref 𝓤 H A W 6 1 tt (plain (λ _. (Array u64 22))), (goes-ref 𝓤 H A W 6 2 tt (plain (λ _. (Array u64 22))), (goes-ref 𝓤 H A W 6 3 tt (plain (λ _. (Array u64 3))), (goes-none-slice 𝓤 H A W 6 (4 ∷ []) tt (plain (λ _. u32)) yes, (goes-none 𝓤 H A W 6 (λ _. u32) yes (λ κs x f. refl), (goes-none-slice 𝓤 H A W 6 (5 ∷ []) tt (plain (λ _. row-Range.the-row)) yes, (goes-none 𝓤 H A W 6 (λ _. row-Registers.the-row) yes (λ κs x f. refl), (goes-none 𝓤 H A W 6 (λ _. u32) yes (λ κs x f. refl), (goes-none 𝓤 H A W 6 (λ _. Boolean) yes (λ κs x f. refl), (goes-none 𝓤 H A W 6 (λ _. u32) yes (λ κs x f. refl), tt))))))))))) (self.clauses 𝓤 H A mem run) (WpFn 𝓤 H (𝓣 .C) (𝓣 .Λ) code.function) (WpFn-mono 𝓤 H (W .laws) 𝓣 code.function) (self-walks known-0 known-1 known-2 known-3 known-4 known-5)
+  self-meets : Triple 𝓤 (𝓣 .C #plan·checks·bad-longs) (C0 𝓤 H A mem run) → Triple 𝓤 (𝓣 .C #tables·any-crossed) (C1 𝓤 H A mem run) → Triple 𝓤 (𝓣 .C #lent·planned-load) (C2 𝓤 H A mem run) → Triple 𝓤 (𝓣 .C #plan·way-of) (C3 𝓤 H A mem run) → Triple 𝓤 (𝓣 .C #tables·tc-of) (C4 𝓤 H A mem run) → Triple 𝓤 (𝓣 .C #tables·root-for) (C5 𝓤 H A mem run) → Triple 𝓤 (𝓣 .C #tables·walk-030-for) (C6 𝓤 H A mem run) → Triple 𝓤 (𝓣 .C #lent·concluded-load) (C7 𝓤 H A mem run) → Meets 𝓤 H A self.signature (WpFn 𝓤 H (𝓣 .C) (𝓣 .Λ) code.function) (self.spec 𝓤 H A mem run)
+  self-meets known-0 known-1 known-2 known-3 known-4 known-5 known-6 known-7 = walk-meets 𝓤 H A self.ended stayed W (goes-ref 𝓤 H A W 6 0 tt (plain (λ _. (Array u64 22))), (goes-ref 𝓤 H A W 6 1 tt (plain (λ _. (Array u64 22))), (goes-ref 𝓤 H A W 6 2 tt (plain (λ _. (Array u64 22))), (goes-ref 𝓤 H A W 6 3 tt (plain (λ _. (Array u64 3))), (goes-none-slice 𝓤 H A W 6 (4 ∷ []) tt (plain (λ _. u32)) yes, (goes-none 𝓤 H A W 6 (λ _. u32) yes (λ κs x f. refl), (goes-none-slice 𝓤 H A W 6 (5 ∷ []) tt (plain (λ _. row-Range.the-row)) yes, (goes-none 𝓤 H A W 6 (λ _. row-Registers.the-row) yes (λ κs x f. refl), (goes-none 𝓤 H A W 6 (λ _. u32) yes (λ κs x f. refl), (goes-none 𝓤 H A W 6 (λ _. Boolean) yes (λ κs x f. refl), (goes-none 𝓤 H A W 6 (λ _. u32) yes (λ κs x f. refl), tt))))))))))) (self.clauses 𝓤 H A mem run) (WpFn 𝓤 H (𝓣 .C) (𝓣 .Λ) code.function) (WpFn-mono 𝓤 H (W .laws) 𝓣 code.function) (self-walks known-0 known-1 known-2 known-3 known-4 known-5 known-6 known-7)
 
 pub load-lent-spec : {M : Type 1} → stated.statement M
 unfolding code.routine tablesOf
@@ -387,5 +399,7 @@ load-lent-spec 𝓤 H 𝓜 𝓖 𝓡 =
     (cited 𝓤 H (C1 𝓤 H (𝓖 .A) (𝓜 .mem) (𝓡 .run)) 𝓜 𝓡 code.env #tables·any-crossed c1-def.routine code.calls-tables·any-crossed (c1-thm.met 𝓤 H 𝓜 𝓖 𝓡))
     (cited 𝓤 H (C2 𝓤 H (𝓖 .A) (𝓜 .mem) (𝓡 .run)) 𝓜 𝓡 code.env #lent·planned-load c2-def.routine code.calls-lent·planned-load (c2-thm.met 𝓤 H 𝓜 𝓖 𝓡))
     (cited 𝓤 H (C3 𝓤 H (𝓖 .A) (𝓜 .mem) (𝓡 .run)) 𝓜 𝓡 code.env #plan·way-of c3-def.routine code.calls-plan·way-of (c3-thm.met 𝓤 H 𝓜 𝓖 𝓡))
-    (cited 𝓤 H (C4 𝓤 H (𝓖 .A) (𝓜 .mem) (𝓡 .run)) 𝓜 𝓡 code.env #tables·walk-for c4-def.routine code.calls-tables·walk-for (c4-thm.met 𝓤 H 𝓜 𝓖 𝓡))
-    (cited 𝓤 H (C5 𝓤 H (𝓖 .A) (𝓜 .mem) (𝓡 .run)) 𝓜 𝓡 code.env #lent·concluded-load c5-def.routine code.calls-lent·concluded-load (c5-thm.met 𝓤 H 𝓜 𝓖 𝓡)))
+    (cited 𝓤 H (C4 𝓤 H (𝓖 .A) (𝓜 .mem) (𝓡 .run)) 𝓜 𝓡 code.env #tables·tc-of c4-def.routine code.calls-tables·tc-of (c4-thm.met 𝓤 H 𝓜 𝓖 𝓡))
+    (cited 𝓤 H (C5 𝓤 H (𝓖 .A) (𝓜 .mem) (𝓡 .run)) 𝓜 𝓡 code.env #tables·root-for c5-def.routine code.calls-tables·root-for (c5-thm.met 𝓤 H 𝓜 𝓖 𝓡))
+    (cited 𝓤 H (C6 𝓤 H (𝓖 .A) (𝓜 .mem) (𝓡 .run)) 𝓜 𝓡 code.env #tables·walk-030-for c6-def.routine code.calls-tables·walk-030-for (c6-thm.met 𝓤 H 𝓜 𝓖 𝓡))
+    (cited 𝓤 H (C7 𝓤 H (𝓖 .A) (𝓜 .mem) (𝓡 .run)) 𝓜 𝓡 code.env #lent·concluded-load c7-def.routine code.calls-lent·concluded-load (c7-thm.met 𝓤 H 𝓜 𝓖 𝓡)))

@@ -45,13 +45,17 @@ use Rattle.inquiry.specs.Tested.{shownTested, TestedIn}
 use Rattle.definition.specs.Refusal.{badBase}
 use Rattle.definition.specs.Words.{anyOf}
 use Rattle.definition.specs.Refusal.{crossed}
-use Rattle.tables.specs.Walked.{walksOf}
+use Rattle.tables.specs.Walked.{walks030}
+use Rattle.tables.specs.Choice.{rootBy}
 use Rattle.inquiry.specs.Tested.{planTest, concludeTest}
 use Rattle.definition.specs.declared.Range.{Range}
 use Rattle.definition.proofs.Range as row-Range
 use Rattle.definition.specs.declared.Registers.{Registers}
 use Rattle.definition.proofs.Registers as row-Registers
 use Rattle.definition.proofs.Registers.Laws as law-Registers
+use Rattle.definition.specs.declared.Root.{Root}
+use Rattle.definition.proofs.Root as row-Root
+use Rattle.definition.proofs.Root.Laws as law-Root
 use Rattle.inquiry.specs.declared.test.TestOutcome.{TestOutcome}
 use Rattle.inquiry.proofs.test.TestOutcome as row-TestOutcome
 use Rattle.inquiry.proofs.test.TestOutcome.Laws as law-TestOutcome
@@ -80,14 +84,22 @@ use Rattle.plan.proofs.way_of as c3
 use Rattle.plan.proofs.way_of.Symbol as c3-def
 use Rattle.plan.proofs.way_of.Symbol.{name as #plan·way-of}
 use Rattle.plan.proofs.way_of.Met as c3-thm
-use Rattle.tables.proofs.walk_for as c4
-use Rattle.tables.proofs.walk_for.Symbol as c4-def
-use Rattle.tables.proofs.walk_for.Symbol.{name as #tables·walk-for}
-use Rattle.tables.proofs.walk_for.Met as c4-thm
-use Rattle.inquiry.proofs.test.conclude_test as c5
-use Rattle.inquiry.proofs.test.conclude_test.Symbol as c5-def
+use Rattle.tables.proofs.tc_of as c4
+use Rattle.tables.proofs.tc_of.Symbol as c4-def
+use Rattle.tables.proofs.tc_of.Symbol.{name as #tables·tc-of}
+use Rattle.tables.proofs.tc_of.Met as c4-thm
+use Rattle.tables.proofs.root_for as c5
+use Rattle.tables.proofs.root_for.Symbol as c5-def
+use Rattle.tables.proofs.root_for.Symbol.{name as #tables·root-for}
+use Rattle.tables.proofs.root_for.Met as c5-thm
+use Rattle.tables.proofs.walk_030_for as c6
+use Rattle.tables.proofs.walk_030_for.Symbol as c6-def
+use Rattle.tables.proofs.walk_030_for.Symbol.{name as #tables·walk-030-for}
+use Rattle.tables.proofs.walk_030_for.Met as c6-thm
+use Rattle.inquiry.proofs.test.conclude_test as c7
+use Rattle.inquiry.proofs.test.conclude_test.Symbol as c7-def
 use Rattle.inquiry.proofs.test.conclude_test.Symbol.{name as #inquiry·test·conclude-test}
-use Rattle.inquiry.proofs.test.conclude_test.Met as c5-thm
+use Rattle.inquiry.proofs.test.conclude_test.Met as c7-thm
 use Rattle.mmu.proofs.by_value.test.Key.{name as #mmu·by-value·test}
 use Rattle.mmu.proofs.by_value.test as self
 use Rattle.mmu.proofs.by_value.test.Statement as stated
@@ -222,7 +234,7 @@ module _ {M : Type 1} (𝓤 : URA M) (H : Heap 𝓤) (A : Atoms 𝓤) (W : Given
   said-7 : (a0 : ℕ) (a1 : Plan) (a2 : Walks) (r : TestOutcome) → ent 𝓤 (ensured 𝓤 H A c7.ended (c7.clauses 𝓤 H A mem run) tt (a0, (a1, (a2, tt))) tt r) (fact 𝓤 (TestedIn (concludeTest a0 a1 a2) (r .answer) (r .count)))
   said-7 a0 a1 a2 r = exE 𝓤 _ (λ ws. snd∗ 𝓤 (sem 𝓤 H A (lasts c7.ended tt (a0, (a1, (a2, tt))) ws)) (fact 𝓤 (TestedIn (concludeTest a0 a1 a2) (r .answer) (r .count))))
 
-  module _ (𝓣 : Tables 𝓤 H) (known-0 : Triple 𝓤 (𝓣 .C #plan·checks·bad-longs) (C0 𝓤 H A mem run)) (known-1 : Triple 𝓤 (𝓣 .C #tables·any-crossed) (C1 𝓤 H A mem run)) (known-2 : Triple 𝓤 (𝓣 .C #inquiry·test·plan-test) (C2 𝓤 H A mem run)) (known-3 : Triple 𝓤 (𝓣 .C #plan·way-of) (C3 𝓤 H A mem run)) (known-4 : Triple 𝓤 (𝓣 .C #tables·walk-for) (C4 𝓤 H A mem run)) (known-5 : Triple 𝓤 (𝓣 .C #inquiry·test·conclude-test) (C5 𝓤 H A mem run)) where
+  module _ (𝓣 : Tables 𝓤 H) (known-0 : Triple 𝓤 (𝓣 .C #plan·checks·bad-longs) (C0 𝓤 H A mem run)) (known-1 : Triple 𝓤 (𝓣 .C #tables·any-crossed) (C1 𝓤 H A mem run)) (known-2 : Triple 𝓤 (𝓣 .C #inquiry·test·plan-test) (C2 𝓤 H A mem run)) (known-3 : Triple 𝓤 (𝓣 .C #plan·way-of) (C3 𝓤 H A mem run)) (known-4 : Triple 𝓤 (𝓣 .C #tables·tc-of) (C4 𝓤 H A mem run)) (known-5 : Triple 𝓤 (𝓣 .C #tables·root-for) (C5 𝓤 H A mem run)) (known-6 : Triple 𝓤 (𝓣 .C #tables·walk-030-for) (C6 𝓤 H A mem run)) (known-7 : Triple 𝓤 (𝓣 .C #inquiry·test·conclude-test) (C7 𝓤 H A mem run)) where
     abbrev C : Calls 𝓤 H
     C = 𝓣 .C
 
@@ -303,12 +315,12 @@ module _ {M : Type 1} (𝓤 : URA M) (H : Heap 𝓤) (A : Atoms 𝓤) (W : Given
         by ! (exits r30 (LL.val row-TestOutcome.the-type law-TestOutcome.the-laws r30) (subst (Is row-TestOutcome.the-row r30) (LL.tells row-TestOutcome.the-type law-TestOutcome.the-laws r30 _ is32) is32) (law.tests x4 x5 x8 (memory (now x1) x2 (now x3)) x6 x7 e3 e7 e11 e15 e19 e23 e27 e31))))))))))))))))))))))))))))))))))))))))))))))))))
 
 module _ {M : Type 1} (𝓤 : URA M) (H : Heap 𝓤) (A : Atoms 𝓤) (W : Given 𝓤 H A) (mem : Memory → SProp 𝓤) (run : Routine → Fun 𝓤) (𝓣 : Tables 𝓤 H) where
-  self-walks : Triple 𝓤 (𝓣 .C #plan·checks·bad-longs) (C0 𝓤 H A mem run) → Triple 𝓤 (𝓣 .C #tables·any-crossed) (C1 𝓤 H A mem run) → Triple 𝓤 (𝓣 .C #inquiry·test·plan-test) (C2 𝓤 H A mem run) → Triple 𝓤 (𝓣 .C #plan·way-of) (C3 𝓤 H A mem run) → Triple 𝓤 (𝓣 .C #tables·walk-for) (C4 𝓤 H A mem run) → Triple 𝓤 (𝓣 .C #inquiry·test·conclude-test) (C5 𝓤 H A mem run) → AllWalks 𝓤 H A self.ended stayed (WpFn 𝓤 H (𝓣 .C) (𝓣 .Λ) code.function) (self.clauses 𝓤 H A mem run)
-  self-walks known-0 known-1 known-2 known-3 known-4 known-5 = walked 𝓤 H A self.ended stayed (self.clauses 𝓤 H A mem run) (WpFn 𝓤 H (𝓣 .C) (𝓣 .Λ) code.function) (λ κs. (slice-vals, (uint-vals w32, (slice-vals, (LL.vals row-Registers.the-type law-Registers.the-laws, (uint-vals w32, (bool-vals, (uint-vals w32, (uint-vals w32, tt))))))))) (λ κs. (shr-slice-tells (named 0) (κs .0) u32, (uint-tells w32, (shr-slice-tells (named 1) (κs .1 .0) row-Range.the-row, (LL.tells row-Registers.the-type law-Registers.the-laws, (uint-tells w32, (bool-tells, (uint-tells w32, (uint-tells w32, tt)))))))))
-      (λ κs qs bounds a g are. via 𝓤 _ (fst∗ 𝓤 _ (emp 𝓤)) (walk 𝓤 H A W mem run (κs .0) (κs .1 .0) (qs .0) (qs .1 .0) (a .0) (a .1 .0) (a .1 .1 .0) (a .1 .1 .1 .0) (a .1 .1 .1 .1 .0) (a .1 .1 .1 .1 .1 .0) (a .1 .1 .1 .1 .1 .1 .0) (a .1 .1 .1 .1 .1 .1 .1 .0) (are .0) (are .1 .0) (are .1 .1 .0) (are .1 .1 .1 .0) (are .1 .1 .1 .1 .0) (are .1 .1 .1 .1 .1 .0) (are .1 .1 .1 .1 .1 .1 .0) (are .1 .1 .1 .1 .1 .1 .1 .0) 𝓣 known-0 known-1 known-2 known-3 known-4 known-5))
+  self-walks : Triple 𝓤 (𝓣 .C #plan·checks·bad-longs) (C0 𝓤 H A mem run) → Triple 𝓤 (𝓣 .C #tables·any-crossed) (C1 𝓤 H A mem run) → Triple 𝓤 (𝓣 .C #inquiry·test·plan-test) (C2 𝓤 H A mem run) → Triple 𝓤 (𝓣 .C #plan·way-of) (C3 𝓤 H A mem run) → Triple 𝓤 (𝓣 .C #tables·tc-of) (C4 𝓤 H A mem run) → Triple 𝓤 (𝓣 .C #tables·root-for) (C5 𝓤 H A mem run) → Triple 𝓤 (𝓣 .C #tables·walk-030-for) (C6 𝓤 H A mem run) → Triple 𝓤 (𝓣 .C #inquiry·test·conclude-test) (C7 𝓤 H A mem run) → AllWalks 𝓤 H A self.ended stayed (WpFn 𝓤 H (𝓣 .C) (𝓣 .Λ) code.function) (self.clauses 𝓤 H A mem run)
+  self-walks known-0 known-1 known-2 known-3 known-4 known-5 known-6 known-7 = walked 𝓤 H A self.ended stayed (self.clauses 𝓤 H A mem run) (WpFn 𝓤 H (𝓣 .C) (𝓣 .Λ) code.function) (λ κs. (slice-vals, (uint-vals w32, (slice-vals, (LL.vals row-Registers.the-type law-Registers.the-laws, (uint-vals w32, (bool-vals, (uint-vals w32, (uint-vals w32, tt))))))))) (λ κs. (shr-slice-tells (named 0) (κs .0) u32, (uint-tells w32, (shr-slice-tells (named 1) (κs .1 .0) row-Range.the-row, (LL.tells row-Registers.the-type law-Registers.the-laws, (uint-tells w32, (bool-tells, (uint-tells w32, (uint-tells w32, tt)))))))))
+      (λ κs qs bounds a g are. via 𝓤 _ (fst∗ 𝓤 _ (emp 𝓤)) (walk 𝓤 H A W mem run (κs .0) (κs .1 .0) (qs .0) (qs .1 .0) (a .0) (a .1 .0) (a .1 .1 .0) (a .1 .1 .1 .0) (a .1 .1 .1 .1 .0) (a .1 .1 .1 .1 .1 .0) (a .1 .1 .1 .1 .1 .1 .0) (a .1 .1 .1 .1 .1 .1 .1 .0) (are .0) (are .1 .0) (are .1 .1 .0) (are .1 .1 .1 .0) (are .1 .1 .1 .1 .0) (are .1 .1 .1 .1 .1 .0) (are .1 .1 .1 .1 .1 .1 .0) (are .1 .1 .1 .1 .1 .1 .1 .0) 𝓣 known-0 known-1 known-2 known-3 known-4 known-5 known-6 known-7))
 
-  self-meets : Triple 𝓤 (𝓣 .C #plan·checks·bad-longs) (C0 𝓤 H A mem run) → Triple 𝓤 (𝓣 .C #tables·any-crossed) (C1 𝓤 H A mem run) → Triple 𝓤 (𝓣 .C #inquiry·test·plan-test) (C2 𝓤 H A mem run) → Triple 𝓤 (𝓣 .C #plan·way-of) (C3 𝓤 H A mem run) → Triple 𝓤 (𝓣 .C #tables·walk-for) (C4 𝓤 H A mem run) → Triple 𝓤 (𝓣 .C #inquiry·test·conclude-test) (C5 𝓤 H A mem run) → Meets 𝓤 H A self.signature (WpFn 𝓤 H (𝓣 .C) (𝓣 .Λ) code.function) (self.spec 𝓤 H A mem run)
-  self-meets known-0 known-1 known-2 known-3 known-4 known-5 = walk-meets 𝓤 H A self.ended stayed W (goes-none-slice 𝓤 H A W 2 (0 ∷ []) tt (plain (λ _. u32)) yes, (goes-none 𝓤 H A W 2 (λ _. u32) yes (λ κs x f. refl), (goes-none-slice 𝓤 H A W 2 (1 ∷ []) tt (plain (λ _. row-Range.the-row)) yes, (goes-none 𝓤 H A W 2 (λ _. row-Registers.the-row) yes (λ κs x f. refl), (goes-none 𝓤 H A W 2 (λ _. u32) yes (λ κs x f. refl), (goes-none 𝓤 H A W 2 (λ _. Boolean) yes (λ κs x f. refl), (goes-none 𝓤 H A W 2 (λ _. u32) yes (λ κs x f. refl), (goes-none 𝓤 H A W 2 (λ _. u32) yes (λ κs x f. refl), tt)))))))) (self.clauses 𝓤 H A mem run) (WpFn 𝓤 H (𝓣 .C) (𝓣 .Λ) code.function) (WpFn-mono 𝓤 H (W .laws) 𝓣 code.function) (self-walks known-0 known-1 known-2 known-3 known-4 known-5)
+  self-meets : Triple 𝓤 (𝓣 .C #plan·checks·bad-longs) (C0 𝓤 H A mem run) → Triple 𝓤 (𝓣 .C #tables·any-crossed) (C1 𝓤 H A mem run) → Triple 𝓤 (𝓣 .C #inquiry·test·plan-test) (C2 𝓤 H A mem run) → Triple 𝓤 (𝓣 .C #plan·way-of) (C3 𝓤 H A mem run) → Triple 𝓤 (𝓣 .C #tables·tc-of) (C4 𝓤 H A mem run) → Triple 𝓤 (𝓣 .C #tables·root-for) (C5 𝓤 H A mem run) → Triple 𝓤 (𝓣 .C #tables·walk-030-for) (C6 𝓤 H A mem run) → Triple 𝓤 (𝓣 .C #inquiry·test·conclude-test) (C7 𝓤 H A mem run) → Meets 𝓤 H A self.signature (WpFn 𝓤 H (𝓣 .C) (𝓣 .Λ) code.function) (self.spec 𝓤 H A mem run)
+  self-meets known-0 known-1 known-2 known-3 known-4 known-5 known-6 known-7 = walk-meets 𝓤 H A self.ended stayed W (goes-none-slice 𝓤 H A W 2 (0 ∷ []) tt (plain (λ _. u32)) yes, (goes-none 𝓤 H A W 2 (λ _. u32) yes (λ κs x f. refl), (goes-none-slice 𝓤 H A W 2 (1 ∷ []) tt (plain (λ _. row-Range.the-row)) yes, (goes-none 𝓤 H A W 2 (λ _. row-Registers.the-row) yes (λ κs x f. refl), (goes-none 𝓤 H A W 2 (λ _. u32) yes (λ κs x f. refl), (goes-none 𝓤 H A W 2 (λ _. Boolean) yes (λ κs x f. refl), (goes-none 𝓤 H A W 2 (λ _. u32) yes (λ κs x f. refl), (goes-none 𝓤 H A W 2 (λ _. u32) yes (λ κs x f. refl), tt)))))))) (self.clauses 𝓤 H A mem run) (WpFn 𝓤 H (𝓣 .C) (𝓣 .Λ) code.function) (WpFn-mono 𝓤 H (W .laws) 𝓣 code.function) (self-walks known-0 known-1 known-2 known-3 known-4 known-5 known-6 known-7)
 
 pub test-spec : {M : Type 1} → stated.statement M
 unfolding code.routine tablesOf
@@ -320,5 +332,7 @@ test-spec 𝓤 H 𝓜 𝓖 𝓡 =
     (cited 𝓤 H (C1 𝓤 H (𝓖 .A) (𝓜 .mem) (𝓡 .run)) 𝓜 𝓡 code.env #tables·any-crossed c1-def.routine code.calls-tables·any-crossed (c1-thm.met 𝓤 H 𝓜 𝓖 𝓡))
     (cited 𝓤 H (C2 𝓤 H (𝓖 .A) (𝓜 .mem) (𝓡 .run)) 𝓜 𝓡 code.env #inquiry·test·plan-test c2-def.routine code.calls-inquiry·test·plan-test (c2-thm.met 𝓤 H 𝓜 𝓖 𝓡))
     (cited 𝓤 H (C3 𝓤 H (𝓖 .A) (𝓜 .mem) (𝓡 .run)) 𝓜 𝓡 code.env #plan·way-of c3-def.routine code.calls-plan·way-of (c3-thm.met 𝓤 H 𝓜 𝓖 𝓡))
-    (cited 𝓤 H (C4 𝓤 H (𝓖 .A) (𝓜 .mem) (𝓡 .run)) 𝓜 𝓡 code.env #tables·walk-for c4-def.routine code.calls-tables·walk-for (c4-thm.met 𝓤 H 𝓜 𝓖 𝓡))
-    (cited 𝓤 H (C5 𝓤 H (𝓖 .A) (𝓜 .mem) (𝓡 .run)) 𝓜 𝓡 code.env #inquiry·test·conclude-test c5-def.routine code.calls-inquiry·test·conclude-test (c5-thm.met 𝓤 H 𝓜 𝓖 𝓡)))
+    (cited 𝓤 H (C4 𝓤 H (𝓖 .A) (𝓜 .mem) (𝓡 .run)) 𝓜 𝓡 code.env #tables·tc-of c4-def.routine code.calls-tables·tc-of (c4-thm.met 𝓤 H 𝓜 𝓖 𝓡))
+    (cited 𝓤 H (C5 𝓤 H (𝓖 .A) (𝓜 .mem) (𝓡 .run)) 𝓜 𝓡 code.env #tables·root-for c5-def.routine code.calls-tables·root-for (c5-thm.met 𝓤 H 𝓜 𝓖 𝓡))
+    (cited 𝓤 H (C6 𝓤 H (𝓖 .A) (𝓜 .mem) (𝓡 .run)) 𝓜 𝓡 code.env #tables·walk-030-for c6-def.routine code.calls-tables·walk-030-for (c6-thm.met 𝓤 H 𝓜 𝓖 𝓡))
+    (cited 𝓤 H (C7 𝓤 H (𝓖 .A) (𝓜 .mem) (𝓡 .run)) 𝓜 𝓡 code.env #inquiry·test·conclude-test c7-def.routine code.calls-inquiry·test·conclude-test (c7-thm.met 𝓤 H 𝓜 𝓖 𝓡)))
