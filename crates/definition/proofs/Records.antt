@@ -198,14 +198,14 @@ traces-independent g l l′ u u′ e s t =
 
 -- ---- a file's records
 -- the bytes are the lines of the records, and then `end`, refusal 7, or nothing where `most` is used up
-pub record Shows (s : State) (l : List Record) (b : List ℕ) : Type 0 where
+pub record Lines (s : State) (l : List Record) (b : List ℕ) : Type 0 where
   pub last : List ℕ
   pub one : In last (ending ∷ text malformedLine ∷ [] ∷ [])
   pub is : b ≡ texts (linesFrom s l) ++ last
 
-shows-more : (s : State) (r : Record) (l : List Record) (b : List ℕ) → Shows (stepOf s r .state) l b → Shows s (r ∷ l) (text (stepOf s r .line) ++ b)
+lines-more : (s : State) (r : Record) (l : List Record) (b : List ℕ) → Lines (stepOf s r .state) l b → Lines s (r ∷ l) (text (stepOf s r .line) ++ b)
 unfolding linesFrom
-shows-more s r l b k =
+lines-more s r l b k =
     record {
       last = k .last;
       one = k .one;
@@ -214,29 +214,29 @@ shows-more s r l b k =
           ∙ sym (append-assoc (text (stepOf s r .line)) (texts (linesFrom (stepOf s r .state) l)) (k .last));
     }
 
-shows-last : (s : State) (last : List ℕ) → In last (ending ∷ text malformedLine ∷ [] ∷ []) → Shows s [] last
+lines-last : (s : State) (last : List ℕ) → In last (ending ∷ text malformedLine ∷ [] ∷ []) → Lines s [] last
 unfolding linesFrom
-shows-last s last i = record { last = last; one = i; is = refl }
+lines-last s last i = record { last = last; one = i; is = refl }
 
 module _ (s : State) (records : List ℕ → List Record) (plays : State → List ℕ → List ℕ)
-    (shows : (t : State) (rest : List ℕ) → Shows t (records rest) (plays t rest)) where
+    (lines : (t : State) (rest : List ℕ) → Lines t (records rest) (plays t rest)) where
   on-record : (bad : Bool) (r : Record) (rest : List ℕ)
-      → Shows s (if bad then [] else r ∷ records rest) (if bad then text malformedLine else text (stepOf s r .line) ++ plays (stepOf s r .state) rest)
-  on-record true r rest = shows-last s (text malformedLine) (inr (inl refl))
-  on-record false r rest = shows-more s r (records rest) (plays (stepOf s r .state) rest) (shows (stepOf s r .state) rest)
+      → Lines s (if bad then [] else r ∷ records rest) (if bad then text malformedLine else text (stepOf s r .line) ++ plays (stepOf s r .state) rest)
+  on-record true r rest = lines-last s (text malformedLine) (inr (inl refl))
+  on-record false r rest = lines-more s r (records rest) (plays (stepOf s r .state) rest) (lines (stepOf s r .state) rest)
 
-  on-front : (f : Front) → Shows s (inFront records f) (onFront s plays f)
-  on-front Ended = shows-last s ending (inl refl)
+  on-front : (f : Front) → Lines s (inFront records f) (onFront s plays f)
+  on-front Ended = lines-last s ending (inl refl)
   on-front (Body body rest) = on-record (isMalformed (recordOf body)) (recordOf body) rest
-  on-front Short = shows-last s (text malformedLine) (inr (inl refl))
+  on-front Short = lines-last s (text malformedLine) (inr (inl refl))
 
-plays-from : (most : ℕ) (s : State) (b : List ℕ) → Shows s (recordsFrom most b) (playFrom most s b)
+plays-from : (most : ℕ) (s : State) (b : List ℕ) → Lines s (recordsFrom most b) (playFrom most s b)
 unfolding recordsFrom playFrom
-plays-from zero s b = shows-last s [] (inr (inr (inl refl)))
+plays-from zero s b = lines-last s [] (inr (inr (inl refl)))
 plays-from (suc most) s b =
     on-front s (λ rest. recordsFrom most rest) (λ t rest. playFrom most t rest) (λ t rest. plays-from most t rest) (frontOf b)
 
 -- a file prints v1 and the lines of its records, from the first state
-pub file-lines : (b : List ℕ) → (out : List ℕ) × ((play (1 ∷ b) ≡ 118 ∷ 49 ∷ newline ++ out) × Shows firstState (recordsOf b) out)
+pub file-lines : (b : List ℕ) → (out : List ℕ) × ((play (1 ∷ b) ≡ 118 ∷ 49 ∷ newline ++ out) × Lines firstState (recordsOf b) out)
 unfolding play
 file-lines b = (playFrom (suc (length b)) firstState b, (refl, plays-from (suc (length b)) firstState b))
