@@ -1,9 +1,10 @@
--- The premises of demand 3 can be met by replays that differ in all else, and hits are what it speaks of: one pair of replays, by computation.
+-- The premises of demand 3 can be met by replays that differ in all else, and hits are what it speaks of: one pair of replays and one of traces, by computation.
 -- Assumes nothing.
 use Prim.Native.Nat.{ℕ}
 use mathlib.Core.Path.{_≡_, refl}
-use mathlib.Core.List.{List, [], _∷_, _++_}
-use mathlib.Core.Bool.{true, false}
+use mathlib.Core.List.{List, [], _∷_, _++_, map}
+use mathlib.Core.Bool.{true, false, false≢true}
+use lib.ListN.{set, replicate}
 use Rattle.definition.specs.Words.{anyOf, firstOf}
 use Rattle.definition.specs.Memory.{Memory, memory, fetchOf, touchesOf}
 use Rattle.definition.specs.Transparent.{transparent}
@@ -14,14 +15,17 @@ use Rattle.definition.specs.Refusal.{refusalOf}
 use Rattle.definition.specs.Translate.{emptyCaches, search030, translate030, inOrder, translateChecks, translate, cacheless}
 use Rattle.definition.specs.Load.{loadInOrder, load}
 use Rattle.definition.specs.Flush.{flushFrame}
-use Rattle.definition.specs.Calls.{access, loading, testing, flushingFrame, calling}
+use Rattle.definition.specs.Calls.{access, loading, testing, flushingFrame, A, L, K, calling}
+use Rattle.definition.specs.Trace.{Loads, Calls, Stores, Adds, stepOf, firstState}
 use Rattle.definition.specs.Replay.{Moment, watched, other, memoryAt, afterAll, answersFrom, answers, watchedOf, Steady, Accepted}
+use Rattle.definition.specs.Records.{linesFrom, Marked, watching, plainly, recordIn, momentsOf, Under, prints}
 use Rattle.definition.specs.declared.Registers.{Registers}
 use Rattle.definition.specs.declared.Access.{Access}
 use Rattle.definition.specs.declared.Override.{Override}
 use Rattle.definition.specs.declared.Translation.the-variants.{Address}
 use Rattle.definition.proofs.Lists.{All, all-at}
 use Rattle.definition.proofs.Independence.{Pair, pairsOf, in-pairs, independence}
+use Rattle.definition.proofs.Records.{traces-independent}
 
 -- ---- the premises, as what computes on given lists
 -- each of these longs reads at a moment as in m
@@ -127,3 +131,58 @@ asked-after = refl
 pub answered : answers registers busy ≡ Address 0x56ABC ∷ []
 unfolding answersFrom afterAll calling load loadInOrder flushFrame flushedFrame flushedPage translate inOrder transparent translate030 search030 hitOf matching firstOf walkFrom readOf widthsOf refusalOf anyOf touchesOf afterHit inserted victim shifted rested oldest
 answered = refl
+
+-- ---- the same of two traces, from the program's first state
+abbrev alone : List Marked
+alone = plainly (Loads registers) ∷ plainly (Stores 4 0x55001) ∷ watching (reading 0x11ABC) ∷ []
+
+-- registers and long in the other order, a PLOAD of the page, another long, a bus-error range, and then the same access
+abbrev among : List Marked
+among =
+    plainly (Stores 4 0x55001)
+    ∷ plainly (Loads registers)
+    ∷ plainly (Calls (loading 1 false 0x1F000))
+    ∷ plainly (Stores 0 7)
+    ∷ plainly (Adds (record { first = 0x100; last = 0x1FF }))
+    ∷ watching (reading 0x11ABC)
+    ∷ []
+
+no-call : {X : Type 0} → false ≡ true → X
+no-call e = absurd (false≢true e)
+
+under-alone : Under registers firstState alone
+unfolding Under stepOf refusalOf
+under-alone = (no-call, (no-call, ((λ e. refl), tt)))
+
+under-among : Under registers firstState among
+unfolding Under stepOf refusalOf calling load
+under-among = (no-call, (no-call, ((λ e. refl), (no-call, (no-call, ((λ e. refl), tt))))))
+
+abbrev both : List Moment
+both = momentsOf firstState alone ++ momentsOf firstState among
+
+-- the long that the access asks for reads as it does now at each of the three calls
+still : All (Alike (4 ∷ []) (memory (set (replicate 8192 0) 1 0x55001) 0 [])) both
+unfolding momentsOf stepOf refusalOf anyOf touchesOf
+still = ((refl, tt), ((refl, tt), ((refl, tt), tt)))
+
+traces-steady : Steady registers both
+unfolding momentsOf stepOf pairsOf translate inOrder transparent translate030 search030 hitOf afterHit matching firstOf walkFrom readOf widthsOf refusalOf anyOf touchesOf
+traces-steady = steady-by registers both (still, (still, tt))
+
+traces-accepted : Accepted registers both
+unfolding momentsOf stepOf pairsOf refusalOf anyOf
+traces-accepted = accepted-by registers both (refl, (refl, tt))
+
+pub traces-alike : prints firstState alone ≡ prints firstState among
+unfolding momentsOf watchedOf
+traces-alike = traces-independent registers alone among under-alone under-among refl traces-steady traces-accepted .0
+
+-- the two print the access alike but for the count
+pub printed-alone : linesFrom firstState (map recordIn alone) ≡ K ∷ K ∷ A 0x56ABC 1 ∷ []
+unfolding linesFrom stepOf calling translate inOrder transparent translate030 search030 hitOf matching firstOf walkFrom readOf widthsOf refusalOf anyOf afterHit
+printed-alone = refl
+
+pub printed-among : linesFrom firstState (map recordIn among) ≡ K ∷ K ∷ L 1 ∷ K ∷ K ∷ A 0x56ABC 0 ∷ []
+unfolding linesFrom stepOf calling load loadInOrder flushedPage translate inOrder transparent translate030 search030 hitOf matching firstOf walkFrom readOf widthsOf refusalOf anyOf touchesOf afterHit inserted victim shifted rested oldest
+printed-among = refl
