@@ -119,5 +119,4 @@ FUNCTIONS = {
         ends=chosen,
     ),
     'walk_kept': kept(3, 4, lambda facts: f'{facts("walk_for")} ∙ ap (λ (l : List Range). walksOf (memory (now x1) x2 l) x5 x6 x7)'),
-    'any_crossed_kept': kept(1, 2, lambda facts: f'{facts("any_crossed")} ∙ ap (anyOf crossed)'),
 }

@@ -992,14 +992,6 @@ pub fn walk_kept(
     walk_for(longs, base, &list[..m], g, address, way)
 }
 
-// Refusal 3 of the same ranges.
-pub fn any_crossed_kept(list: [Range; 16], n: usize) -> bool
-    ensures { λ r. ⌜ r ≡ anyOf crossed (take n list) ⌝ }
-{
-    let m = of_sixteen(n);
-    any_crossed(&list[..m])
-}
-
 // ---- What a page gives.
 
 // The low 32 - consumed bits of the address (0 if consumed is 32 or more).
