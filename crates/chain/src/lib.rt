@@ -1,1 +1,1 @@
-// Demand 3 of document 01 for the calls in place: what a chain of them answers (specs/Chain.antt, proofs/Watched.antt). It has no code.
+// Demand 3 for the calls in place: what a chain of them answers (specs/Chain.antt, proofs/Watched.antt). It has no code.

@@ -94,31 +94,9 @@ pub read-two : (m : Memory) (at : ℕ) (long : Bool) {f : Fetched} {a : Bool} {n
 unfolding readOf
 read-two m at long {f} {a} {n} {g} {d} ef ea h en eg ed = ed ∙ ap (ofTwo at f) (eg ∙ ap (fetchOf m) en) ∙ two-is m at long f (sym ea ∙ T-false a h) ∙ rw ef
 
--- the four widths up to the first zero, added up
-module _ (tc : ℕ) where
-  pub sum-none : tc / 2 ^ 12 % 16 ≡ 0 → 0 ≡ sumOf (used (widthsOf tc))
-  unfolding widthsOf
-  sum-none h = rw (eq-eqb (tc / 2 ^ 12 % 16) 0 h)
-
-  module _ (h : tc / 2 ^ 12 % 16 ≡ 0 → ⊥) where
-    pub sum-one : tc / 2 ^ 8 % 16 ≡ 0 → tc / 2 ^ 12 % 16 ≡ sumOf (used (widthsOf tc))
-    unfolding widthsOf
-    sum-one k = rw (ne-eqb (tc / 2 ^ 12 % 16) 0 h, eq-eqb (tc / 2 ^ 8 % 16) 0 k) (omega arith)
-
-    module _ (k : tc / 2 ^ 8 % 16 ≡ 0 → ⊥) where
-      pub sum-two : tc / 2 ^ 4 % 16 ≡ 0 → tc / 2 ^ 12 % 16 + tc / 2 ^ 8 % 16 ≡ sumOf (used (widthsOf tc))
-      unfolding widthsOf
-      sum-two l = rw (ne-eqb (tc / 2 ^ 12 % 16) 0 h, ne-eqb (tc / 2 ^ 8 % 16) 0 k, eq-eqb (tc / 2 ^ 4 % 16) 0 l) (omega arith)
-
-      pub sum-all : (tc / 2 ^ 4 % 16 ≡ 0 → ⊥) → tc / 2 ^ 12 % 16 + tc / 2 ^ 8 % 16 + tc / 2 ^ 4 % 16 + tc % 16 ≡ sumOf (used (widthsOf tc))
-      unfolding widthsOf
-      sum-all l =
-          rw (ne-eqb (tc / 2 ^ 12 % 16) 0 h, ne-eqb (tc / 2 ^ 8 % 16) 0 k, ne-eqb (tc / 2 ^ 4 % 16) 0 l)
-          (omega (arith, go (tc % 16) (decLe (tc % 16) 0)))
-        where
-          go : (d : ℕ) → Dec (d ≤ 0) → sumOf (used (d ∷ [])) ≡ d
-          go d (yes z) = rw (eq-eqb d 0 (omega arith)) (omega arith)
-          go d (no z) = rw (ne-eqb d 0 (λ e. z (omega arith))) (omega arith)
+-- the sum of the widths from k on
+pub sum-more : (l : List ℕ) (k : ℕ) → k < length l → sumOf (drop k l) ≡ getD l k 0 + sumOf (drop (k + 1) l)
+sum-more l k h = rw (drop-cons l k 0, add-one)
 
 -- left and right again by the same number keeps the low bits
 pub low-shift : (a c : ℕ) → c < 32 → a * 2 ^ c % 2 ^ 32 / 2 ^ c ≡ a % 2 ^ (32 - c)

@@ -9,7 +9,7 @@ ghost use Rattle.definition.specs.Words.{bitOf, anyOf};
 ghost use Rattle.definition.specs.Memory.{memory, touchesOf, inRanges, fetchWith, fetchOf};
 ghost use Rattle.definition.specs.Refusal.{crossed};
 ghost use Rattle.definition.specs.Registers.{rootOf};
-ghost use Rattle.definition.specs.Walk030.{entryOf, shortOf, readOf, widthsOf, used, sumOf, topIndex, outcomeOf, lowOf, physicalOf, shiftOf};
+ghost use Rattle.definition.specs.Walk030.{entryOf, shortOf, readOf, widthsOf, used, topIndex, outcomeOf, lowOf, physicalOf, shiftOf};
 ghost use Rattle.definition.specs.Walk040.{rootAt, pointerAt, pageAt, pageBits, frameOf, physical040};
 ghost use Rattle.definition.specs.Translate.{baseOf, hitAddress, joined};
 ghost use Rattle.tables.specs.Walked.{shown, shown040, walk040From, walks030, walksOf};
@@ -1012,30 +1012,16 @@ pub fn physical(field: u32, consumed: u32, address: u32) -> u32
     (((field - field % 256) as u64 + low as u64) % 4294967296) as u32
 }
 
-// The widths up to the first zero, added up. There is no loop: a hit comes here too.
-fn widths_sum(tc: u32) -> u32
-    ensures { λ r. ⌜ (r ≡ sumOf (used (widthsOf tc))) × (r < 61) ⌝ }
-{
-    let tia = (tc >> 12) % 16;
-    if tia == 0 {
-        return 0;
-    }
-    let tib = (tc >> 8) % 16;
-    if tib == 0 {
-        return tia;
-    }
-    let tic = (tc >> 4) % 16;
-    if tic == 0 {
-        return tia + tib;
-    }
-    tia + tib + tic + tc % 16
-}
-
 // The page shift is 32 - (IS + levels up to the first zero) if that sum is 1 to 31; else nothing is cached.
 pub fn page_shift(tc: u32) -> Shift
     ensures { λ r. ⌜ r ≡ shiftOf tc ⌝ }
 {
-    let sum = (tc >> 16) % 16 + widths_sum(tc);
+    let ws = widths(tc);
+    let n = level_count(ws);
+    let mut sum = (tc >> 16) % 16;
+    for k in 0..n {
+        sum += ws[k];
+    }
     match sum {
         1..=31 => Shift::Bits(32 - sum),
         _ => Shift::NoPage,
