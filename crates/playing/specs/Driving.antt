@@ -1,4 +1,5 @@
--- What the driver promises of the bytes that wait in its buffer: no record is lost, and none is played twice.
+-- What the driver promises of the bytes that stand in its buffer: no record of them is lost, and none is played twice.
+-- Which bytes a read brought, and that all of them are counted, is not said: no contract of `libc` speaks of them.
 use Prim.Native.Nat.{ℕ}
 use mathlib.Core.Path.{_≡_}
 use mathlib.Core.Bool.{Bool, true, false}
@@ -28,7 +29,7 @@ pub record Went (n : Next) (s : State) (b : List ℕ) (s′ : State) (read : ℕ
 pub record Waits (on : Bool) (s : State) (b : List ℕ) (s′ : State) (buffer : List ℕ) (have : ℕ) : Type 0 where
   pub plays : on ≡ true → Plays s b s′ (take have buffer)
 
--- after a read, what is left of b and of some bytes more
+-- after a read, what is left of b and of some bytes behind it, whichever they are
 pub record Came (s : State) (b : List ℕ) (s′ : State) (rest : List ℕ) : Type 0 where
   pub came : List ℕ
   pub plays : Plays s (b ++ came) s′ rest
