@@ -6,14 +6,14 @@ def memory(longs):
     return f'(memory (now x{longs}) x{longs + 1} (now x{longs + 2}))'
 
 
-# x10 are the registers, x11 the flags, x12 the override, x13 the address
+# x6 are the registers, x7 the flags, x8 the override, x9 the address
 def translated(facts):
-    return f'law.translates (now x10) {facts("registers_of")} {memory(7)} x11 x12 x13 _ {facts("access_of", "translate_lent", "tell_translation")}'
+    return f'law.translates (now x6) {facts("registers_of")} {memory(3)} x7 x8 x9 _ {facts("access_of", "translate_lent", "tell_translation")}'
 
 
-# x8 are the registers, x9 the code, x10 whether it is a write, x11 the address
+# x5 are the registers, x6 the code, x7 whether it is a write, x8 the address
 def loaded(facts):
-    return f'law.loads (now x8) {facts("registers_of")} {memory(5)} x9 x10 x11 _ {facts("load_lent", "tell_load")}'
+    return f'law.loads (now x5) {facts("registers_of")} {memory(2)} x6 x7 x8 _ {facts("load_lent", "tell_load")}'
 
 
 # x4 are the registers, x5 the code, x6 whether it is a write, x7 the level, x8 the address

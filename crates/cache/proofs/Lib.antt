@@ -1,6 +1,7 @@
 pub mod Lists
 pub mod Flags
 pub mod Entries
+pub mod Parts
 pub mod Laws030
 pub mod Slots
 pub mod Pairs

@@ -48,8 +48,12 @@ module _ (p : ℕ → Bool) where
       (ap suc (first-no xs (λ k q. f (suc k) (suc-le-suc q))))
 
   -- r is the first of n that passes
-  pub first-is : (l : List ℕ) (n r : ℕ) → length l ≡ n → r < n → p (getD l r 0) ≡ true → ((k : ℕ) → k < r → p (getD l k 0) ≡ false) → r ≡ firstOf p l
-  first-is l n r e h t f = sym (first-at l r (rw e h) t f)
+  pub first-is : (l : List ℕ) (n r y : ℕ) → length l ≡ n → r < n → y ≡ getD l r 0 → p y ≡ true → ((k : ℕ) → k < r → p (getD l k 0) ≡ false) → r ≡ firstOf p l
+  first-is l n r y e h a t f = sym (first-at l r (rw e h) (rw a at t) f)
+
+  -- one more does not pass
+  pub first-past : (l : List ℕ) (i y : ℕ) → y ≡ getD l i 0 → p y ≡ false → ((k : ℕ) → k < i → p (getD l k 0) ≡ false) → (k : ℕ) → k < i + 1 → p (getD l k 0) ≡ false
+  first-past l i y a t f = below-more (λ (k : ℕ). p (getD l k 0) ≡ false) i f (rw a at t)
 
   -- none of n passes
   pub first-none : (l : List ℕ) (n i : ℕ) → length l ≡ n → n ≤ i → ((k : ℕ) → k < i → p (getD l k 0) ≡ false) → n ≡ firstOf p l
@@ -66,13 +70,13 @@ module _ (p : ℕ → Bool) where
         let e : suc (i - 1) ≡ i = omega arith in
         rw (drop-cons l (i - 1) 0 (omega arith), e)
 
-    pub down-here : p (getD l (i - 1) 0) ≡ true → i - 1 ≡ i - 1 + firstOf p (drop (i - 1) l)
+    pub down-here : (y : ℕ) → y ≡ getD l (i - 1) 0 → p y ≡ true → i - 1 ≡ i - 1 + firstOf p (drop (i - 1) l)
     unfolding firstOf
-    down-here t = rw (down-cons, t) (omega arith)
+    down-here y a t = rw (down-cons, ← a, t) (omega arith)
 
-    pub down-past : (found : ℕ) → p (getD l (i - 1) 0) ≡ false → found ≡ i + firstOf p (drop i l) → found ≡ i - 1 + firstOf p (drop (i - 1) l)
+    pub down-past : (found y : ℕ) → y ≡ getD l (i - 1) 0 → p y ≡ false → found ≡ i + firstOf p (drop i l) → found ≡ i - 1 + firstOf p (drop (i - 1) l)
     unfolding firstOf
-    down-past found t e = rw (down-cons, t) (omega arith)
+    down-past found y a t e = rw (down-cons, ← a, t) (omega arith)
 
   pub down-all : (l : List ℕ) (i found : ℕ) → i ≤ 0 → found ≡ i + firstOf p (drop i l) → found ≡ firstOf p l
   down-all l i found h e =
@@ -106,14 +110,14 @@ module _ (p : ℕ → Bool) where
   pub count-start : (l : List ℕ) → Counted l 0 0
   count-start l = record { at-most = zero-le; rest = zero-add (countOf p l) }
 
-  pub count-one : (l : List ℕ) (i n : ℕ) → i < length l → p (getD l i 0) ≡ true → Counted l i n → Counted l (i + 1) (n + 1)
-  count-one l i n h t r =
-      let e = rw t at (count-step l i h) in
+  pub count-one : (l : List ℕ) (i n y : ℕ) → i < length l → y ≡ getD l i 0 → p y ≡ true → Counted l i n → Counted l (i + 1) (n + 1)
+  count-one l i n y h a t r =
+      let e = rw (← a, t) at (count-step l i h) in
       record { at-most = omega (arith, r .at-most); rest = omega (arith, r .rest, e) }
 
-  pub count-skip : (l : List ℕ) (i n : ℕ) → i < length l → p (getD l i 0) ≡ false → Counted l i n → Counted l (i + 1) n
-  count-skip l i n h t r =
-      let e = rw t at (count-step l i h) in
+  pub count-skip : (l : List ℕ) (i n y : ℕ) → i < length l → y ≡ getD l i 0 → p y ≡ false → Counted l i n → Counted l (i + 1) n
+  count-skip l i n y h a t r =
+      let e = rw (← a, t) at (count-step l i h) in
       record { at-most = omega (arith, r .at-most); rest = omega (arith, r .rest, e) }
 
   pub count-is : (l : List ℕ) (i n : ℕ) → length l ≤ i → Counted l i n → n ≡ countOf p l
@@ -127,36 +131,36 @@ pub record Least (l : List ℕ) (i b x : ℕ) : Type 0 where
   pub lows : (k : ℕ) → k < i → x ≤ getD l k 0
   pub first : (k : ℕ) → k < b → x < getD l k 0
 
-pub least-start : (l : List ℕ) → Least l 1 0 (getD l 0 0)
-least-start l =
+pub least-start : (l : List ℕ) (y : ℕ) → y ≡ getD l 0 0 → Least l 1 0 y
+least-start l y a =
     record {
       seen = omega arith;
-      is = refl;
-      lows = λ k q. rw (le-antisymm (le-of-suc-le-suc q) zero-le) (le-refl _);
-      first = below-none (λ (k : ℕ). getD l 0 0 < getD l k 0);
+      is = a;
+      lows = λ k q. rw (a, le-antisymm (le-of-suc-le-suc q) zero-le) (le-refl _);
+      first = below-none (λ (k : ℕ). y < getD l k 0);
     }
 
-pub least-new : (l : List ℕ) (i b x : ℕ) → getD l i 0 < x → Least l i b x → Least l (i + 1) i (getD l i 0)
-least-new l i b x h r =
+pub least-new : (l : List ℕ) (i b x y : ℕ) → y ≡ getD l i 0 → y < x → Least l i b x → Least l (i + 1) i y
+least-new l i b x y a h r =
     record {
       seen = omega arith;
-      is = refl;
-      lows = below-more (λ (k : ℕ). getD l i 0 ≤ getD l k 0) i (λ k q. omega (arith, r .lows k q)) (le-refl _);
+      is = a;
+      lows = below-more (λ (k : ℕ). y ≤ getD l k 0) i (λ k q. omega (arith, r .lows k q)) (omega arith);
       first = λ k q. omega (arith, r .lows k q);
     }
 
-pub least-keep : (l : List ℕ) (i b x : ℕ) → x ≤ getD l i 0 → Least l i b x → Least l (i + 1) b x
-least-keep l i b x h r =
+pub least-keep : (l : List ℕ) (i b x y : ℕ) → y ≡ getD l i 0 → x ≤ y → Least l i b x → Least l (i + 1) b x
+least-keep l i b x y a h r =
     record {
       seen = omega (arith, r .seen);
       is = r .is;
-      lows = below-more (λ (k : ℕ). x ≤ getD l k 0) i (r .lows) h;
+      lows = below-more (λ (k : ℕ). x ≤ getD l k 0) i (r .lows) (omega arith);
       first = r .first;
     }
 
 pub least-is : (l : List ℕ) (n b x : ℕ) → length l ≡ n → Least l n b x → b ≡ firstOf (λ (x : ℕ). allOf (λ (y : ℕ). leb x y) l) l
 least-is l n b x e r =
-    first-is (λ (x : ℕ). allOf (λ (y : ℕ). leb x y) l) l n b e (r .seen)
+    first-is (λ (x : ℕ). allOf (λ (y : ℕ). leb x y) l) l n b (getD l b 0) e (r .seen) refl
     (all-true (λ (y : ℕ). leb (getD l b 0) y) l (λ k q. le-leb _ _ (rw (r .is) at (r .lows k (rw e at q)))))
     (λ k q. all-false (λ (y : ℕ). leb (getD l k 0) y) l b (rw e (r .seen)) (lt-leb _ _ (rw (r .is) at (r .first k q))))
 

@@ -1,19 +1,20 @@
--- The definitions of the 68040's cache, at the cache that two arrays are.
-use Prim.Native.Nat.{ℕ, zero, suc, _+_, _*_, _-_, _/_, _%_}
+-- The definitions of the 68040's cache, at the cache that an array is.
+use Prim.Native.Nat.{ℕ, zero, suc, _+_, _*_, _-_, _/_, _%_, _<_}
 use mathlib.Core.Path.{_≡_, refl, ap, sym, _∙_}
 use mathlib.Core.Bool.{Bool, true, false, _&&_, _||_, not}
 use mathlib.Core.List.{List, [], _∷_, map}
 use native.Mathlib.Omega.{arith}
 use borrow.Author.Tests.{eq-eqb, ne-eqb, eqb-true, eqb-false}
 use lib.Dec.{eqb}
-use lib.ListN.{length, getD, set, length-set, length-map}
+use lib.ListN.{length, getD, set}
 use lib.Seq.{set-getD}
 use Rattle.definition.specs.Words.{if_then_else_}
 use Rattle.definition.specs.Cache040.{Slot, Cache040, noSlot, sameBool, holds, hit040, inserted040, emptied, flushedAll040, flushedFrame}
 use Rattle.definition.specs.declared.Hit.{Hit}
 use Rattle.definition.specs.declared.Hit.the-variants.{At, Miss}
 use Rattle.cache.specs.Packed.{bit, odd}
-use Rattle.cache.specs.Atc040.{slotOf, slotsOf, cache040Of, keyOf040, Sized040, Stepped040}
+use Rattle.cache.specs.Atc040.{slotOf, slotsOf, keysOf, basesOf, cache040Of, keyOf040, Parts040, Stepped040}
+use Rattle.cache.proofs.Parts.{part-length, part-get, parts-040, put-key, put-base}
 use Rattle.cache.proofs.Flags.{bit-small, odd-is, low-bit, odd-bit}
 
 -- ---- one slot
@@ -97,52 +98,75 @@ slots-read (k ∷ ks) (b ∷ bs) e =
     (rw (x, r .0), rw (y, r .1))
 
 -- ---- the definitions
-module _ (ks bs : List ℕ) (w : Sized040 ks bs) where
-  slot-at : (i : ℕ) → getD (slotsOf ks bs) i noSlot ≡ slotOf (getD ks i 0) (getD bs i 0)
-  slot-at i = slots-get ks bs i (w .keys ∙ sym (w .bases))
+-- the cache that the parts are
+cache-is : {l ks bs : List ℕ} → Parts040 l ks bs → cache040Of l ≡ record { slots = slotsOf ks bs }
+unfolding cache040Of
+cache-is p = rw (p .keys, p .bases) refl
+
+module _ (l : List ℕ) (w : length l ≡ 128) where
+  abbrev ks : List ℕ
+  ks = keysOf l
+
+  abbrev bs : List ℕ
+  bs = basesOf l
+
+  pub level-040 : length ks ≡ length bs
+  level-040 = part-length 0 64 l (omega arith) ∙ sym (part-length 64 64 l (omega arith))
 
   module _ (frame i : ℕ) (ei : i ≡ frame % 64) where
-    pub missed-040 : (supervisor write : Bool) → (getD ks i 0 ≡ keyOf040 frame supervisor → ⊥) → Miss ≡ hit040 (cache040Of ks bs) frame supervisor write
+    h : i < 64
+    h = omega arith
+
+    slot-at : getD (slotsOf ks bs) i noSlot ≡ slotOf (getD l i 0) (getD l (64 + i) 0)
+    slot-at =
+        rw (part-get 0 64 l i i (omega arith) h, part-get 64 64 l i (64 + i) refl h)
+        (slots-get ks bs i level-040)
+
+    pub missed-040 : (supervisor write : Bool) → (getD l i 0 ≡ keyOf040 frame supervisor → ⊥) → Miss ≡ hit040 (cache040Of l) frame supervisor write
     unfolding hit040 cache040Of
     missed-040 supervisor write n =
-        rw (← ei, slot-at i, key-holds frame supervisor (getD ks i 0) (getD bs i 0), ne-eqb (getD ks i 0) (keyOf040 frame supervisor) n)
+        rw (← ei, slot-at, key-holds frame supervisor (getD l i 0) (getD l (64 + i) 0), ne-eqb (getD l i 0) (keyOf040 frame supervisor) n)
 
-    pub looked-040 : (supervisor write : Bool) (r : Hit) → getD ks i 0 ≡ keyOf040 frame supervisor
-        → r ≡ (if write && odd (getD bs i 0 / 2) || not supervisor && odd (getD bs i 0) then Miss else At (getD bs i 0 / 4))
-        → r ≡ hit040 (cache040Of ks bs) frame supervisor write
+    pub looked-040 : (supervisor write : Bool) (r : Hit) → getD l i 0 ≡ keyOf040 frame supervisor
+        → r ≡ (if write && odd (getD l (64 + i) 0 / 2) || not supervisor && odd (getD l (64 + i) 0) then Miss else At (getD l (64 + i) 0 / 4))
+        → r ≡ hit040 (cache040Of l) frame supervisor write
     unfolding hit040 cache040Of
     looked-040 supervisor write r e h =
-        rw (← ei, slot-at i, key-holds frame supervisor (getD ks i 0) (getD bs i 0), eq-eqb (getD ks i 0) (keyOf040 frame supervisor) e)
-        (h ∙ go (write && odd (getD bs i 0 / 2) || not supervisor && odd (getD bs i 0)))
+        rw (← ei, slot-at, key-holds frame supervisor (getD l i 0) (getD l (64 + i) 0), eq-eqb (getD l i 0) (keyOf040 frame supervisor) e)
+        (h ∙ go (write && odd (getD l (64 + i) 0 / 2) || not supervisor && odd (getD l (64 + i) 0)))
       where
-        go : (b : Bool) → (if b then Miss else At (getD bs i 0 / 4)) ≡ (if not b then At (getD bs i 0 / 4) else Miss)
+        go : (b : Bool) → (if b then Miss else At (getD l (64 + i) 0 / 4)) ≡ (if not b then At (getD l (64 + i) 0 / 4) else Miss)
         go true = refl
         go false = refl
 
     pub inserted-put-040 : (base k x y : ℕ) (supervisor wp sup : Bool) → k ≡ keyOf040 frame supervisor → x ≡ bit wp → y ≡ bit sup
-        → Stepped040 (λ (c : Cache040). inserted040 c frame supervisor base wp sup) ks bs (set ks i k) (set bs i (base * 4 + x * 2 + y))
+        → Stepped040 (λ (c : Cache040). inserted040 c frame supervisor base wp sup) l (set (set l i k) (64 + i) (base * 4 + x * 2 + y))
     unfolding inserted040 cache040Of
     inserted-put-040 base k x y supervisor wp sup ek ex ey =
-        rw (ek, ex, ey)
-        (record {
-          leaves = rw (slots-set ks bs i (keyOf040 frame supervisor) (base * 4 + bit wp * 2 + bit sup), key-slot frame base supervisor wp sup, ei);
-          sized = record { keys = simp length-set (w .keys); bases = simp length-set (w .bases) };
-        })
-
-    pub flushed-same-040 : (getD ks i 0 / 4 ≡ frame → ⊥) → Stepped040 (λ (c : Cache040). flushedFrame c frame) ks bs ks bs
-    unfolding flushedFrame cache040Of
-    flushed-same-040 n = record { leaves = rw (← ei, slot-at i, ne-eqb (getD ks i 0 / 4) frame n) refl; sized = w }
-
-    pub flushed-frame : getD ks i 0 / 4 ≡ frame → Stepped040 (λ (c : Cache040). flushedFrame c frame) ks bs (set ks i (getD ks i 0 - getD ks i 0 % 2)) bs
-    unfolding flushedFrame cache040Of
-    flushed-frame e =
-        let s = slots-set ks bs i (getD ks i 0 - getD ks i 0 % 2) (getD bs i 0) in
+        let q = put-base (put-key (parts-040 l w) i k h) i (base * 4 + x * 2 + y) h in
         record {
-          leaves = rw (← ei, slot-at i, eq-eqb (getD ks i 0 / 4) frame e, ← drop-key (getD ks i 0) (getD bs i 0)) (ap (λ (l : List Slot). record { slots = l }) (rw (set-getD bs i 0) at s));
-          sized = record { keys = simp length-set (w .keys); bases = w .bases };
+          leaves =
+              cache-is q ∙ rw (ek, ex, ey, slots-set ks bs i (keyOf040 frame supervisor) (base * 4 + bit wp * 2 + bit sup), key-slot frame base supervisor wp sup, ei) refl;
+          sized = q .size;
         }
 
-  pub flushed-all-040 : (ks′ : List ℕ) → ks′ ≡ map (λ (k : ℕ). k - k % 2) ks → Stepped040 flushedAll040 ks bs ks′ bs
+    pub flushed-same-040 : (getD l i 0 / 4 ≡ frame → ⊥) → Stepped040 (λ (c : Cache040). flushedFrame c frame) l l
+    unfolding flushedFrame cache040Of
+    flushed-same-040 n = record { leaves = rw (← ei, slot-at, ne-eqb (getD l i 0 / 4) frame n) refl; sized = w }
+
+    pub flushed-frame : getD l i 0 / 4 ≡ frame → Stepped040 (λ (c : Cache040). flushedFrame c frame) l (set l i (getD l i 0 - getD l i 0 % 2))
+    unfolding flushedFrame cache040Of
+    flushed-frame e =
+        let k = getD l i 0 - getD l i 0 % 2 in
+        let q = put-key (parts-040 l w) i k h in
+        let s = slots-set ks bs i k (getD bs i 0) in
+        record {
+          leaves =
+              rw (← ei, slot-at, eq-eqb (getD l i 0 / 4) frame e, ← drop-key (getD l i 0) (getD l (64 + i) 0))
+              (cache-is q ∙ ap (λ (l : List Slot). record { slots = l }) (rw (set-getD bs i 0, ← part-get 64 64 l i (64 + i) refl h) at s));
+          sized = q .size;
+        }
+
+  pub flushed-all-040 : (l′ : List ℕ) → Parts040 l′ (map (λ (k : ℕ). k - k % 2) ks) bs → Stepped040 flushedAll040 l l′
   unfolding flushedAll040 cache040Of
-  flushed-all-040 ks′ e =
-      rw e (record { leaves = rw (slots-keys ks bs); sized = record { keys = simp length-map (w .keys); bases = w .bases } })
+  flushed-all-040 l′ q = record { leaves = cache-is q ∙ rw (slots-keys ks bs) refl; sized = q .size }

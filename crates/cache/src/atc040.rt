@@ -1,6 +1,6 @@
-// The 68040's 64 slots: keys frame * 4 + supervisor * 2 + valid, bases base * 4 + W * 2 + S.
+// The 68040's 64 slots in one array: 64 keys frame * 4 + supervisor * 2 + valid, 64 bases base * 4 + W * 2 + S.
 use crate::packed::flag;
-use crate::packed::lengths;
+use crate::packed::sized;
 use definition::Hit;
 ghost use mathlib.Core.Path.{_≡_};
 ghost use mathlib.Core.Bool.{not, _&&_, _||_};
@@ -9,6 +9,11 @@ ghost use Rattle.definition.specs.Words.{if_then_else_};
 ghost use Rattle.definition.specs.Cache040.{Cache040, hit040, inserted040, flushedAll040, flushedFrame};
 ghost use Rattle.cache.specs.Packed.{odd};
 ghost use Rattle.cache.specs.Atc040.{cache040Of, Stepped040, keyOf040};
+
+pub type Atc040 = [u64; 128];
+
+// Where the bases stand.
+const BASES: usize = 64;
 
 // The slot of a frame: frame mod 64.
 fn slot_of(frame: u32) -> usize
@@ -38,63 +43,49 @@ fn permitted(b: u64, supervisor: bool, write: bool) -> Hit
 }
 
 // A look: the base of the frame's slot.
-pub fn look_040(
-    keys: &[u64; 64],
-    bases: &[u64; 64],
-    frame: u32,
-    supervisor: bool,
-    write: bool,
-) -> Hit
-    ensures { λ r. ⌜ r ≡ hit040 (cache040Of (now (keys .entry)) (now (bases .entry))) frame supervisor write ⌝ }
+pub fn look_040(c040: &Atc040, frame: u32, supervisor: bool, write: bool) -> Hit
+    ensures { λ r. ⌜ r ≡ hit040 (cache040Of (now (c040 .entry))) frame supervisor write ⌝ }
 {
-    lengths(keys, bases);
+    sized(c040);
     let i = slot_of(frame);
-    if keys[i] != key_of(frame, supervisor) {
+    if c040[i] != key_of(frame, supervisor) {
         return Hit::Miss;
     }
-    permitted(bases[i], supervisor, write)
+    permitted(c040[BASES + i], supervisor, write)
 }
 
 // An insert takes the frame's slot.
-pub fn insert_040(
-    keys: &mut [u64; 64],
-    bases: &mut [u64; 64],
-    frame: u32,
-    supervisor: bool,
-    base: u32,
-    wp: bool,
-    sup: bool,
-)
-    ensures { λ _. ⌜ Stepped040 (λ (c : Cache040). inserted040 c frame supervisor base wp sup) (now (keys .entry)) (now (bases .entry)) (now (keys .exit)) (now (bases .exit)) ⌝ }
+pub fn insert_040(c040: &mut Atc040, frame: u32, supervisor: bool, base: u32, wp: bool, sup: bool)
+    ensures { λ _. ⌜ Stepped040 (λ (c : Cache040). inserted040 c frame supervisor base wp sup) (now (c040 .entry)) (now (c040 .exit)) ⌝ }
 {
-    lengths(keys, bases);
+    sized(c040);
     let i = slot_of(frame);
-    keys[i] = key_of(frame, supervisor);
-    bases[i] = (base as u64) * 4 + flag(wp) * 2 + flag(sup);
+    c040[i] = key_of(frame, supervisor);
+    c040[BASES + i] = (base as u64) * 4 + flag(wp) * 2 + flag(sup);
 }
 
 // A flush of everything only marks invalid.
-pub fn flush_all_040(keys: &mut [u64; 64], bases: &[u64; 64])
-    ensures { λ _. ⌜ Stepped040 flushedAll040 (now (keys .entry)) (now (bases .entry)) (now (keys .exit)) (now (bases .entry)) ⌝ }
+pub fn flush_all_040(c040: &mut Atc040)
+    ensures { λ _. ⌜ Stepped040 flushedAll040 (now (c040 .entry)) (now (c040 .exit)) ⌝ }
 {
-    lengths(keys, bases);
+    sized(c040);
     let mut i: usize = 0;
     while i < 64 {
-        let k = keys[i];
-        keys[i] = k - k % 2;
+        let k = c040[i];
+        c040[i] = k - k % 2;
         i += 1;
     }
 }
 
 // A page flush drops that frame for either privilege.
-pub fn flush_frame(keys: &mut [u64; 64], bases: &[u64; 64], frame: u32)
-    ensures { λ _. ⌜ Stepped040 (λ (c : Cache040). flushedFrame c frame) (now (keys .entry)) (now (bases .entry)) (now (keys .exit)) (now (bases .entry)) ⌝ }
+pub fn flush_frame(c040: &mut Atc040, frame: u32)
+    ensures { λ _. ⌜ Stepped040 (λ (c : Cache040). flushedFrame c frame) (now (c040 .entry)) (now (c040 .exit)) ⌝ }
 {
-    lengths(keys, bases);
+    sized(c040);
     let i = slot_of(frame);
-    let k = keys[i];
+    let k = c040[i];
     if k / 4 != frame as u64 {
         return;
     }
-    keys[i] = k - k % 2;
+    c040[i] = k - k % 2;
 }

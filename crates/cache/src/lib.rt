@@ -3,18 +3,16 @@ pub mod atc030;
 pub mod atc040;
 mod packed;
 
+use crate::atc030::Atc030;
+use crate::atc040::Atc040;
 ghost use mathlib.Core.Path.{_≡_};
 ghost use Rattle.definition.specs.Translate.{emptyCaches};
 ghost use Rattle.cache.specs.Pair.{pairOf};
 
 // The pair of caches by value.
 pub struct CachePair {
-    pub tags: [u64; 22],
-    pub pages: [u64; 22],
-    pub stamps: [u64; 22],
-    pub marks: [u64; 3],
-    pub keys: [u64; 64],
-    pub bases: [u64; 64],
+    pub c030: Atc030,
+    pub c040: Atc040,
 }
 
 impl CachePair {
@@ -23,12 +21,8 @@ impl CachePair {
         ensures { λ r. ⌜ pairOf r ≡ emptyCaches ⌝ }
     {
         CachePair {
-            tags: [0; 22],
-            pages: [0; 22],
-            stamps: [0; 22],
-            marks: [0; 3],
-            keys: [0; 64],
-            bases: [0; 64],
+            c030: [0; 69],
+            c040: [0; 128],
         }
     }
 }

@@ -3,8 +3,8 @@ ghost use mathlib.Core.Path.{_≡_};
 ghost use Prim.Native.Nat.{_^_, _<_, _≤_};
 ghost use Rattle.cache.specs.Packed.{bit};
 
-// The lengths of arrays that are lent are known once they are lent as slices.
-pub fn lengths(a: &[u64], b: &[u64]) {}
+// The length of an array that is lent is known once it is lent as a slice.
+pub fn sized(a: &[u64]) {}
 
 // The same number, which is known to fit its type: of one that is read behind a reference to an array it is not.
 pub fn word(x: u64) -> u64

@@ -4,7 +4,9 @@
 // by which the two programs are compared.
 use cache::CachePair;
 use cache::atc030;
+use cache::atc030::Atc030;
 use cache::atc040;
+use cache::atc040::Atc040;
 use definition::Hit;
 use libc::STDOUT_FILENO;
 use vectors::Cursor;
@@ -37,17 +39,11 @@ fn answer_of(hit: Hit) -> u64 {
 }
 
 // One look-up in the 68030 cache, with an insert at a miss. Each page's base is its number.
-fn access_030(
-    page: u32,
-    tags: &mut [u64; 22],
-    pages: &mut [u64; 22],
-    stamps: &mut [u64; 22],
-    marks: &mut [u64; 3],
-) -> u64 {
-    match atc030::look(tags, pages, stamps, marks, 1, page, 12, false, true) {
+fn access_030(page: u32, c: &mut Atc030) -> u64 {
+    match atc030::look(c, 1, page, 12, false, true) {
         Hit::At(base) => base,
         Hit::Miss => {
-            atc030::insert(tags, pages, stamps, marks, 1, page, 12, page, false);
+            atc030::insert(c, 1, page, 12, page, false);
             5
         }
     }
@@ -58,31 +54,22 @@ fn cold_030(pages: u32, count: u32) -> u64
     requires { ⌜ 0 < pages ⌝ }
 {
     let empty = CachePair::empty();
-    let mut tags = empty.tags;
-    let mut bases = empty.pages;
-    let mut stamps = empty.stamps;
-    let mut marks = empty.marks;
+    let mut c = empty.c030;
     let mut x = 12345;
     let mut sum = 0;
     for _ in 0..count {
         x = next_x(x);
         let page = page_of(x, pages);
-        let answer = access_030(page, &mut tags, &mut bases, &mut stamps, &mut marks);
+        let answer = access_030(page, &mut c);
         sum = with_answer(sum, answer);
     }
     sum
 }
 
 // Inserts every page.
-fn fill_030(
-    pages: u32,
-    tags: &mut [u64; 22],
-    bases: &mut [u64; 22],
-    stamps: &mut [u64; 22],
-    marks: &mut [u64; 3],
-) {
+fn fill_030(pages: u32, c: &mut Atc030) {
     for page in 0..pages {
-        atc030::insert(tags, bases, stamps, marks, 1, page, 12, page, false);
+        atc030::insert(c, 1, page, 12, page, false);
     }
 }
 
@@ -91,38 +78,25 @@ fn warm_030(pages: u32, count: u32) -> u64
     requires { ⌜ 0 < pages ⌝ }
 {
     let empty = CachePair::empty();
-    let mut tags = empty.tags;
-    let mut bases = empty.pages;
-    let mut stamps = empty.stamps;
-    let mut marks = empty.marks;
-    fill_030(pages, &mut tags, &mut bases, &mut stamps, &mut marks);
+    let mut c = empty.c030;
+    fill_030(pages, &mut c);
     let mut x = 12345;
     let mut sum = 0;
     for _ in 0..count {
         x = next_x(x);
         let page = page_of(x, pages);
-        let hit = atc030::look(
-            &tags,
-            &bases,
-            &mut stamps,
-            &mut marks,
-            1,
-            page,
-            12,
-            false,
-            true,
-        );
+        let hit = atc030::look(&mut c, 1, page, 12, false, true);
         sum = with_answer(sum, answer_of(hit));
     }
     sum
 }
 
 // One look-up in the 68040 cache, with an insert at a miss.
-fn access_040(page: u32, keys: &mut [u64; 64], bases: &mut [u64; 64]) -> u64 {
-    match atc040::look_040(keys, bases, page, false, false) {
+fn access_040(page: u32, c: &mut Atc040) -> u64 {
+    match atc040::look_040(c, page, false, false) {
         Hit::At(base) => base,
         Hit::Miss => {
-            atc040::insert_040(keys, bases, page, false, page, false, false);
+            atc040::insert_040(c, page, false, page, false, false);
             5
         }
     }
@@ -133,23 +107,22 @@ fn cold_040(pages: u32, count: u32) -> u64
     requires { ⌜ 0 < pages ⌝ }
 {
     let empty = CachePair::empty();
-    let mut keys = empty.keys;
-    let mut bases = empty.bases;
+    let mut c = empty.c040;
     let mut x = 12345;
     let mut sum = 0;
     for _ in 0..count {
         x = next_x(x);
         let page = page_of(x, pages);
-        let answer = access_040(page, &mut keys, &mut bases);
+        let answer = access_040(page, &mut c);
         sum = with_answer(sum, answer);
     }
     sum
 }
 
 // Inserts every page.
-fn fill_040(pages: u32, keys: &mut [u64; 64], bases: &mut [u64; 64]) {
+fn fill_040(pages: u32, c: &mut Atc040) {
     for page in 0..pages {
-        atc040::insert_040(keys, bases, page, false, page, false, false);
+        atc040::insert_040(c, page, false, page, false, false);
     }
 }
 
@@ -158,15 +131,14 @@ fn warm_040(pages: u32, count: u32) -> u64
     requires { ⌜ 0 < pages ⌝ }
 {
     let empty = CachePair::empty();
-    let mut keys = empty.keys;
-    let mut bases = empty.bases;
-    fill_040(pages, &mut keys, &mut bases);
+    let mut c = empty.c040;
+    fill_040(pages, &mut c);
     let mut x = 12345;
     let mut sum = 0;
     for _ in 0..count {
         x = next_x(x);
         let page = page_of(x, pages);
-        let hit = atc040::look_040(&keys, &bases, page, false, false);
+        let hit = atc040::look_040(&c, page, false, false);
         sum = with_answer(sum, answer_of(hit));
     }
     sum

@@ -20,47 +20,43 @@ use Rattle.cache.specs.Atc030.{cacheOf}
 use Rattle.cache.specs.Atc040.{cache040Of}
 use Rattle.translate.specs.Stages.{shownTranslated}
 use Rattle.load.specs.Loaded.{shownLoaded, LoadedIn}
-use Rattle.plan.specs.Arrays.{cachesOf}
+use Rattle.cache.specs.Pair.{cachesOf}
 use Rattle.translate.specs.InPlace.{AnsweredIn}
 use Rattle.flush.specs.Flushed.{FlushedIn, FlushedIn030, FlushedIn040}
 
 -- the arrays that a caller keeps
 pub record Arrays : Type 0 where
-  pub tags : List ℕ
-  pub pages : List ℕ
-  pub stamps : List ℕ
-  pub marks : List ℕ
-  pub keys : List ℕ
-  pub bases : List ℕ
+  pub c030 : List ℕ
+  pub c040 : List ℕ
 
 -- the caches that they are
 abbrev pub cachesIn : Arrays → Caches
-cachesIn x = cachesOf (x .tags) (x .pages) (x .stamps) (x .marks) (x .keys) (x .bases)
+cachesIn x = cachesOf (x .c030) (x .c040)
 
 -- what translate_in promises, from x to y
 abbrev pub Translates : Registers → Access → Memory → Arrays → Translation → ℕ → Arrays → Type 0
 Translates g a m x answer count y =
-    AnsweredIn (shownTranslated (translate g a m (cachesIn x))) answer count (y .tags) (y .pages) (y .stamps) (y .marks) (y .keys) (y .bases)
+    AnsweredIn (shownTranslated (translate g a m (cachesIn x))) answer count (y .c030) (y .c040)
 
 -- what each call promises, from x to y: translate_in, load_in, test_in and probe_in (which change no array), the flushes
 pub data Passes (g : Registers) (m : Memory) (x : Arrays) : Call → Arrays → Type 0 where
   translates : {y : Arrays} {answer : Translation} {count : ℕ} (a : Access) → Translates g a m x answer count y → Passes g m x (calls.access a) y
-  loads : {ts ps ss ms : List ℕ} {answer : Load} {count : ℕ} (code : ℕ) (write : Bool) (address : ℕ)
-      → LoadedIn (shownLoaded (load g code write address m (cachesIn x))) answer count ts ps ss ms
-      → Passes g m x (calls.loading code write address) (record { tags = ts; pages = ps; stamps = ss; marks = ms; keys = x .keys; bases = x .bases })
+  loads : {c3 : List ℕ} {answer : Load} {count : ℕ} (code : ℕ) (write : Bool) (address : ℕ)
+      → LoadedIn (shownLoaded (load g code write address m (cachesIn x))) answer count c3
+      → Passes g m x (calls.loading code write address) (record { c030 = c3; c040 = x .c040 })
   tests : (code : ℕ) (write : Bool) (level address : ℕ) → Passes g m x (calls.testing code write level address) x
   probes : (own instruction write : Bool) (address : ℕ) → Passes g m x (calls.probing own instruction write address) x
-  flushesAll : {y : Arrays} {answer : Flush} → FlushedIn (flushAll (cachesIn x)) answer (y .tags) (y .pages) (y .stamps) (y .marks) (y .keys) (y .bases)
+  flushesAll : {y : Arrays} {answer : Flush} → FlushedIn (flushAll (cachesIn x)) answer (y .c030) (y .c040)
       → Passes g m x calls.flushingAll y
-  flushesCode : {ts ps ss ms : List ℕ} {answer : Flush} (code mask : ℕ)
-      → FlushedIn030 (flushCode code mask (cachesIn x)) (cache040Of (x .keys) (x .bases)) answer ts ps ss ms
-      → Passes g m x (calls.flushingCode code mask) (record { tags = ts; pages = ps; stamps = ss; marks = ms; keys = x .keys; bases = x .bases })
-  flushesPage : {ts ps ss ms : List ℕ} {answer : Flush} (code mask address : ℕ)
-      → FlushedIn030 (flushPage code mask address (cachesIn x)) (cache040Of (x .keys) (x .bases)) answer ts ps ss ms
-      → Passes g m x (calls.flushingPage code mask address) (record { tags = ts; pages = ps; stamps = ss; marks = ms; keys = x .keys; bases = x .bases })
-  flushesFrame : {ks bs : List ℕ} {answer : Flush} (frame : ℕ)
-      → FlushedIn040 (flushFrame frame (cachesIn x)) (cacheOf (x .tags) (x .pages) (x .stamps) (x .marks)) answer ks bs
-      → Passes g m x (calls.flushingFrame frame) (record { tags = x .tags; pages = x .pages; stamps = x .stamps; marks = x .marks; keys = ks; bases = bs })
+  flushesCode : {c3 : List ℕ} {answer : Flush} (code mask : ℕ)
+      → FlushedIn030 (flushCode code mask (cachesIn x)) (cache040Of (x .c040)) answer c3
+      → Passes g m x (calls.flushingCode code mask) (record { c030 = c3; c040 = x .c040 })
+  flushesPage : {c3 : List ℕ} {answer : Flush} (code mask address : ℕ)
+      → FlushedIn030 (flushPage code mask address (cachesIn x)) (cache040Of (x .c040)) answer c3
+      → Passes g m x (calls.flushingPage code mask address) (record { c030 = c3; c040 = x .c040 })
+  flushesFrame : {c4 : List ℕ} {answer : Flush} (frame : ℕ)
+      → FlushedIn040 (flushFrame frame (cachesIn x)) (cacheOf (x .c030)) answer c4
+      → Passes g m x (calls.flushingFrame frame) (record { c030 = x .c030; c040 = c4 })
 
 -- calls in place at these moments, from arrays x to arrays y: the answers that the watched ones gave, in order
 pub data Chain (g : Registers) : Arrays → List Moment → List Translation → Arrays → Type 0 where

@@ -28,7 +28,7 @@ use Rattle.definition.specs.declared.Load.the-variants as load′
 use Rattle.definition.specs.declared.Test.{Test}
 use Rattle.definition.specs.declared.Test.the-variants as test′
 use Rattle.definition.specs.declared.Flush.{Flush}
-use Rattle.plan.specs.Arrays.{cachesOf, pairWith}
+use Rattle.cache.specs.Pair.{cachesOf, pairWith}
 use Rattle.translate.specs.InPlace.{AnsweredIn}
 use Rattle.load.specs.Loaded.{LoadedIn, shownLoaded}
 use Rattle.inquiry.specs.Tested.{TestedIn, shownTested}
@@ -69,17 +69,17 @@ module _ {out : List ℕ} {count : ℕ} where
   test-refused e f = rw e f
 
 -- ---- a flush of one cache
-pub flushed-030 : {f : Flushed} {k : Cache040} {answer : Flush} {ts ps ss ms : List ℕ} {n : ℕ} → FlushedIn030 f k answer ts ps ss ms → n ≡ flushNumber answer
-    → FlushedTo f n (pairWith (cacheOf ts ps ss ms) k)
+pub flushed-030 : {f : Flushed} {k : Cache040} {answer : Flush} {c3 : List ℕ} {n : ℕ} → FlushedIn030 f k answer c3 → n ≡ flushNumber answer
+    → FlushedTo f n (pairWith (cacheOf c3) k)
 flushed-030 q e = record { answers = e ∙ ap flushNumber (q .answers); leaves = q .leaves }
 
-pub flushed-040 : {f : Flushed} {c : Cache030} {answer : Flush} {ks bs : List ℕ} {n : ℕ} → FlushedIn040 f c answer ks bs → n ≡ flushNumber answer
-    → FlushedTo f n (pairWith c (cache040Of ks bs))
+pub flushed-040 : {f : Flushed} {c : Cache030} {answer : Flush} {c4 : List ℕ} {n : ℕ} → FlushedIn040 f c answer c4 → n ≡ flushNumber answer
+    → FlushedTo f n (pairWith c (cache040Of c4))
 flushed-040 q e = record { answers = e ∙ ap flushNumber (q .answers); leaves = q .leaves }
 
 -- ---- a flush of both
-pub flushed-both : {f : Flushed} {answer : Flush} {ts ps ss ms ks bs : List ℕ} {n : ℕ} → FlushedIn f answer ts ps ss ms ks bs → n ≡ flushNumber answer
-    → FlushedTo f n (cachesOf ts ps ss ms ks bs)
+pub flushed-both : {f : Flushed} {answer : Flush} {c3 c4 : List ℕ} {n : ℕ} → FlushedIn f answer c3 c4 → n ≡ flushNumber answer
+    → FlushedTo f n (cachesOf c3 c4)
 flushed-both q e = record { answers = e ∙ ap flushNumber (q .answers); leaves = q .leaves }
 
 -- ---- the host's numbers
@@ -98,14 +98,14 @@ probed ns flags address c t p g o i w = rw (← g, ← o, ← i, ← w, ← p) t
 
 -- ---- the calls over the ranges: the answer's numbers, from the call's promise in place
 module _ (ns : List ℕ) {g : Registers} (is-g : g ≡ registersOf ns) (m : Memory) {out : List ℕ} where
-  pub translates : (flags code address : ℕ) (c : Caches) {a : Access} {t : Translation} {count : ℕ} {ts ps ss ms ks bs : List ℕ} → a ≡ accessOf flags code address
-      → AnsweredIn (shownTranslated (translate g a m c)) t count ts ps ss ms ks bs → out ≡ translationNumbers t count
-      → TranslatedTo (translate (registersOf ns) (accessOf flags code address) m c) out (cachesOf ts ps ss ms ks bs)
+  pub translates : (flags code address : ℕ) (c : Caches) {a : Access} {t : Translation} {count : ℕ} {c3 c4 : List ℕ} → a ≡ accessOf flags code address
+      → AnsweredIn (shownTranslated (translate g a m c)) t count c3 c4 → out ≡ translationNumbers t count
+      → TranslatedTo (translate (registersOf ns) (accessOf flags code address) m c) out (cachesOf c3 c4)
   translates flags code address c is-a q e = rw (← is-g, ← is-a) (record { answers = e ∙ rw (q .answers, q .counts); leaves = q .leaves })
 
-  pub loads : (code : ℕ) (write : Bool) (address : ℕ) (c : Cache030) {l : Load} {count : ℕ} {ts ps ss ms : List ℕ}
-      → ((k : Cache040) → LoadedIn (shownLoaded (load g code write address m (pairWith c k))) l count ts ps ss ms) → out ≡ loadNumbers l count
-      → (k : Cache040) → LoadedTo (load (registersOf ns) code write address m (pairWith c k)) out (cacheOf ts ps ss ms)
+  pub loads : (code : ℕ) (write : Bool) (address : ℕ) (c : Cache030) {l : Load} {count : ℕ} {c3 : List ℕ}
+      → ((k : Cache040) → LoadedIn (shownLoaded (load g code write address m (pairWith c k))) l count c3) → out ≡ loadNumbers l count
+      → (k : Cache040) → LoadedTo (load (registersOf ns) code write address m (pairWith c k)) out (cacheOf c3)
   loads code write address c f e k = let q = f k in rw (← is-g) (record { answers = e ∙ rw (q .answers, q .counts); leaves = q .leaves })
 
   pub tests : (code : ℕ) (write : Bool) (level address : ℕ) {t : Test} {count : ℕ}

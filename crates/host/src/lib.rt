@@ -1,6 +1,8 @@
 // The host's calls, for C or Rust to link. The host keeps the caches' arrays, the longs and the registers as numbers, and a slice of ranges, and lends
 // them in one call; it changes the caches in place and writes its answer to five numbers. specs/ says which number means what.
 // A call that is lent the ranges is thin: its proof is a walk by hand, which tools/ prints.
+use cache::atc030::Atc030;
+use cache::atc040::Atc040;
 use definition::Access;
 use definition::Flush;
 use definition::Load;
@@ -29,7 +31,7 @@ ghost use Rattle.definition.specs.Probe.{probe as probeOf};
 ghost use Rattle.definition.specs.Flush.{flushAll, flushCode, flushPage, flushFrame};
 ghost use Rattle.cache.specs.Atc030.{cacheOf};
 ghost use Rattle.cache.specs.Atc040.{cache040Of};
-ghost use Rattle.plan.specs.Arrays.{cachesOf, pairWith};
+ghost use Rattle.cache.specs.Pair.{cachesOf, pairWith};
 ghost use Rattle.host.specs.Numbers.{registersOf, overrideOf, accessOf, translationNumbers, loadNumbers, testNumbers, probeNumbers, flushNumber, TranslatedTo, LoadedTo, testedNumbers, FlushedTo};
 
 // ---- What the host's numbers are.
@@ -172,33 +174,18 @@ fn tell_probe(out: &mut [u32; 5], p: Probe)
 
 // The empty caches: every number 0.
 #[no_mangle]
-pub extern "C" fn mmu_empty(
-    tags: &mut [u64; 22],
-    pages: &mut [u64; 22],
-    stamps: &mut [u64; 22],
-    marks: &mut [u64; 3],
-    keys: &mut [u64; 64],
-    bases: &mut [u64; 64],
-)
-    ensures { λ _. ⌜ cachesOf (now (tags .exit)) (now (pages .exit)) (now (stamps .exit)) (now (marks .exit)) (now (keys .exit)) (now (bases .exit)) ≡ emptyCaches ⌝ }
+pub extern "C" fn mmu_empty(c030: &mut Atc030, c040: &mut Atc040)
+    ensures { λ _. ⌜ cachesOf (now (c030 .exit)) (now (c040 .exit)) ≡ emptyCaches ⌝ }
 {
-    *tags = [0; 22];
-    *pages = [0; 22];
-    *stamps = [0; 22];
-    *marks = [0; 3];
-    *keys = [0; 64];
-    *bases = [0; 64];
+    *c030 = [0; 69];
+    *c040 = [0; 128];
 }
 
 // Translate over the caches that the host keeps.
 #[no_mangle]
 pub extern "C" fn mmu_translate(
-    tags: &mut [u64; 22],
-    pages: &mut [u64; 22],
-    stamps: &mut [u64; 22],
-    marks: &mut [u64; 3],
-    keys: &mut [u64; 64],
-    bases: &mut [u64; 64],
+    c030: &mut Atc030,
+    c040: &mut Atc040,
     longs: &[u32],
     base: u32,
     ranges: &[Range],
@@ -208,33 +195,18 @@ pub extern "C" fn mmu_translate(
     address: u32,
     out: &mut [u32; 5],
 )
-    ensures { λ _. ⌜ TranslatedTo (translateOf (registersOf (now (registers .entry))) (accessOf flags code address) (memory (now (longs .entry)) base (now (ranges .entry))) (cachesOf (now (tags .entry)) (now (pages .entry)) (now (stamps .entry)) (now (marks .entry)) (now (keys .entry)) (now (bases .entry)))) (now (out .exit)) (cachesOf (now (tags .exit)) (now (pages .exit)) (now (stamps .exit)) (now (marks .exit)) (now (keys .exit)) (now (bases .exit))) ⌝ }
+    ensures { λ _. ⌜ TranslatedTo (translateOf (registersOf (now (registers .entry))) (accessOf flags code address) (memory (now (longs .entry)) base (now (ranges .entry))) (cachesOf (now (c030 .entry)) (now (c040 .entry)))) (now (out .exit)) (cachesOf (now (c030 .exit)) (now (c040 .exit))) ⌝ }
 {
     let g = registers_of(registers);
     let a = access_of(flags, code, address);
-    let o = lent::translate_lent(
-        tags,
-        pages,
-        stamps,
-        marks,
-        keys,
-        bases,
-        longs,
-        base,
-        ranges,
-        g,
-        a,
-    );
+    let o = lent::translate_lent(c030, c040, longs, base, ranges, g, a);
     tell_translation(out, o)
 }
 
 // Load over the 68030 cache that the host keeps.
 #[no_mangle]
 pub extern "C" fn mmu_load(
-    tags: &mut [u64; 22],
-    pages: &mut [u64; 22],
-    stamps: &mut [u64; 22],
-    marks: &mut [u64; 3],
+    c030: &mut Atc030,
     longs: &[u32],
     base: u32,
     ranges: &[Range],
@@ -244,22 +216,10 @@ pub extern "C" fn mmu_load(
     address: u32,
     out: &mut [u32; 5],
 )
-    ensures { λ _. ⌜ ((k : Cache040) → LoadedTo (loadOf (registersOf (now (registers .entry))) code write address (memory (now (longs .entry)) base (now (ranges .entry))) (pairWith (cacheOf (now (tags .entry)) (now (pages .entry)) (now (stamps .entry)) (now (marks .entry))) k)) (now (out .exit)) (cacheOf (now (tags .exit)) (now (pages .exit)) (now (stamps .exit)) (now (marks .exit)))) ⌝ }
+    ensures { λ _. ⌜ ((k : Cache040) → LoadedTo (loadOf (registersOf (now (registers .entry))) code write address (memory (now (longs .entry)) base (now (ranges .entry))) (pairWith (cacheOf (now (c030 .entry))) k)) (now (out .exit)) (cacheOf (now (c030 .exit)))) ⌝ }
 {
     let g = registers_of(registers);
-    let o = lent::load_lent(
-        tags,
-        pages,
-        stamps,
-        marks,
-        longs,
-        base,
-        ranges,
-        g,
-        code,
-        write,
-        address,
-    );
+    let o = lent::load_lent(c030, longs, base, ranges, g, code, write, address);
     tell_load(out, o)
 }
 
@@ -286,93 +246,55 @@ pub extern "C" fn mmu_test(
 // Probe: the CPU's own state, instruction and write in the flags.
 #[no_mangle]
 pub extern "C" fn mmu_probe(
-    tags: &[u64; 22],
-    pages: &[u64; 22],
-    stamps: &[u64; 22],
-    marks: &[u64; 3],
-    keys: &[u64; 64],
-    bases: &[u64; 64],
+    c030: &Atc030,
+    c040: &Atc040,
     registers: &[u32; 13],
     flags: u32,
     address: u32,
     out: &mut [u32; 5],
 )
-    ensures { λ _. ⌜ now (out .exit) ≡ probeNumbers (probeOf (registersOf (now (registers .entry))) (bitOf flags 3) (bitOf flags 2) (bitOf flags 0) address (cachesOf (now (tags .entry)) (now (pages .entry)) (now (stamps .entry)) (now (marks .entry)) (now (keys .entry)) (now (bases .entry)))) ⌝ }
+    ensures { λ _. ⌜ now (out .exit) ≡ probeNumbers (probeOf (registersOf (now (registers .entry))) (bitOf flags 3) (bitOf flags 2) (bitOf flags 0) address (cachesOf (now (c030 .entry)) (now (c040 .entry)))) ⌝ }
 {
     let g = registers_of(registers);
     let own = tables::bit(flags, 3);
     let instruction = tables::bit(flags, 2);
     let write = tables::bit(flags, 0);
-    let answer = probe::probe_in(
-        tags,
-        pages,
-        stamps,
-        marks,
-        keys,
-        bases,
-        g,
-        own,
-        instruction,
-        write,
-        address,
-    );
+    let answer = probe::probe_in(c030, c040, g, own, instruction, write, address);
     tell_probe(out, answer)
 }
 
 // Empties both caches.
 #[no_mangle]
-pub extern "C" fn mmu_flush_all(
-    tags: &mut [u64; 22],
-    pages: &[u64; 22],
-    stamps: &[u64; 22],
-    marks: &[u64; 3],
-    keys: &mut [u64; 64],
-    bases: &[u64; 64],
-) -> u32
-    ensures { λ r. ⌜ FlushedTo (flushAll (cachesOf (now (tags .entry)) (now (pages .entry)) (now (stamps .entry)) (now (marks .entry)) (now (keys .entry)) (now (bases .entry)))) r (cachesOf (now (tags .exit)) (now (pages .entry)) (now (stamps .entry)) (now (marks .entry)) (now (keys .exit)) (now (bases .entry))) ⌝ }
+pub extern "C" fn mmu_flush_all(c030: &mut Atc030, c040: &mut Atc040) -> u32
+    ensures { λ r. ⌜ FlushedTo (flushAll (cachesOf (now (c030 .entry)) (now (c040 .entry)))) r (cachesOf (now (c030 .exit)) (now (c040 .exit))) ⌝ }
 {
-    let f = flush::flush_all_in(tags, pages, stamps, marks, keys, bases);
+    let f = flush::flush_all_in(c030, c040);
     flush_number(f)
 }
 
 // Drops the 68030 entries whose code agrees on the mask's bits.
 #[no_mangle]
-pub extern "C" fn mmu_flush_code(
-    tags: &mut [u64; 22],
-    pages: &[u64; 22],
-    stamps: &[u64; 22],
-    marks: &[u64; 3],
-    code: u32,
-    mask: u32,
-) -> u32
-    ensures { λ r. ⌜ ((k : Cache040) → FlushedTo (flushCode code mask (pairWith (cacheOf (now (tags .entry)) (now (pages .entry)) (now (stamps .entry)) (now (marks .entry))) k)) r (pairWith (cacheOf (now (tags .exit)) (now (pages .entry)) (now (stamps .entry)) (now (marks .entry))) k)) ⌝ }
+pub extern "C" fn mmu_flush_code(c030: &mut Atc030, code: u32, mask: u32) -> u32
+    ensures { λ r. ⌜ ((k : Cache040) → FlushedTo (flushCode code mask (pairWith (cacheOf (now (c030 .entry))) k)) r (pairWith (cacheOf (now (c030 .exit))) k)) ⌝ }
 {
-    let f = flush::flush_code_in(tags, pages, stamps, marks, code, mask);
+    let f = flush::flush_code_in(c030, code, mask);
     flush_number(f)
 }
 
 // Drops those of them whose page is the address's.
 #[no_mangle]
-pub extern "C" fn mmu_flush_page(
-    tags: &mut [u64; 22],
-    pages: &[u64; 22],
-    stamps: &[u64; 22],
-    marks: &[u64; 3],
-    code: u32,
-    mask: u32,
-    address: u32,
-) -> u32
-    ensures { λ r. ⌜ ((k : Cache040) → FlushedTo (flushPage code mask address (pairWith (cacheOf (now (tags .entry)) (now (pages .entry)) (now (stamps .entry)) (now (marks .entry))) k)) r (pairWith (cacheOf (now (tags .exit)) (now (pages .entry)) (now (stamps .entry)) (now (marks .entry))) k)) ⌝ }
+pub extern "C" fn mmu_flush_page(c030: &mut Atc030, code: u32, mask: u32, address: u32) -> u32
+    ensures { λ r. ⌜ ((k : Cache040) → FlushedTo (flushPage code mask address (pairWith (cacheOf (now (c030 .entry))) k)) r (pairWith (cacheOf (now (c030 .exit))) k)) ⌝ }
 {
-    let f = flush::flush_page_in(tags, pages, stamps, marks, code, mask, address);
+    let f = flush::flush_page_in(c030, code, mask, address);
     flush_number(f)
 }
 
 // Drops a 68040 frame for either privilege.
 #[no_mangle]
-pub extern "C" fn mmu_flush_frame(keys: &mut [u64; 64], bases: &[u64; 64], frame: u32) -> u32
-    ensures { λ r. ⌜ ((c : Cache030) → FlushedTo (flushFrame frame (pairWith c (cache040Of (now (keys .entry)) (now (bases .entry))))) r (pairWith c (cache040Of (now (keys .exit)) (now (bases .entry))))) ⌝ }
+pub extern "C" fn mmu_flush_frame(c040: &mut Atc040, frame: u32) -> u32
+    ensures { λ r. ⌜ ((c : Cache030) → FlushedTo (flushFrame frame (pairWith c (cache040Of (now (c040 .entry))))) r (pairWith c (cache040Of (now (c040 .exit))))) ⌝ }
 {
-    let f = flush::flush_frame_in(keys, bases, frame);
+    let f = flush::flush_frame_in(c040, frame);
     flush_number(f)
 }

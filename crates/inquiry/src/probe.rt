@@ -1,6 +1,8 @@
 // Probe: 'answers from a transparent match or an unrecorded hit, else nothing; off, nothing. It uses the CPU's own state as supervisor and no override.'
 use cache::atc030;
+use cache::atc030::Atc030;
 use cache::atc040;
+use cache::atc040::Atc040;
 use definition::Hit;
 use definition::Probe;
 use definition::Registers;
@@ -13,27 +15,18 @@ ghost use Rattle.definition.specs.Translate.{hitAddress, joined};
 ghost use Rattle.definition.specs.Probe.{probed, probe030, probe040, probeInOrder, probe};
 ghost use Rattle.cache.specs.Atc030.{cacheOf};
 ghost use Rattle.cache.specs.Atc040.{cache040Of};
-ghost use Rattle.plan.specs.Arrays.{cachesOf};
+ghost use Rattle.cache.specs.Pair.{cachesOf};
 
 // The 68030 cache, where there is a page shift.
-fn probe_030(
-    tags: &[u64; 22],
-    pages: &[u64; 22],
-    stamps: &[u64; 22],
-    marks: &[u64; 3],
-    tc: u32,
-    code: u32,
-    write: bool,
-    address: u32,
-) -> Probe
+fn probe_030(c030: &Atc030, tc: u32, code: u32, write: bool, address: u32) -> Probe
     requires { ⌜ code < 8 ⌝ }
-    ensures { λ r. ⌜ r ≡ probe030 (cacheOf (now (tags .entry)) (now (pages .entry)) (now (stamps .entry)) (now (marks .entry))) code write address (shiftOf tc) ⌝ }
+    ensures { λ r. ⌜ r ≡ probe030 (cacheOf (now (c030 .entry))) code write address (shiftOf tc) ⌝ }
 {
     match tables::page_shift(tc) {
         Shift::NoPage => Probe::Nothing,
         Shift::Bits(shift) => {
             let page = address >> shift;
-            match atc030::probe(tags, pages, stamps, marks, code, page, shift, write) {
+            match atc030::probe(c030, code, page, shift, write) {
                 Hit::At(base) => Probe::Address(tables::hit_address(base, address, shift)),
                 Hit::Miss => Probe::Nothing,
             }
@@ -42,20 +35,13 @@ fn probe_030(
 }
 
 // The 68040 cache.
-fn probe_040(
-    keys: &[u64; 64],
-    bases: &[u64; 64],
-    g: Registers,
-    own: bool,
-    write: bool,
-    address: u32,
-) -> Probe
-    ensures { λ r. ⌜ r ≡ probe040 g (cache040Of (now (keys .entry)) (now (bases .entry))) own write address ⌝ }
+fn probe_040(c040: &Atc040, g: Registers, own: bool, write: bool, address: u32) -> Probe
+    ensures { λ r. ⌜ r ≡ probe040 g (cache040Of (now (c040 .entry))) own write address ⌝ }
 {
     let tc = g.tc;
     let bits = tables::page_bits(tc);
     let frame = address >> bits;
-    match atc040::look_040(keys, bases, frame, own, write) {
+    match atc040::look_040(c040, frame, own, write) {
         Hit::At(base) => Probe::Address(tables::joined_040(tc, base, address)),
         Hit::Miss => Probe::Nothing,
     }
@@ -63,19 +49,15 @@ fn probe_040(
 
 // The transparent registers before either cache.
 fn probe_in_order(
-    tags: &[u64; 22],
-    pages: &[u64; 22],
-    stamps: &[u64; 22],
-    marks: &[u64; 3],
-    keys: &[u64; 64],
-    bases: &[u64; 64],
+    c030: &Atc030,
+    c040: &Atc040,
     g: Registers,
     own: bool,
     instruction: bool,
     write: bool,
     address: u32,
 ) -> Probe
-    ensures { λ r. ⌜ r ≡ probeInOrder g own instruction write address (cachesOf (now (tags .entry)) (now (pages .entry)) (now (stamps .entry)) (now (marks .entry)) (now (keys .entry)) (now (bases .entry))) ⌝ }
+    ensures { λ r. ⌜ r ≡ probeInOrder g own instruction write address (cachesOf (now (c030 .entry)) (now (c040 .entry))) ⌝ }
 {
     if !checks::is_on(g) {
         return Probe::Nothing;
@@ -85,44 +67,28 @@ fn probe_in_order(
         return Probe::Address(address);
     }
     if g.family == 30 {
-        return probe_030(tags, pages, stamps, marks, g.tc, code, write, address);
+        return probe_030(c030, g.tc, code, write, address);
     }
-    probe_040(keys, bases, g, own, write, address)
+    probe_040(c040, g, own, write, address)
 }
 
 // Probe over caches that the caller keeps.
 pub fn probe_in(
-    tags: &[u64; 22],
-    pages: &[u64; 22],
-    stamps: &[u64; 22],
-    marks: &[u64; 3],
-    keys: &[u64; 64],
-    bases: &[u64; 64],
+    c030: &Atc030,
+    c040: &Atc040,
     g: Registers,
     own: bool,
     instruction: bool,
     write: bool,
     address: u32,
 ) -> Probe
-    ensures { λ r. ⌜ r ≡ probe g own instruction write address (cachesOf (now (tags .entry)) (now (pages .entry)) (now (stamps .entry)) (now (marks .entry)) (now (keys .entry)) (now (bases .entry))) ⌝ }
+    ensures { λ r. ⌜ r ≡ probe g own instruction write address (cachesOf (now (c030 .entry)) (now (c040 .entry))) ⌝ }
 {
     let one = checks::no_family(g.family);
-    let four = atc030::bad_cache(tags, pages, stamps, marks);
+    let four = atc030::bad_cache(c030);
     let n = checks::first_refusal(one, false, false, false, false, four);
     if n == 0 {
-        return probe_in_order(
-            tags,
-            pages,
-            stamps,
-            marks,
-            keys,
-            bases,
-            g,
-            own,
-            instruction,
-            write,
-            address,
-        );
+        return probe_in_order(c030, c040, g, own, instruction, write, address);
     }
     Probe::Refused(n)
 }

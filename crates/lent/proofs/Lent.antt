@@ -26,7 +26,7 @@ use Rattle.plan.specs.declared.Plan.the-variants as plan
 use Rattle.plan.specs.Plans.{wayOf}
 use Rattle.translate.specs.Stages.{planAccess, shownTranslated, concludeAccess}
 use Rattle.load.specs.Loaded.{planLoad, LoadEnded, shownLoaded, loadWalks, concludeLoad, LoadedIn}
-use Rattle.plan.specs.Arrays.{cachesOf, pairWith}
+use Rattle.cache.specs.Pair.{cachesOf, pairWith}
 use Rattle.search.specs.Searched.{PlannedIn030}
 use Rattle.translate.specs.InPlace.{PlannedIn, AnsweredIn}
 use Rattle.translate.proofs.Staged.{translated-by}
@@ -36,29 +36,29 @@ use Rattle.lent.specs.Settled.{isSettled, settledAnswer}
 
 -- ---- translate
 pub translates : (g : Registers) (a : Access) (m : Memory) (c : Caches) {two three : Bool} {p : Plan} {address : ℕ} {way : Way} {w : Walks} {t : Translation} {n : ℕ}
-    {ts ps ss ms ks bs ts′ ps′ ss′ ms′ ks′ bs′ : List ℕ} → two ≡ badBase m → three ≡ badRange m → PlannedIn (planAccess g a two three c) p ts ps ss ms ks bs
+    {c3 c4 c3′ c4′ : List ℕ} → two ≡ badBase m → three ≡ badRange m → PlannedIn (planAccess g a two three c) p c3 c4
     → address ≡ a .address → way ≡ wayOf p → w ≡ walksOf m g address way
-    → AnsweredIn (concludeAccess g a (cachesOf ts ps ss ms ks bs) p w) t n ts′ ps′ ss′ ms′ ks′ bs′
-    → AnsweredIn (shownTranslated (translate g a m c)) t n ts′ ps′ ss′ ms′ ks′ bs′
-translates g a m c {two} {three} {p} {address} {way} {w} {t} {n} {ts} {ps} {ss} {ms} {ks} {bs} {ts′} {ps′} {ss′} {ms′} {ks′} {bs′} is-two is-three k is-address is-way walked q =
-    let planned : PlannedIn (planAccess g a (badBase m) (badRange m) c) p ts ps ss ms ks bs = rw (← is-two, ← is-three) k in
+    → AnsweredIn (concludeAccess g a (cachesOf c3 c4) p w) t n c3′ c4′
+    → AnsweredIn (shownTranslated (translate g a m c)) t n c3′ c4′
+translates g a m c {two} {three} {p} {address} {way} {w} {t} {n} {c3} {c4} {c3′} {c4′} is-two is-three k is-address is-way walked q =
+    let planned : PlannedIn (planAccess g a (badBase m) (badRange m) c) p c3 c4 = rw (← is-two, ← is-three) k in
     let walks : w ≡ walksOf m g (a .address) (wayOf p) = walked ∙ rw (is-address, is-way) in
-    translated-by g a m c (planned .plans) (planned .leaves) (subst (λ (x : Walks). AnsweredIn (concludeAccess g a (cachesOf ts ps ss ms ks bs) p x) t n ts′ ps′ ss′ ms′ ks′ bs′) walks q)
+    translated-by g a m c (planned .plans) (planned .leaves) (subst (λ (x : Walks). AnsweredIn (concludeAccess g a (cachesOf c3 c4) p x) t n c3′ c4′) walks q)
 
 -- the plan settles it, and no table is asked
-pub settles : (g : Registers) (a : Access) (m : Memory) (c : Caches) {two three done : Bool} {p : Plan} {t : Translation} {n : ℕ} {ts ps ss ms ks bs : List ℕ}
-    → two ≡ badBase m → three ≡ badRange m → PlannedIn (planAccess g a two three c) p ts ps ss ms ks bs → done ≡ isSettled p → Holds done
-    → (t ≡ settledAnswer p) × (n ≡ 0) → AnsweredIn (shownTranslated (translate g a m c)) t n ts ps ss ms ks bs
-settles g a m c {two} {three} {done} {p} {t} {n} {ts} {ps} {ss} {ms} {ks} {bs} is-two is-three k is-done h q = go p refl (subst Holds is-done h)
+pub settles : (g : Registers) (a : Access) (m : Memory) (c : Caches) {two three done : Bool} {p : Plan} {t : Translation} {n : ℕ} {c3 c4 : List ℕ}
+    → two ≡ badBase m → three ≡ badRange m → PlannedIn (planAccess g a two three c) p c3 c4 → done ≡ isSettled p → Holds done
+    → (t ≡ settledAnswer p) × (n ≡ 0) → AnsweredIn (shownTranslated (translate g a m c)) t n c3 c4
+settles g a m c {two} {three} {done} {p} {t} {n} {c3} {c4} is-two is-three k is-done h q = go p refl (subst Holds is-done h)
   where
-    go : (x : Plan) → p ≡ x → Holds (isSettled x) → AnsweredIn (shownTranslated (translate g a m c)) t n ts ps ss ms ks bs
+    go : (x : Plan) → p ≡ x → Holds (isSettled x) → AnsweredIn (shownTranslated (translate g a m c)) t n c3 c4
     go (plan.Refused number) e _ = rw (q .0 ∙ ap settledAnswer e, q .1) (in-refused g a m c is-two is-three k e)
     go (plan.Settled x) e _ = rw (q .0 ∙ ap settledAnswer e, q .1) (in-settled g a m c is-two is-three k e)
     go (plan.Walk way) e h = absurd h
 
 -- ---- load
-module _ (g : Registers) (code address : ℕ) (c : Cache030) (two three : Bool) {p : Plan} {ts ps ss ms : List ℕ}
-    (k : PlannedIn030 (planLoad g code address two three c) p ts ps ss ms) where
+module _ (g : Registers) (code address : ℕ) (c : Cache030) (two three : Bool) {p : Plan} {c3 : List ℕ}
+    (k : PlannedIn030 (planLoad g code address two three c) p c3) where
   -- a load makes the same of no walk and of a 68040 walk
   searched : (write : Bool) (m : Memory) (x : Cache030) (p : Plan) (way : Way)
       → concludeLoad (g .tc) (code % 8) address write x p (walks030 m (g .tc) (rootBy g way) address way) ≡ concludeLoad (g .tc) (code % 8) address write x p (walksOf m g address way)
@@ -69,11 +69,11 @@ module _ (g : Registers) (code address : ℕ) (c : Cache030) (two three : Bool) 
   searched write m x (plan.Walk y) (ways.By030 by limit) = refl
   searched write m x (plan.Walk y) (ways.By040 supervisor) = refl
 
-  pub loads : (write : Bool) (m : Memory) {way : Way} {tc : ℕ} {root : Root} {w : Walks} {l : Load} {n : ℕ} {ts′ ps′ ss′ ms′ : List ℕ} → two ≡ badBase m → three ≡ badRange m
+  pub loads : (write : Bool) (m : Memory) {way : Way} {tc : ℕ} {root : Root} {w : Walks} {l : Load} {n : ℕ} {c3′ : List ℕ} → two ≡ badBase m → three ≡ badRange m
       → way ≡ wayOf p → tc ≡ g .tc → root ≡ rootBy g way → w ≡ walks030 m tc root address way
-      → LoadedIn (concludeLoad (g .tc) (code % 8) address write (cacheOf ts ps ss ms) p w) l n ts′ ps′ ss′ ms′
-      → (d : Cache040) → LoadedIn (shownLoaded (loadOf g code write address m (pairWith c d))) l n ts′ ps′ ss′ ms′
-  loads write m {way} {tc} {root} {w} {l} {n} {ts′} {ps′} {ss′} {ms′} is-two is-three is-way is-tc is-root walked q d =
-      let same : concludeLoad (g .tc) (code % 8) address write (cacheOf ts ps ss ms) p w ≡ concludeLoad (g .tc) (code % 8) address write (cacheOf ts ps ss ms) p (walksOf m g address way)
-      = ap (concludeLoad (g .tc) (code % 8) address write (cacheOf ts ps ss ms) p) (walked ∙ rw (is-tc, is-root)) ∙ searched write m (cacheOf ts ps ss ms) p way in
-      load-by g code write address m (pairWith c d) is-two is-three k is-way refl (subst (λ (x : LoadEnded). LoadedIn x l n ts′ ps′ ss′ ms′) same q)
+      → LoadedIn (concludeLoad (g .tc) (code % 8) address write (cacheOf c3) p w) l n c3′
+      → (d : Cache040) → LoadedIn (shownLoaded (loadOf g code write address m (pairWith c d))) l n c3′
+  loads write m {way} {tc} {root} {w} {l} {n} {c3′} is-two is-three is-way is-tc is-root walked q d =
+      let same : concludeLoad (g .tc) (code % 8) address write (cacheOf c3) p w ≡ concludeLoad (g .tc) (code % 8) address write (cacheOf c3) p (walksOf m g address way)
+      = ap (concludeLoad (g .tc) (code % 8) address write (cacheOf c3) p) (walked ∙ rw (is-tc, is-root)) ∙ searched write m (cacheOf c3) p way in
+      load-by g code write address m (pairWith c d) is-two is-three k is-way refl (subst (λ (x : LoadEnded). LoadedIn x l n c3′) same q)

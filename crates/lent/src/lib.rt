@@ -1,5 +1,7 @@
 // The calls in place over what the host lends in one call: the arrays of its caches and its own slice of ranges. Nothing is copied.
 // A call that is lent the ranges is thin: its proof is a walk by hand, which tools/ prints.
+use cache::atc030::Atc030;
+use cache::atc040::Atc040;
 use definition::Access;
 use definition::Range;
 use definition::Registers;
@@ -19,7 +21,7 @@ ghost use Rattle.cache.specs.Atc030.{cacheOf};
 ghost use Rattle.translate.specs.Stages.{planAccess, shownTranslated};
 ghost use Rattle.load.specs.Loaded.{planLoad, concludeLoad, shownLoaded, LoadedIn};
 ghost use Rattle.lent.specs.Settled.{isSettled, settledAnswer};
-ghost use Rattle.plan.specs.Arrays.{cachesOf, pairWith};
+ghost use Rattle.cache.specs.Pair.{cachesOf, pairWith};
 ghost use Rattle.search.specs.Searched.{PlannedIn030};
 ghost use Rattle.translate.specs.InPlace.{PlannedIn, AnsweredIn};
 
@@ -34,20 +36,16 @@ fn address_of(a: Access) -> u32
 
 // The plan of an access, over arrays that are all lent as `&mut`.
 fn planned(
-    tags: &mut [u64; 22],
-    pages: &mut [u64; 22],
-    stamps: &mut [u64; 22],
-    marks: &mut [u64; 3],
-    keys: &mut [u64; 64],
-    bases: &mut [u64; 64],
+    c030: &mut Atc030,
+    c040: &mut Atc040,
     two: bool,
     three: bool,
     g: Registers,
     a: Access,
 ) -> Plan
-    ensures { λ r. ⌜ PlannedIn (planAccess g a two three (cachesOf (now (tags .entry)) (now (pages .entry)) (now (stamps .entry)) (now (marks .entry)) (now (keys .entry)) (now (bases .entry)))) r (now (tags .exit)) (now (pages .exit)) (now (stamps .exit)) (now (marks .exit)) (now (keys .exit)) (now (bases .exit)) ⌝ }
+    ensures { λ r. ⌜ PlannedIn (planAccess g a two three (cachesOf (now (c030 .entry)) (now (c040 .entry)))) r (now (c030 .exit)) (now (c040 .exit)) ⌝ }
 {
-    translate::plan_access(tags, pages, stamps, marks, keys, bases, two, three, g, a)
+    translate::plan_access(c030, c040, two, three, g, a)
 }
 
 // Whether a plan wants no walk.
@@ -83,23 +81,19 @@ fn settled(plan: Plan) -> Outcome
 
 // Translate over the caches and the ranges that the caller lends. A hit returns before the tables are thought of.
 pub fn translate_lent(
-    tags: &mut [u64; 22],
-    pages: &mut [u64; 22],
-    stamps: &mut [u64; 22],
-    marks: &mut [u64; 3],
-    keys: &mut [u64; 64],
-    bases: &mut [u64; 64],
+    c030: &mut Atc030,
+    c040: &mut Atc040,
     longs: &[u32],
     base: u32,
     ranges: &[Range],
     g: Registers,
     a: Access,
 ) -> Outcome
-    ensures { λ r. ⌜ AnsweredIn (shownTranslated (translateOf g a (memory (now (longs .entry)) base (now (ranges .entry))) (cachesOf (now (tags .entry)) (now (pages .entry)) (now (stamps .entry)) (now (marks .entry)) (now (keys .entry)) (now (bases .entry))))) (r .answer) (r .count) (now (tags .exit)) (now (pages .exit)) (now (stamps .exit)) (now (marks .exit)) (now (keys .exit)) (now (bases .exit)) ⌝ }
+    ensures { λ r. ⌜ AnsweredIn (shownTranslated (translateOf g a (memory (now (longs .entry)) base (now (ranges .entry))) (cachesOf (now (c030 .entry)) (now (c040 .entry))))) (r .answer) (r .count) (now (c030 .exit)) (now (c040 .exit)) ⌝ }
 {
     let two = checks::bad_longs(longs, base);
     let three = tables::any_crossed(ranges);
-    let plan = planned(tags, pages, stamps, marks, keys, bases, two, three, g, a);
+    let plan = planned(c030, c040, two, three, g, a);
     let done = is_settled(plan);
     if done {
         return settled(plan);
@@ -107,34 +101,28 @@ pub fn translate_lent(
     let address = address_of(a);
     let way = plan::way_of(plan);
     let walks = tables::walk_for(longs, base, ranges, g, address, way);
-    translate::conclude_access(tags, pages, stamps, marks, keys, bases, g, a, plan, walks)
+    translate::conclude_access(c030, c040, g, a, plan, walks)
 }
 
 // ---- Load.
 
 // The plan of a load, over arrays that are all lent as `&mut`.
 fn planned_load(
-    tags: &mut [u64; 22],
-    pages: &mut [u64; 22],
-    stamps: &mut [u64; 22],
-    marks: &mut [u64; 3],
+    c030: &mut Atc030,
     two: bool,
     three: bool,
     g: Registers,
     code: u32,
     address: u32,
 ) -> Plan
-    ensures { λ r. ⌜ PlannedIn030 (planLoad g code address two three (cacheOf (now (tags .entry)) (now (pages .entry)) (now (stamps .entry)) (now (marks .entry)))) r (now (tags .exit)) (now (pages .exit)) (now (stamps .exit)) (now (marks .exit)) ⌝ }
+    ensures { λ r. ⌜ PlannedIn030 (planLoad g code address two three (cacheOf (now (c030 .entry)))) r (now (c030 .exit)) ⌝ }
 {
-    load::plan_load(tags, pages, stamps, marks, two, three, g, code, address)
+    load::plan_load(c030, two, three, g, code, address)
 }
 
 // What the plan of a load and its walk give.
 fn concluded_load(
-    tags: &mut [u64; 22],
-    pages: &mut [u64; 22],
-    stamps: &mut [u64; 22],
-    marks: &mut [u64; 3],
+    c030: &mut Atc030,
     g: Registers,
     code: u32,
     write: bool,
@@ -142,28 +130,14 @@ fn concluded_load(
     plan: Plan,
     walks: Walks,
 ) -> LoadOutcome
-    ensures { λ r. ⌜ LoadedIn (concludeLoad (g .tc) (code % 8) address write (cacheOf (now (tags .entry)) (now (pages .entry)) (now (stamps .entry)) (now (marks .entry))) plan walks) (r .answer) (r .count) (now (tags .exit)) (now (pages .exit)) (now (stamps .exit)) (now (marks .exit)) ⌝ }
+    ensures { λ r. ⌜ LoadedIn (concludeLoad (g .tc) (code % 8) address write (cacheOf (now (c030 .entry))) plan walks) (r .answer) (r .count) (now (c030 .exit)) ⌝ }
 {
-    load::conclude_load(
-        tags,
-        pages,
-        stamps,
-        marks,
-        g.tc,
-        code,
-        address,
-        write,
-        plan,
-        walks,
-    )
+    load::conclude_load(c030, g.tc, code, address, write, plan, walks)
 }
 
 // Load over the 68030 cache and the ranges that the caller lends.
 pub fn load_lent(
-    tags: &mut [u64; 22],
-    pages: &mut [u64; 22],
-    stamps: &mut [u64; 22],
-    marks: &mut [u64; 3],
+    c030: &mut Atc030,
     longs: &[u32],
     base: u32,
     ranges: &[Range],
@@ -172,25 +146,14 @@ pub fn load_lent(
     write: bool,
     address: u32,
 ) -> LoadOutcome
-    ensures { λ r. ⌜ ((k : Cache040) → LoadedIn (shownLoaded (loadOf g code write address (memory (now (longs .entry)) base (now (ranges .entry))) (pairWith (cacheOf (now (tags .entry)) (now (pages .entry)) (now (stamps .entry)) (now (marks .entry))) k))) (r .answer) (r .count) (now (tags .exit)) (now (pages .exit)) (now (stamps .exit)) (now (marks .exit))) ⌝ }
+    ensures { λ r. ⌜ ((k : Cache040) → LoadedIn (shownLoaded (loadOf g code write address (memory (now (longs .entry)) base (now (ranges .entry))) (pairWith (cacheOf (now (c030 .entry))) k))) (r .answer) (r .count) (now (c030 .exit))) ⌝ }
 {
     let two = checks::bad_longs(longs, base);
     let three = tables::any_crossed(ranges);
-    let plan = planned_load(tags, pages, stamps, marks, two, three, g, code, address);
+    let plan = planned_load(c030, two, three, g, code, address);
     let way = plan::way_of(plan);
     let tc = tables::tc_of(g);
     let root = tables::root_for(g, way);
     let walks = tables::walk_030_for(longs, base, ranges, tc, root, address, way);
-    concluded_load(
-        tags,
-        pages,
-        stamps,
-        marks,
-        g,
-        code,
-        write,
-        address,
-        plan,
-        walks,
-    )
+    concluded_load(c030, g, code, write, address, plan, walks)
 }

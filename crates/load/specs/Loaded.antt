@@ -18,7 +18,7 @@ use Rattle.definition.specs.declared.Load.{Load}
 use Rattle.tables.specs.declared.Way.{Way}
 use Rattle.tables.specs.declared.Walks.{Walks}
 use Rattle.tables.specs.declared.Walks.the-variants as walks
-use Rattle.cache.specs.Atc030.{cacheOf, Sized}
+use Rattle.cache.specs.Atc030.{cacheOf}
 use Rattle.plan.specs.declared.Plan.{Plan}
 use Rattle.plan.specs.declared.Plan.the-variants as plan
 use Rattle.plan.specs.Plans.{checksOf}
@@ -64,8 +64,8 @@ concludeLoad tc code address write c (plan.Settled x) w = loadEnded Load.Loaded 
 concludeLoad tc code address write c (plan.Walk x) w = loadWalks tc code address write c w
 
 -- a load's answer and its count, with the 68030 arrays after them
-pub record LoadedIn (e : LoadEnded) (answer : Load) (count : ℕ) (ts ps ss ms : List ℕ) : Type 0 where
+pub record LoadedIn (e : LoadEnded) (answer : Load) (count : ℕ) (c3 : List ℕ) : Type 0 where
   pub answers : answer ≡ e .answer
   pub counts : count ≡ e .count
-  pub leaves : cacheOf ts ps ss ms ≡ e .cache
-  pub sized : Sized ts ps ss ms
+  pub leaves : cacheOf c3 ≡ e .cache
+  pub sized : length c3 ≡ 69

@@ -1,4 +1,5 @@
 // Load in place, over arrays that the caller keeps: 'PLOAD, only with an enabled PMMU, drops the page (mask 7), stops if there is no page shift or TT0 or TT1 matches, and searches and caches.'
+use cache::atc030::Atc030;
 use cache::atc030::bad_cache;
 use cache::atc030::flush_page;
 use definition::Load;
@@ -11,7 +12,7 @@ use tables::Walks;
 use tables::Way;
 ghost use mathlib.Core.Path.{_≡_};
 ghost use Prim.Native.Nat.{_%_};
-ghost use lib.ListN.{take};
+ghost use lib.ListN.{length, take};
 ghost use Rattle.definition.specs.Words.{anyOf};
 ghost use Rattle.definition.specs.Memory.{memory};
 ghost use Rattle.definition.specs.Refusal.{crossed};
@@ -19,9 +20,9 @@ ghost use Rattle.definition.specs.Transparent.{transparent030};
 ghost use Rattle.definition.specs.Walk030.{shiftOf};
 ghost use Rattle.definition.specs.Cache040.{Cache040};
 ghost use Rattle.definition.specs.Load.{stopped, load};
-ghost use Rattle.cache.specs.Atc030.{cacheOf, Sized};
+ghost use Rattle.cache.specs.Atc030.{cacheOf};
 ghost use Rattle.load.specs.Loaded.{loadPlan, planLoad, loadWalks, concludeLoad, shownLoaded, LoadedIn};
-ghost use Rattle.plan.specs.Arrays.{pairWith};
+ghost use Rattle.cache.specs.Pair.{pairWith};
 ghost use Rattle.search.specs.Searched.{PlannedIn030};
 
 // An answer with its count.
@@ -52,23 +53,20 @@ fn search_unless(stop: bool, code: u32) -> Plan
 
 // The refusals; then the page is dropped. `two`: the base is bad; `three`: a range is crossed.
 pub fn plan_load(
-    tags: &mut [u64; 22],
-    pages: &[u64; 22],
-    stamps: &[u64; 22],
-    marks: &[u64; 3],
+    c030: &mut Atc030,
     two: bool,
     three: bool,
     g: Registers,
     code: u32,
     address: u32,
 ) -> Plan
-    ensures { λ r. ⌜ PlannedIn030 (planLoad g code address two three (cacheOf (now (tags .entry)) (now (pages .entry)) (now (stamps .entry)) (now (marks .entry)))) r (now (tags .exit)) (now (pages .entry)) (now (stamps .entry)) (now (marks .entry)) ⌝ }
+    ensures { λ r. ⌜ PlannedIn030 (planLoad g code address two three (cacheOf (now (c030 .entry)))) r (now (c030 .exit)) ⌝ }
 {
-    checks::lengths_030(tags, pages, stamps, marks);
+    checks::sized(c030);
     let one = checks::no_family(g.family);
     let six = checks::not_030(g.family);
     let five = checks::above_seven(code);
-    let four = bad_cache(tags, pages, stamps, marks);
+    let four = bad_cache(c030);
     let n = checks::first_refusal(one, six, five, two, three, four);
     if n != 0 {
         return Plan::Refused(n);
@@ -76,25 +74,22 @@ pub fn plan_load(
     if !checks::is_on(g) {
         return Plan::Settled(0);
     }
-    flush_page(tags, pages, stamps, marks, code, 7, address);
+    flush_page(c030, code, 7, address);
     let stop = stops(g, address, code);
     search_unless(stop, code)
 }
 
 // What the walk gives: it caches as a translated access would, and only its count is answered.
 fn loaded(
-    tags: &mut [u64; 22],
-    pages: &mut [u64; 22],
-    stamps: &mut [u64; 22],
-    marks: &mut [u64; 3],
+    c030: &mut Atc030,
     tc: u32,
     code: u32,
     address: u32,
     write: bool,
     walks: Walks,
 ) -> LoadOutcome
-    requires { ⌜ Sized (now tags) (now pages) (now stamps) (now marks) ⌝ }
-    ensures { λ r. ⌜ LoadedIn (loadWalks tc (code % 8) address write (cacheOf (now (tags .entry)) (now (pages .entry)) (now (stamps .entry)) (now (marks .entry))) walks) (r .answer) (r .count) (now (tags .exit)) (now (pages .exit)) (now (stamps .exit)) (now (marks .exit)) ⌝ }
+    requires { ⌜ (length (now c030) ≡ 69) ⌝ }
+    ensures { λ r. ⌜ LoadedIn (loadWalks tc (code % 8) address write (cacheOf (now (c030 .entry))) walks) (r .answer) (r .count) (now (c030 .exit)) ⌝ }
 {
     match walks {
         Walks::Idle => LoadOutcome {
@@ -102,7 +97,7 @@ fn loaded(
             count: 0,
         },
         Walks::By030(w) => {
-            search::end_030(tags, pages, stamps, marks, tc, code, address, write, w);
+            search::end_030(c030, tc, code, address, write, w);
             LoadOutcome {
                 answer: Load::Loaded,
                 count: w.asked,
@@ -117,10 +112,7 @@ fn loaded(
 
 // The answer, its count and the next 68030 cache, from the plan and the walk that it asked for. A code has three bits.
 pub fn conclude_load(
-    tags: &mut [u64; 22],
-    pages: &mut [u64; 22],
-    stamps: &mut [u64; 22],
-    marks: &mut [u64; 3],
+    c030: &mut Atc030,
     tc: u32,
     code: u32,
     address: u32,
@@ -128,9 +120,9 @@ pub fn conclude_load(
     plan: Plan,
     walks: Walks,
 ) -> LoadOutcome
-    ensures { λ r. ⌜ LoadedIn (concludeLoad tc (code % 8) address write (cacheOf (now (tags .entry)) (now (pages .entry)) (now (stamps .entry)) (now (marks .entry))) plan walks) (r .answer) (r .count) (now (tags .exit)) (now (pages .exit)) (now (stamps .exit)) (now (marks .exit)) ⌝ }
+    ensures { λ r. ⌜ LoadedIn (concludeLoad tc (code % 8) address write (cacheOf (now (c030 .entry))) plan walks) (r .answer) (r .count) (now (c030 .exit)) ⌝ }
 {
-    checks::lengths_030(tags, pages, stamps, marks);
+    checks::sized(c030);
     match plan {
         Plan::Refused(n) => LoadOutcome {
             answer: Load::Refused(n),
@@ -140,16 +132,13 @@ pub fn conclude_load(
             answer: Load::Loaded,
             count: 0,
         },
-        Plan::Walk(_) => loaded(tags, pages, stamps, marks, tc, code, address, write, walks),
+        Plan::Walk(_) => loaded(c030, tc, code, address, write, walks),
     }
 }
 
 // Load over a 68030 cache that the caller keeps, with the first `n` of the ranges that it keeps; `three` as for `translate_in`.
 pub fn load_in(
-    tags: &mut [u64; 22],
-    pages: &mut [u64; 22],
-    stamps: &mut [u64; 22],
-    marks: &mut [u64; 3],
+    c030: &mut Atc030,
     longs: &[u32],
     base: u32,
     list: [Range; 16],
@@ -160,22 +149,11 @@ pub fn load_in(
     write: bool,
     address: u32,
 ) -> LoadOutcome
-    ensures { λ r. ⌜ ((k : Cache040) → three ≡ anyOf crossed (take n list) → LoadedIn (shownLoaded (load g code write address (memory (now (longs .entry)) base (take n list)) (pairWith (cacheOf (now (tags .entry)) (now (pages .entry)) (now (stamps .entry)) (now (marks .entry))) k))) (r .answer) (r .count) (now (tags .exit)) (now (pages .exit)) (now (stamps .exit)) (now (marks .exit))) ⌝ }
+    ensures { λ r. ⌜ ((k : Cache040) → three ≡ anyOf crossed (take n list) → LoadedIn (shownLoaded (load g code write address (memory (now (longs .entry)) base (take n list)) (pairWith (cacheOf (now (c030 .entry))) k))) (r .answer) (r .count) (now (c030 .exit))) ⌝ }
 {
     let two = tables::bad_base(longs.len(), base);
-    let plan = plan_load(tags, pages, stamps, marks, two, three, g, code, address);
+    let plan = plan_load(c030, two, three, g, code, address);
     let way = plan::way_of(plan);
     let walks = tables::walk_kept(longs, base, list, n, g, address, way);
-    conclude_load(
-        tags,
-        pages,
-        stamps,
-        marks,
-        g.tc,
-        code,
-        address,
-        write,
-        plan,
-        walks,
-    )
+    conclude_load(c030, g.tc, code, address, write, plan, walks)
 }

@@ -39,13 +39,13 @@ use Rattle.inquiry.proofs.Testing.{test-by}
 -- ---- translate
 pub translates : (g : Registers) (a : Access) (m : Memory) (caches : CachePair) {two three : Bool} {p : PlannedPair} {address : ℕ} {way : Way} {w : Walks} {r : Translated}
     → two ≡ badBase m → three ≡ badRange m
-    → PlannedIn (planAccess g a two three (pairOf caches)) (p .plan) (p .caches .tags) (p .caches .pages) (p .caches .stamps) (p .caches .marks) (p .caches .keys) (p .caches .bases)
+    → PlannedIn (planAccess g a two three (pairOf caches)) (p .plan) (p .caches .c030) (p .caches .c040)
     → address ≡ a .address → way ≡ wayOf (p .plan) → w ≡ walksOf m g address way
-    → AnsweredIn (concludeAccess g a (pairOf (p .caches)) (p .plan) w) (r .answer) (r .count) (r .caches .tags) (r .caches .pages) (r .caches .stamps) (r .caches .marks) (r .caches .keys) (r .caches .bases)
+    → AnsweredIn (concludeAccess g a (pairOf (p .caches)) (p .plan) w) (r .answer) (r .count) (r .caches .c030) (r .caches .c040)
     → TranslatedBy (translate g a m (pairOf caches)) r
 translates g a m caches {two} {three} {p} {address} {way} {w} {r} is-two is-three k is-address is-way walked q =
-    let planned : PlannedIn (planAccess g a (badBase m) (badRange m) (pairOf caches)) (p .plan) (p .caches .tags) (p .caches .pages) (p .caches .stamps) (p .caches .marks) (p .caches .keys) (p .caches .bases) = rw (← is-two, ← is-three) k in
-    let s : AnsweredIn (shownTranslated (translate g a m (pairOf caches))) (r .answer) (r .count) (r .caches .tags) (r .caches .pages) (r .caches .stamps) (r .caches .marks) (r .caches .keys) (r .caches .bases) = translated-by g a m (pairOf caches) (planned .plans) (planned .leaves) (subst (λ (x : Walks). AnsweredIn (concludeAccess g a (pairOf (p .caches)) (p .plan) x) (r .answer) (r .count) (r .caches .tags) (r .caches .pages) (r .caches .stamps) (r .caches .marks) (r .caches .keys) (r .caches .bases)) (walked ∙ rw (is-address, is-way)) q) in
+    let planned : PlannedIn (planAccess g a (badBase m) (badRange m) (pairOf caches)) (p .plan) (p .caches .c030) (p .caches .c040) = rw (← is-two, ← is-three) k in
+    let s : AnsweredIn (shownTranslated (translate g a m (pairOf caches))) (r .answer) (r .count) (r .caches .c030) (r .caches .c040) = translated-by g a m (pairOf caches) (planned .plans) (planned .leaves) (subst (λ (x : Walks). AnsweredIn (concludeAccess g a (pairOf (p .caches)) (p .plan) x) (r .answer) (r .count) (r .caches .c030) (r .caches .c040)) (walked ∙ rw (is-address, is-way)) q) in
     record { answers = s .answers; counts = s .counts; leaves = s .leaves; whole = record { sized = s .whole .sized; sized040 = s .whole .sized040 } }
 
 -- ---- load
@@ -60,13 +60,13 @@ both {c} {d} e f = go e f
     go e f = cc
 
 module _ (g : Registers) (code address : ℕ) (caches : CachePair) (two three : Bool) {p : PlannedPair}
-    (k : PlannedIn030 (planLoad g code address two three (pairOf caches .c030)) (p .plan) (p .caches .tags) (p .caches .pages) (p .caches .stamps) (p .caches .marks) × Beside caches (p .caches)) where
+    (k : PlannedIn030 (planLoad g code address two three (pairOf caches .c030)) (p .plan) (p .caches .c030) × Beside caches (p .caches)) where
   pub loads : (write : Bool) (m : Memory) {way : Way} {w : Walks} {r : Loaded} → two ≡ badBase m → three ≡ badRange m → way ≡ wayOf (p .plan) → w ≡ walksOf m g address way
-      → LoadedIn (concludeLoad (g .tc) (code % 8) address write (pairOf (p .caches) .c030) (p .plan) w) (r .answer) (r .count) (r .caches .tags) (r .caches .pages) (r .caches .stamps) (r .caches .marks) × Beside (p .caches) (r .caches)
+      → LoadedIn (concludeLoad (g .tc) (code % 8) address write (pairOf (p .caches) .c030) (p .plan) w) (r .answer) (r .count) (r .caches .c030) × Beside (p .caches) (r .caches)
       → LoadedBy (load g code write address m (pairOf caches)) r
   loads write m {way} {w} {r} is-two is-three is-way walked q =
-      let s : LoadedIn (shownLoaded (load g code write address m (pairOf caches))) (r .answer) (r .count) (r .caches .tags) (r .caches .pages) (r .caches .stamps) (r .caches .marks) = load-by g code write address m (pairOf caches) is-two is-three (k .0) is-way walked (q .0) in
-      let beside : pairOf (r .caches) .c040 ≡ load g code write address m (pairOf caches) .caches .c040 = rw (q .1 .keys ∙ k .1 .keys, q .1 .bases ∙ k .1 .bases) (sym (load-beside g code write address m (pairOf caches))) in
+      let s : LoadedIn (shownLoaded (load g code write address m (pairOf caches))) (r .answer) (r .count) (r .caches .c030) = load-by g code write address m (pairOf caches) is-two is-three (k .0) is-way walked (q .0) in
+      let beside : pairOf (r .caches) .c040 ≡ load g code write address m (pairOf caches) .caches .c040 = rw (q .1 .same ∙ k .1 .same) (sym (load-beside g code write address m (pairOf caches))) in
       record { answers = s .answers; counts = s .counts; leaves = both (s .leaves) beside; whole = record { sized = s .sized; sized040 = q .1 .sized040 } }
 
 -- ---- test

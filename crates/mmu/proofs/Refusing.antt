@@ -19,7 +19,7 @@ use Rattle.definition.specs.declared.Test.{Test}
 use Rattle.definition.specs.declared.Probe.{Probe}
 use Rattle.definition.specs.declared.Flush.{Flush}
 use Rattle.definition.proofs.Refusals.{numbers, inTranslation, translate-refuses, translate-leaves, inLoad, load-refuses, load-leaves, inTest, test-refuses, test-leaves, inProbe, probe-refuses, inFlush, flush-refuses, flush-leaves}
-use Rattle.cache.specs.Pair.{pairOf, Whole}
+use Rattle.cache.specs.Pair.{pairOf, SizedPair}
 use Rattle.cache.specs.declared.CachePair.{CachePair}
 use Rattle.cache.proofs.Pairs.{pair-same}
 use Rattle.inquiry.specs.declared.test.TestOutcome.{TestOutcome}
@@ -34,7 +34,7 @@ module _ (g : Registers) (a : Access) (m : Memory) (c : CachePair) (r : Translat
   pub translate-first : inTranslation (r .answer) ≡ numbers (refusalOf (translateChecks g a m (pairOf c)))
   translate-first = ap inTranslation (k .answers) ∙ translate-refuses g m a (pairOf c)
 
-  pub translate-keeps : (n : ℕ) → r .answer ≡ Translation.Refused n → Whole c → (r .count ≡ 0) × (r .caches ≡ c)
+  pub translate-keeps : (n : ℕ) → r .answer ≡ Translation.Refused n → SizedPair c → (r .count ≡ 0) × (r .caches ≡ c)
   translate-keeps n e whole =
       let left = translate-leaves g m a (pairOf c) n (sym (k .answers) ∙ e) in
       (k .counts ∙ ap (λ (t : TranslatedOf). length (t .asked)) left, pair-same (r .caches) c (k .whole) whole (k .leaves ∙ ap (λ (t : TranslatedOf). t .caches) left))
@@ -43,7 +43,7 @@ module _ (g : Registers) (code : ℕ) (write : Bool) (address : ℕ) (m : Memory
   pub load-first : inLoad (r .answer) ≡ numbers (refusalOf (loadChecks g code m (pairOf c)))
   load-first = ap inLoad (k .answers) ∙ load-refuses g code write address m (pairOf c)
 
-  pub load-keeps : (n : ℕ) → r .answer ≡ Load.Refused n → Whole c → (r .count ≡ 0) × (r .caches ≡ c)
+  pub load-keeps : (n : ℕ) → r .answer ≡ Load.Refused n → SizedPair c → (r .count ≡ 0) × (r .caches ≡ c)
   load-keeps n e whole =
       let left = load-leaves g code write address m (pairOf c) n (sym (k .answers) ∙ e) in
       (k .counts ∙ ap (λ (l : LoadedOf). length (l .asked)) left, pair-same (r .caches) c (k .whole) whole (k .leaves ∙ ap (λ (l : LoadedOf). l .caches) left))
@@ -66,7 +66,7 @@ module _ (k : Checks) (c : CachePair) (done : FlushedOf) (is : done .answer ≡ 
   first : inFlush (r .answer) ≡ numbers (refusalOf k)
   first = ap inFlush (by .answers) ∙ flush-refuses k (pairOf c) done is
 
-  keeps : (n : ℕ) → r .answer ≡ Flush.Refused n → Whole c → r .caches ≡ c
+  keeps : (n : ℕ) → r .answer ≡ Flush.Refused n → SizedPair c → r .caches ≡ c
   keeps n e whole =
       pair-same (r .caches) c (by .whole) whole
       (by .leaves ∙ ap (λ (f : FlushedOf). f .caches) (flush-leaves k (pairOf c) done is n (sym (by .answers) ∙ e)))
@@ -76,7 +76,7 @@ module _ (c : CachePair) (r : Flushed) where
   unfolding flushAll
   flush-all-first by = first _ c _ refl r by
 
-  pub flush-all-keeps : FlushedBy (flushAll (pairOf c)) r → (n : ℕ) → r .answer ≡ Flush.Refused n → Whole c → r .caches ≡ c
+  pub flush-all-keeps : FlushedBy (flushAll (pairOf c)) r → (n : ℕ) → r .answer ≡ Flush.Refused n → SizedPair c → r .caches ≡ c
   unfolding flushAll
   flush-all-keeps by = keeps _ c _ refl r by
 
@@ -85,7 +85,7 @@ module _ (c : CachePair) (r : Flushed) where
   unfolding flushCode
   flush-code-first code mask by = first _ c _ refl r by
 
-  pub flush-code-keeps : (code mask : ℕ) → FlushedBy (flushCode code mask (pairOf c)) r → (n : ℕ) → r .answer ≡ Flush.Refused n → Whole c → r .caches ≡ c
+  pub flush-code-keeps : (code mask : ℕ) → FlushedBy (flushCode code mask (pairOf c)) r → (n : ℕ) → r .answer ≡ Flush.Refused n → SizedPair c → r .caches ≡ c
   unfolding flushCode
   flush-code-keeps code mask by = keeps _ c _ refl r by
 
@@ -94,7 +94,7 @@ module _ (c : CachePair) (r : Flushed) where
   unfolding flushPage
   flush-page-first code mask address by = first _ c _ refl r by
 
-  pub flush-page-keeps : (code mask address : ℕ) → FlushedBy (flushPage code mask address (pairOf c)) r → (n : ℕ) → r .answer ≡ Flush.Refused n → Whole c → r .caches ≡ c
+  pub flush-page-keeps : (code mask address : ℕ) → FlushedBy (flushPage code mask address (pairOf c)) r → (n : ℕ) → r .answer ≡ Flush.Refused n → SizedPair c → r .caches ≡ c
   unfolding flushPage
   flush-page-keeps code mask address by = keeps _ c _ refl r by
 
@@ -103,6 +103,6 @@ module _ (c : CachePair) (r : Flushed) where
   unfolding flushFrame
   flush-frame-first frame by = first _ c _ refl r by
 
-  pub flush-frame-keeps : (frame : ℕ) → FlushedBy (flushFrame frame (pairOf c)) r → (n : ℕ) → r .answer ≡ Flush.Refused n → Whole c → r .caches ≡ c
+  pub flush-frame-keeps : (frame : ℕ) → FlushedBy (flushFrame frame (pairOf c)) r → (n : ℕ) → r .answer ≡ Flush.Refused n → SizedPair c → r .caches ≡ c
   unfolding flushFrame
   flush-frame-keeps frame by = keeps _ c _ refl r by

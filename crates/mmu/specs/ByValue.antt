@@ -6,8 +6,7 @@ use Rattle.definition.specs.Translate.{Translated as TranslatedOf}
 use Rattle.definition.specs.Load.{Loaded as LoadedOf}
 use Rattle.definition.specs.declared.Translation.{Translation}
 use Rattle.definition.specs.declared.Load.{Load}
-use Rattle.cache.specs.Atc040.{Sized040}
-use Rattle.cache.specs.Pair.{pairOf, Whole}
+use Rattle.cache.specs.Pair.{pairOf, SizedPair}
 use Rattle.cache.specs.declared.CachePair.{CachePair}
 use Rattle.mmu.specs.declared.by_value.Translated.{Translated}
 use Rattle.mmu.specs.declared.by_value.Loaded.{Loaded}
@@ -23,16 +22,15 @@ pub record TranslatedBy (t : TranslatedOf) (r : Translated) : Type 0 where
   pub answers : r .answer ≡ t .answer
   pub counts : r .count ≡ length (t .asked)
   pub leaves : pairOf (r .caches) ≡ t .caches
-  pub whole : Whole (r .caches)
+  pub whole : SizedPair (r .caches)
 
 pub record LoadedBy (l : LoadedOf) (r : Loaded) : Type 0 where
   pub answers : r .answer ≡ l .answer
   pub counts : r .count ≡ length (l .asked)
   pub leaves : pairOf (r .caches) ≡ l .caches
-  pub whole : Whole (r .caches)
+  pub whole : SizedPair (r .caches)
 
 -- a call that takes the 68030 cache alone: the 68040 arrays stay
 pub record Beside (p r : CachePair) : Type 0 where
-  pub keys : r .keys ≡ p .keys
-  pub bases : r .bases ≡ p .bases
-  pub sized040 : Sized040 (r .keys) (r .bases)
+  pub same : r .c040 ≡ p .c040
+  pub sized040 : length (r .c040) ≡ 128

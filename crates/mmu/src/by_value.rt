@@ -66,75 +66,31 @@ fn address_of(a: Access) -> u32
 
 // The plan of an access, over copies of the arrays.
 fn planned(two: bool, three: bool, g: Registers, a: Access, caches: CachePair) -> PlannedPair
-    ensures { λ r. ⌜ PlannedIn (planAccess g a two three (pairOf caches)) (r .plan) (r .caches .tags) (r .caches .pages) (r .caches .stamps) (r .caches .marks) (r .caches .keys) (r .caches .bases) ⌝ }
+    ensures { λ r. ⌜ PlannedIn (planAccess g a two three (pairOf caches)) (r .plan) (r .caches .c030) (r .caches .c040) ⌝ }
 {
-    let tags = caches.tags;
-    let pages = caches.pages;
-    let mut stamps = caches.stamps;
-    let mut marks = caches.marks;
-    let keys = caches.keys;
-    let bases = caches.bases;
-    let plan = translate::plan_access(
-        &tags,
-        &pages,
-        &mut stamps,
-        &mut marks,
-        &keys,
-        &bases,
-        two,
-        three,
-        g,
-        a,
-    );
+    let mut c030 = caches.c030;
+    let c040 = caches.c040;
+    let plan = translate::plan_access(&mut c030, &c040, two, three, g, a);
     PlannedPair {
         plan,
-        caches: CachePair {
-            tags,
-            pages,
-            stamps,
-            marks,
-            keys,
-            bases,
-        },
+        caches: CachePair { c030, c040 },
     }
 }
 
 // What the plan and its walk give, over copies of the arrays.
 fn concluded(g: Registers, a: Access, p: PlannedPair, walks: Walks) -> Translated
-    ensures { λ r. ⌜ AnsweredIn (concludeAccess g a (pairOf (p .caches)) (p .plan) walks) (r .answer) (r .count) (r .caches .tags) (r .caches .pages) (r .caches .stamps) (r .caches .marks) (r .caches .keys) (r .caches .bases) ⌝ }
+    ensures { λ r. ⌜ AnsweredIn (concludeAccess g a (pairOf (p .caches)) (p .plan) walks) (r .answer) (r .count) (r .caches .c030) (r .caches .c040) ⌝ }
 {
     let plan = p.plan;
     let caches = p.caches;
-    let mut tags = caches.tags;
-    let mut pages = caches.pages;
-    let mut stamps = caches.stamps;
-    let mut marks = caches.marks;
-    let mut keys = caches.keys;
-    let mut bases = caches.bases;
-    let outcome = translate::conclude_access(
-        &mut tags,
-        &mut pages,
-        &mut stamps,
-        &mut marks,
-        &mut keys,
-        &mut bases,
-        g,
-        a,
-        plan,
-        walks,
-    );
+    let mut c030 = caches.c030;
+    let mut c040 = caches.c040;
+    let outcome = translate::conclude_access(&mut c030, &mut c040, g, a, plan, walks);
     let answer = outcome.answer;
     Translated {
         answer,
         count: outcome.count,
-        caches: CachePair {
-            tags,
-            pages,
-            stamps,
-            marks,
-            keys,
-            bases,
-        },
+        caches: CachePair { c030, c040 },
     }
 }
 
@@ -169,35 +125,14 @@ fn planned_load(
     address: u32,
     caches: CachePair,
 ) -> PlannedPair
-    ensures { λ r. ⌜ PlannedIn030 (planLoad g code address two three (pairOf caches .c030)) (r .plan) (r .caches .tags) (r .caches .pages) (r .caches .stamps) (r .caches .marks) × Beside caches (r .caches) ⌝ }
+    ensures { λ r. ⌜ PlannedIn030 (planLoad g code address two three (pairOf caches .c030)) (r .plan) (r .caches .c030) × Beside caches (r .caches) ⌝ }
 {
-    let mut tags = caches.tags;
-    let pages = caches.pages;
-    let stamps = caches.stamps;
-    let marks = caches.marks;
-    let keys = caches.keys;
-    let bases = caches.bases;
-    let plan = load::plan_load(
-        &mut tags,
-        &pages,
-        &stamps,
-        &marks,
-        two,
-        three,
-        g,
-        code,
-        address,
-    );
+    let mut c030 = caches.c030;
+    let c040 = caches.c040;
+    let plan = load::plan_load(&mut c030, two, three, g, code, address);
     PlannedPair {
         plan,
-        caches: CachePair {
-            tags,
-            pages,
-            stamps,
-            marks,
-            keys,
-            bases,
-        },
+        caches: CachePair { c030, c040 },
     }
 }
 
@@ -210,40 +145,18 @@ fn concluded_load(
     p: PlannedPair,
     walks: Walks,
 ) -> Loaded
-    ensures { λ r. ⌜ LoadedIn (concludeLoad (g .tc) (code % 8) address write (pairOf (p .caches) .c030) (p .plan) walks) (r .answer) (r .count) (r .caches .tags) (r .caches .pages) (r .caches .stamps) (r .caches .marks) × Beside (p .caches) (r .caches) ⌝ }
+    ensures { λ r. ⌜ LoadedIn (concludeLoad (g .tc) (code % 8) address write (pairOf (p .caches) .c030) (p .plan) walks) (r .answer) (r .count) (r .caches .c030) × Beside (p .caches) (r .caches) ⌝ }
 {
     let plan = p.plan;
     let caches = p.caches;
-    let mut tags = caches.tags;
-    let mut pages = caches.pages;
-    let mut stamps = caches.stamps;
-    let mut marks = caches.marks;
-    let keys = caches.keys;
-    let bases = caches.bases;
-    let outcome = load::conclude_load(
-        &mut tags,
-        &mut pages,
-        &mut stamps,
-        &mut marks,
-        g.tc,
-        code,
-        address,
-        write,
-        plan,
-        walks,
-    );
+    let mut c030 = caches.c030;
+    let c040 = caches.c040;
+    let outcome = load::conclude_load(&mut c030, g.tc, code, address, write, plan, walks);
     let answer = outcome.answer;
     Loaded {
         answer,
         count: outcome.count,
-        caches: CachePair {
-            tags,
-            pages,
-            stamps,
-            marks,
-            keys,
-            bases,
-        },
+        caches: CachePair { c030, c040 },
     }
 }
 

@@ -3,7 +3,7 @@ use mathlib.Core.Path.{_≡_, refl}
 use Rattle.definition.specs.Cache030.{Cache030}
 use Rattle.definition.specs.Cache040.{Cache040}
 use Rattle.definition.specs.Translate.{Caches}
-use Rattle.plan.specs.Arrays.{pairWith}
+use Rattle.cache.specs.Pair.{pairWith}
 
 pub beside : {x : Cache030} {y : Cache040} (c : Caches) → x ≡ c .c030 → y ≡ c .c040 → pairWith x y ≡ c
 beside c p q = rw (p, q) refl

@@ -54,21 +54,11 @@ pub fn bad_frame(frame: u32) -> bool
     0x10_0000 <= frame
 }
 
-// The lengths of arrays that are lent are known once they are lent as slices.
-pub fn lengths(
-    tags: &[u64],
-    pages: &[u64],
-    stamps: &[u64],
-    marks: &[u64],
-    keys: &[u64],
-    bases: &[u64],
-) {}
+// The length of an array that is lent is known once it is lent as a slice.
+pub fn sized(c: &[u64]) {}
 
-// The same of the 68030 cache's.
-pub fn lengths_030(tags: &[u64], pages: &[u64], stamps: &[u64], marks: &[u64]) {}
-
-// And of the 68040 cache's.
-pub fn lengths_040(keys: &[u64], bases: &[u64]) {}
+// The same of both caches' arrays.
+pub fn lengths(c030: &[u64], c040: &[u64]) {}
 
 // The first that applies in the order 1, 6, 5, 2, 3, 4; 0 where none does.
 pub fn first_refusal(one: bool, six: bool, five: bool, two: bool, three: bool, four: bool) -> u32

@@ -29,7 +29,7 @@ use Rattle.cache.specs.Atc040.{cache040Of}
 use Rattle.translate.specs.Stages.{shownTranslated}
 use Rattle.load.specs.Loaded.{shownLoaded, LoadedIn}
 use Rattle.inquiry.specs.Tested.{shownTested, TestedIn}
-use Rattle.plan.specs.Arrays.{cachesOf, pairWith}
+use Rattle.cache.specs.Pair.{cachesOf, pairWith}
 use Rattle.translate.specs.InPlace.{AnsweredIn}
 use Rattle.flush.specs.Flushed.{FlushedIn, FlushedIn030, FlushedIn040}
 use Rattle.load.proofs.Loading.{load-beside}
@@ -37,15 +37,15 @@ use Rattle.plan.proofs.Pairs.{beside}
 use Rattle.replay.specs.Playing.{CalledIn, Tests}
 
 module _ (g : Registers) (m : Memory) {l : Line} where
-  pub of-translate : (a : Access) (c : Caches) {t : Translation} {n : ℕ} {ts ps ss ms ks bs : List ℕ}
-      → AnsweredIn (shownTranslated (translate g a m c)) t n ts ps ss ms ks bs → lineIn l ≡ translationLine n t
-      → CalledIn (calling g m c (calls.access a)) l ts ps ss ms ks bs
+  pub of-translate : (a : Access) (c : Caches) {t : Translation} {n : ℕ} {c3 c4 : List ℕ}
+      → AnsweredIn (shownTranslated (translate g a m c)) t n c3 c4 → lineIn l ≡ translationLine n t
+      → CalledIn (calling g m c (calls.access a)) l c3 c4
   unfolding calling
   of-translate a c k e = record { prints = e ∙ rw (k .answers, k .counts) refl; leaves = k .leaves }
 
-  pub of-load : (code : ℕ) (write : Bool) (address : ℕ) (c : Cache030) (k : Cache040) {t : Load} {n : ℕ} {ts ps ss ms ks bs : List ℕ} → k ≡ cache040Of ks bs
-      → LoadedIn (shownLoaded (load g code write address m (pairWith c k))) t n ts ps ss ms → lineIn l ≡ loadLine n t
-      → CalledIn (calling g m (pairWith c k) (calls.loading code write address)) l ts ps ss ms ks bs
+  pub of-load : (code : ℕ) (write : Bool) (address : ℕ) (c : Cache030) (k : Cache040) {t : Load} {n : ℕ} {c3 c4 : List ℕ} → k ≡ cache040Of c4
+      → LoadedIn (shownLoaded (load g code write address m (pairWith c k))) t n c3 → lineIn l ≡ loadLine n t
+      → CalledIn (calling g m (pairWith c k) (calls.loading code write address)) l c3 c4
   unfolding calling
   of-load code write address c k {ks = ks} {bs = bs} e q f =
       record {
@@ -58,42 +58,42 @@ module _ (g : Registers) (m : Memory) {l : Line} where
   unfolding calling
   of-test code write level address k e = record { prints = λ c. e ∙ rw (k .answers, k .counts) refl; leaves = λ c. refl }
 
-  pub of-probe : (own instruction write : Bool) (address : ℕ) (ts ps ss ms ks bs : List ℕ) {p : Probe}
-      → p ≡ probe g own instruction write address (cachesOf ts ps ss ms ks bs) → lineIn l ≡ probeLine p
-      → CalledIn (calling g m (cachesOf ts ps ss ms ks bs) (calls.probing own instruction write address)) l ts ps ss ms ks bs
+  pub of-probe : (own instruction write : Bool) (address : ℕ) (c3 c4 : List ℕ) {p : Probe}
+      → p ≡ probe g own instruction write address (cachesOf c3 c4) → lineIn l ≡ probeLine p
+      → CalledIn (calling g m (cachesOf c3 c4) (calls.probing own instruction write address)) l c3 c4
   unfolding calling
-  of-probe own instruction write address ts ps ss ms ks bs k e = record { prints = e ∙ ap probeLine k; leaves = refl }
+  of-probe own instruction write address c3 c4 k e = record { prints = e ∙ ap probeLine k; leaves = refl }
 
   -- ---- the flushes
-  pub of-flush-all : (c : Caches) {f : Flush} {ts ps ss ms ks bs : List ℕ} → FlushedIn (flushAll c) f ts ps ss ms ks bs → lineIn l ≡ flushLine f
-      → CalledIn (calling g m c calls.flushingAll) l ts ps ss ms ks bs
+  pub of-flush-all : (c : Caches) {f : Flush} {c3 c4 : List ℕ} → FlushedIn (flushAll c) f c3 c4 → lineIn l ≡ flushLine f
+      → CalledIn (calling g m c calls.flushingAll) l c3 c4
   unfolding calling
   of-flush-all c k e = record { prints = e ∙ ap flushLine (k .answers); leaves = k .leaves }
 
-  pub of-flush-code : (code mask : ℕ) (c : Cache030) {f : Flush} {ts ps ss ms ks bs : List ℕ}
-      → FlushedIn030 (flushCode code mask (pairWith c (cache040Of ks bs))) (cache040Of ks bs) f ts ps ss ms → lineIn l ≡ flushLine f
-      → CalledIn (calling g m (pairWith c (cache040Of ks bs)) (calls.flushingCode code mask)) l ts ps ss ms ks bs
+  pub of-flush-code : (code mask : ℕ) (c : Cache030) {f : Flush} {c3 c4 : List ℕ}
+      → FlushedIn030 (flushCode code mask (pairWith c (cache040Of c4))) (cache040Of c4) f c3 → lineIn l ≡ flushLine f
+      → CalledIn (calling g m (pairWith c (cache040Of c4)) (calls.flushingCode code mask)) l c3 c4
   unfolding calling
   of-flush-code code mask c k e = record { prints = e ∙ ap flushLine (k .answers); leaves = k .leaves }
 
-  pub of-flush-page : (code mask address : ℕ) (c : Cache030) {f : Flush} {ts ps ss ms ks bs : List ℕ}
-      → FlushedIn030 (flushPage code mask address (pairWith c (cache040Of ks bs))) (cache040Of ks bs) f ts ps ss ms → lineIn l ≡ flushLine f
-      → CalledIn (calling g m (pairWith c (cache040Of ks bs)) (calls.flushingPage code mask address)) l ts ps ss ms ks bs
+  pub of-flush-page : (code mask address : ℕ) (c : Cache030) {f : Flush} {c3 c4 : List ℕ}
+      → FlushedIn030 (flushPage code mask address (pairWith c (cache040Of c4))) (cache040Of c4) f c3 → lineIn l ≡ flushLine f
+      → CalledIn (calling g m (pairWith c (cache040Of c4)) (calls.flushingPage code mask address)) l c3 c4
   unfolding calling
   of-flush-page code mask address c k e = record { prints = e ∙ ap flushLine (k .answers); leaves = k .leaves }
 
-  pub of-flush-frame : (frame : ℕ) (k : Cache040) {f : Flush} {ts ps ss ms ks bs : List ℕ}
-      → FlushedIn040 (flushFrame frame (pairWith (cacheOf ts ps ss ms) k)) (cacheOf ts ps ss ms) f ks bs → lineIn l ≡ flushLine f
-      → CalledIn (calling g m (pairWith (cacheOf ts ps ss ms) k) (calls.flushingFrame frame)) l ts ps ss ms ks bs
+  pub of-flush-frame : (frame : ℕ) (k : Cache040) {f : Flush} {c3 c4 : List ℕ}
+      → FlushedIn040 (flushFrame frame (pairWith (cacheOf c3) k)) (cacheOf c3) f c4 → lineIn l ≡ flushLine f
+      → CalledIn (calling g m (pairWith (cacheOf c3) k) (calls.flushingFrame frame)) l c3 c4
   unfolding calling
   of-flush-frame frame k q e = record { prints = e ∙ ap flushLine (q .answers); leaves = q .leaves }
 
 -- a PTEST: the caches stay
-pub tested : (g : Registers) (m : Memory) (ts ps ss ms ks bs : List ℕ) {code level address : ℕ} {write : Bool} {l : Line} → Tests g m code write level address l
-    → CalledIn (calling g m (cachesOf ts ps ss ms ks bs) (calls.testing code write level address)) l ts ps ss ms ks bs
-tested g m ts ps ss ms ks bs t = record { prints = t .prints (cachesOf ts ps ss ms ks bs); leaves = t .leaves (cachesOf ts ps ss ms ks bs) }
+pub tested : (g : Registers) (m : Memory) (c3 c4 : List ℕ) {code level address : ℕ} {write : Bool} {l : Line} → Tests g m code write level address l
+    → CalledIn (calling g m (cachesOf c3 c4) (calls.testing code write level address)) l c3 c4
+tested g m c3 c4 t = record { prints = t .prints (cachesOf c3 c4); leaves = t .leaves (cachesOf c3 c4) }
 
 -- a call that was told apart
-pub by-call : (g : Registers) (m : Memory) (c : Caches) {x y : Made} {l : Line} {ts ps ss ms ks bs : List ℕ} → x ≡ y
-    → CalledIn (calling g m c (callIn y)) l ts ps ss ms ks bs → CalledIn (calling g m c (callIn x)) l ts ps ss ms ks bs
+pub by-call : (g : Registers) (m : Memory) (c : Caches) {x y : Made} {l : Line} {c3 c4 : List ℕ} → x ≡ y
+    → CalledIn (calling g m c (callIn y)) l c3 c4 → CalledIn (calling g m c (callIn x)) l c3 c4
 by-call g m c e p = rw e p

@@ -15,7 +15,7 @@ use Rattle.definition.specs.declared.Range.{Range}
 use Rattle.definition.specs.declared.Registers.{Registers}
 use Rattle.trace.specs.Lines.{lineIn, Wrote}
 use Rattle.trace.specs.declared.Line.{Line}
-use Rattle.plan.specs.Arrays.{cachesOf}
+use Rattle.cache.specs.Pair.{cachesOf}
 use Rattle.replay.specs.declared.Kept.{Kept}
 use Rattle.replay.specs.declared.run.Whole.{Whole}
 use Rattle.replay.specs.declared.run.Whole.the-variants as whole
@@ -27,13 +27,13 @@ abbrev pub rangesOf : Kept → List Range
 rangesOf k = take (k .n) (k .list)
 
 abbrev pub stateOf : Kept → List ℕ → List ℕ → List ℕ → List ℕ → List ℕ → List ℕ → List ℕ → State
-stateOf k longs ts ps ss ms ks bs =
-    record { registers = k .registers; longs = longs; ranges = rangesOf k; caches = cachesOf ts ps ss ms ks bs }
+stateOf k longs c3 c4 =
+    record { registers = k .registers; longs = longs; ranges = rangesOf k; caches = cachesOf c3 c4 }
 
 -- a call's line, with the arrays after it
-pub record CalledIn (c : calls.Called) (l : Line) (ts ps ss ms ks bs : List ℕ) : Type 0 where
+pub record CalledIn (c : calls.Called) (l : Line) (c3 c4 : List ℕ) : Type 0 where
   pub prints : lineIn l ≡ c .line
-  pub leaves : cachesOf ts ps ss ms ks bs ≡ c .caches
+  pub leaves : cachesOf c3 c4 ≡ c .caches
 
 -- a PTEST's line, whatever the caches are, which stay
 pub record Tests (g : Registers) (m : Memory) (code : ℕ) (write : Bool) (level address : ℕ) (l : Line) : Type 0 where
@@ -46,9 +46,9 @@ pub record StoredIn (longs : List ℕ) (address value : ℕ) (l : Line) (longs�
   pub leaves : longs′ ≡ (if badStore longs address then longs else set longs (address / 4) value)
 
 -- a record's line, with what is kept after it
-pub record PlayedIn (p : Played) (l : Line) (k : Kept) (longs ts ps ss ms ks bs : List ℕ) : Type 0 where
+pub record PlayedIn (p : Played) (l : Line) (k : Kept) (longs c3 c4 : List ℕ) : Type 0 where
   pub prints : lineIn l ≡ p .line
-  pub leaves : stateOf k longs ts ps ss ms ks bs ≡ p .state
+  pub leaves : stateOf k longs c3 c4 ≡ p .state
 
 -- records of b, one after the other from state s: they print t and leave state s′ and the bytes r
 pub data Runs (s : State) (b : List ℕ) : List ℕ → State → List ℕ → Type 0 where

@@ -1,5 +1,7 @@
 // The calls that a record makes, each with the line that it prints.
 use crate::Kept;
+use cache::atc030::Atc030;
+use cache::atc040::Atc040;
 use definition::Access;
 use definition::Flush;
 use definition::Load;
@@ -18,7 +20,7 @@ ghost use Rattle.definition.specs.Refusal.{crossed};
 ghost use Rattle.definition.specs.Calls.{access, loading, testing, probing, flushingAll, flushingCode, flushingPage, flushingFrame, translationLine, loadLine, testLine, probeLine, flushLine, calling};
 ghost use Rattle.trace.specs.Lines.{lineIn};
 ghost use Rattle.trace.specs.Records.{callIn};
-ghost use Rattle.plan.specs.Arrays.{cachesOf};
+ghost use Rattle.cache.specs.Pair.{cachesOf};
 ghost use Rattle.replay.specs.Playing.{rangesOf, CalledIn, Tests};
 
 // A address count, or F kind cause address count.
@@ -88,12 +90,8 @@ fn flush_line(answer: Flush) -> Line
 
 // An access. `three` says whether one of the ranges is crossed.
 fn access_line(
-    tags: &mut [u64; 22],
-    pages: &mut [u64; 22],
-    stamps: &mut [u64; 22],
-    marks: &mut [u64; 3],
-    keys: &mut [u64; 64],
-    bases: &mut [u64; 64],
+    c030: &mut Atc030,
+    c040: &mut Atc040,
     longs: &[u32],
     list: [Range; 16],
     n: usize,
@@ -101,35 +99,17 @@ fn access_line(
     g: Registers,
     a: Access,
 ) -> Line
-    ensures { λ r. ⌜ (three ≡ anyOf crossed (take n list) → CalledIn (calling g (memory (now (longs .entry)) 0 (take n list)) (cachesOf (now (tags .entry)) (now (pages .entry)) (now (stamps .entry)) (now (marks .entry)) (now (keys .entry)) (now (bases .entry))) (access a)) r (now (tags .exit)) (now (pages .exit)) (now (stamps .exit)) (now (marks .exit)) (now (keys .exit)) (now (bases .exit))) ⌝ }
+    ensures { λ r. ⌜ (three ≡ anyOf crossed (take n list) → CalledIn (calling g (memory (now (longs .entry)) 0 (take n list)) (cachesOf (now (c030 .entry)) (now (c040 .entry))) (access a)) r (now (c030 .exit)) (now (c040 .exit))) ⌝ }
 {
-    let o = translate::translate_in(
-        tags,
-        pages,
-        stamps,
-        marks,
-        keys,
-        bases,
-        longs,
-        0,
-        list,
-        n,
-        three,
-        g,
-        a,
-    );
+    let o = translate::translate_in(c030, c040, longs, 0, list, n, three, g, a);
     let answer = o.answer;
     translation_line(answer, o.count)
 }
 
 // A PLOAD. The 68040 cache stays.
 fn load_call(
-    tags: &mut [u64; 22],
-    pages: &mut [u64; 22],
-    stamps: &mut [u64; 22],
-    marks: &mut [u64; 3],
-    keys: &[u64; 64],
-    bases: &[u64; 64],
+    c030: &mut Atc030,
+    c040: &Atc040,
     longs: &[u32],
     list: [Range; 16],
     n: usize,
@@ -139,23 +119,9 @@ fn load_call(
     write: bool,
     address: u32,
 ) -> Line
-    ensures { λ r. ⌜ (three ≡ anyOf crossed (take n list) → CalledIn (calling g (memory (now (longs .entry)) 0 (take n list)) (cachesOf (now (tags .entry)) (now (pages .entry)) (now (stamps .entry)) (now (marks .entry)) (now (keys .entry)) (now (bases .entry))) (loading code write address)) r (now (tags .exit)) (now (pages .exit)) (now (stamps .exit)) (now (marks .exit)) (now (keys .entry)) (now (bases .entry))) ⌝ }
+    ensures { λ r. ⌜ (three ≡ anyOf crossed (take n list) → CalledIn (calling g (memory (now (longs .entry)) 0 (take n list)) (cachesOf (now (c030 .entry)) (now (c040 .entry))) (loading code write address)) r (now (c030 .exit)) (now (c040 .entry))) ⌝ }
 {
-    let o = load::load_in(
-        tags,
-        pages,
-        stamps,
-        marks,
-        longs,
-        0,
-        list,
-        n,
-        three,
-        g,
-        code,
-        write,
-        address,
-    );
+    let o = load::load_in(c030, longs, 0, list, n, three, g, code, write, address);
     let answer = o.answer;
     load_line(answer, o.count)
 }
@@ -181,57 +147,25 @@ fn test_call(
 
 // Makes a call: its line. `three` says whether one of the ranges is crossed.
 pub fn make(
-    tags: &mut [u64; 22],
-    pages: &mut [u64; 22],
-    stamps: &mut [u64; 22],
-    marks: &mut [u64; 3],
-    keys: &mut [u64; 64],
-    bases: &mut [u64; 64],
+    c030: &mut Atc030,
+    c040: &mut Atc040,
     longs: &[u32],
     kept: Kept,
     three: bool,
     call: Call,
 ) -> Line
-    ensures { λ r. ⌜ (three ≡ anyOf crossed (rangesOf kept) → CalledIn (calling (kept .registers) (memory (now (longs .entry)) 0 (rangesOf kept)) (cachesOf (now (tags .entry)) (now (pages .entry)) (now (stamps .entry)) (now (marks .entry)) (now (keys .entry)) (now (bases .entry))) (callIn call)) r (now (tags .exit)) (now (pages .exit)) (now (stamps .exit)) (now (marks .exit)) (now (keys .exit)) (now (bases .exit))) ⌝ }
+    ensures { λ r. ⌜ (three ≡ anyOf crossed (rangesOf kept) → CalledIn (calling (kept .registers) (memory (now (longs .entry)) 0 (rangesOf kept)) (cachesOf (now (c030 .entry)) (now (c040 .entry))) (callIn call)) r (now (c030 .exit)) (now (c040 .exit))) ⌝ }
 {
     let g = kept.registers;
     let list = kept.list;
     let n = kept.n;
     match call {
-        Call::Access(a) => access_line(
-            tags,
-            pages,
-            stamps,
-            marks,
-            keys,
-            bases,
-            longs,
-            list,
-            n,
-            three,
-            g,
-            a,
-        ),
+        Call::Access(a) => access_line(c030, c040, longs, list, n, three, g, a),
         Call::Load {
             code,
             write,
             address,
-        } => load_call(
-            tags,
-            pages,
-            stamps,
-            marks,
-            keys,
-            bases,
-            longs,
-            list,
-            n,
-            three,
-            g,
-            code,
-            write,
-            address,
-        ),
+        } => load_call(c030, c040, longs, list, n, three, g, code, write, address),
         Call::Test {
             code,
             write,
@@ -239,11 +173,11 @@ pub fn make(
             address,
         } => test_call(longs, list, n, three, g, code, write, level, address),
         Call::FlushAll => {
-            let answer = flush::flush_all_in(tags, pages, stamps, marks, keys, bases);
+            let answer = flush::flush_all_in(c030, c040);
             flush_line(answer)
         }
         Call::FlushCode { code, mask } => {
-            let answer = flush::flush_code_in(tags, pages, stamps, marks, code, mask);
+            let answer = flush::flush_code_in(c030, code, mask);
             flush_line(answer)
         }
         Call::FlushPage {
@@ -251,11 +185,11 @@ pub fn make(
             mask,
             address,
         } => {
-            let answer = flush::flush_page_in(tags, pages, stamps, marks, code, mask, address);
+            let answer = flush::flush_page_in(c030, code, mask, address);
             flush_line(answer)
         }
         Call::FlushFrame { frame } => {
-            let answer = flush::flush_frame_in(keys, bases, frame);
+            let answer = flush::flush_frame_in(c040, frame);
             flush_line(answer)
         }
         Call::Probe {
@@ -264,19 +198,7 @@ pub fn make(
             write,
             address,
         } => {
-            let answer = inquiry::probe::probe_in(
-                tags,
-                pages,
-                stamps,
-                marks,
-                keys,
-                bases,
-                g,
-                own,
-                instruction,
-                write,
-                address,
-            );
+            let answer = inquiry::probe::probe_in(c030, c040, g, own, instruction, write, address);
             probe_line(answer)
         }
     }

@@ -2,6 +2,8 @@
 use crate::Kept;
 use crate::calls;
 use crate::settings;
+use cache::atc030::Atc030;
+use cache::atc040::Atc040;
 use trace::Record;
 ghost use mathlib.Core.Path.{_≡_};
 ghost use Prim.Native.Nat.{_≤_};
@@ -54,19 +56,15 @@ fn front(input: &[u8], at: usize) -> Whole
 // Plays the whole records of `input` from its start on, with a line of `out` for each. `three` says whether one of the ranges
 // is crossed; no record changes that.
 pub fn run(
-    tags: &mut [u64; 22],
-    pages: &mut [u64; 22],
-    stamps: &mut [u64; 22],
-    marks: &mut [u64; 3],
-    keys: &mut [u64; 64],
-    bases: &mut [u64; 64],
+    c030: &mut Atc030,
+    c040: &mut Atc040,
     longs: &mut [u32],
     kept: Kept,
     three: bool,
     input: &[u8],
     out: &mut [u8],
 ) -> Ran
-    ensures { λ r. ⌜ (three ≡ anyOf crossed (rangesOf kept) → RanIn (stateOf kept (now (longs .entry)) (now (tags .entry)) (now (pages .entry)) (now (stamps .entry)) (now (marks .entry)) (now (keys .entry)) (now (bases .entry))) (now (input .entry)) (now (out .entry)) (stateOf (r .kept) (now (longs .exit)) (now (tags .exit)) (now (pages .exit)) (now (stamps .exit)) (now (marks .exit)) (now (keys .exit)) (now (bases .exit))) (r .read) (now (out .exit)) (r .wrote) (r .why)) × (anyOf crossed (rangesOf (r .kept)) ≡ anyOf crossed (rangesOf kept)) ⌝ }
+    ensures { λ r. ⌜ (three ≡ anyOf crossed (rangesOf kept) → RanIn (stateOf kept (now (longs .entry)) (now (c030 .entry)) (now (c040 .entry))) (now (input .entry)) (now (out .entry)) (stateOf (r .kept) (now (longs .exit)) (now (c030 .exit)) (now (c040 .exit))) (r .read) (now (out .exit)) (r .wrote) (r .why)) × (anyOf crossed (rangesOf (r .kept)) ≡ anyOf crossed (rangesOf kept)) ⌝ }
 {
     let mut now = kept;
     let mut read: usize = 0;
@@ -106,18 +104,7 @@ pub fn run(
                         wrote = trace::put_line(out, wrote, line);
                     }
                     Record::Call(call) => {
-                        let line = calls::make(
-                            tags,
-                            pages,
-                            stamps,
-                            marks,
-                            keys,
-                            bases,
-                            longs,
-                            now,
-                            three,
-                            call,
-                        );
+                        let line = calls::make(c030, c040, longs, now, three, call);
                         wrote = trace::put_line(out, wrote, line);
                     }
                 }

@@ -3,6 +3,7 @@ use Prim.Native.Nat.{ℕ, _-_, _/_, _%_, _^_, _<_}
 use mathlib.Core.Path.{_≡_, refl, ap, sym, _∙_}
 use mathlib.Core.List.{List, []}
 use mathlib.Core.Bool.{Bool, true, false, not, _&&_}
+use lib.ListN.{length}
 use Rattle.definition.specs.Words.{if_then_else_, bitOf}
 use Rattle.definition.specs.Walk030.{shiftOf, physicalOf}
 use Rattle.definition.specs.Cache030.{Cache030, inserted}
@@ -16,34 +17,34 @@ use Rattle.definition.specs.declared.FaultCause.{FaultCause}
 use Rattle.definition.specs.declared.Translation.{Translation}
 use Rattle.tables.specs.declared.Way.{Way}
 use Rattle.tables.specs.declared.Walked.{Walked}
-use Rattle.cache.specs.Atc030.{cacheOf, Sized, Stepped, Looked}
+use Rattle.cache.specs.Atc030.{cacheOf, Stepped, Looked}
 use Rattle.plan.specs.declared.Plan.{Plan}
 use Rattle.plan.proofs.Bounds.{in-three-bits}
 use Rattle.search.specs.Searched.{lookPlan, plan030, missingCause, permittedOf, page030, end030, PlannedIn030, Ended}
 
-module _ {ts ps ss ms : List ℕ} (code address : ℕ) {r s : Shift} (is : r ≡ s) where
+module _ {a : List ℕ} (code address : ℕ) {r s : Shift} (is : r ≡ s) where
   -- ---- the plan
   module _ (write recorded : Bool) where
-    pub plan-none : r ≡ NoPage → Sized ts ps ss ms
-        → PlannedIn030 (plan030 (cacheOf ts ps ss ms) recorded code address write s) (Plan.Walk (Way.By030 code 5)) ts ps ss ms
+    pub plan-none : r ≡ NoPage → length a ≡ 69
+        → PlannedIn030 (plan030 (cacheOf a) recorded code address write s) (Plan.Walk (Way.By030 code 5)) a
     plan-none none z = rw (sym is ∙ none) (record { plans = refl; leaves = refl; sized = z })
 
-    pub plan-look : {shift : ℕ} {hit : Hit} {p : Plan} {ss′ ms′ : List ℕ} → code < 8 → r ≡ Bits shift
-        → Looked ts ps ss ms (code % 8) (address / 2 ^ shift) shift write recorded hit ss′ ms′ → p ≡ lookPlan code address shift hit
-        → PlannedIn030 (plan030 (cacheOf ts ps ss ms) recorded code address write s) p ts ps ss′ ms′
-    plan-look {shift} {hit} {p} {ss′} {ms′} small some k q =
-        let looked : Looked ts ps ss ms code (address / 2 ^ shift) shift write recorded hit ss′ ms′ = rw (← in-three-bits small) k in
+    pub plan-look : {shift : ℕ} {hit : Hit} {p : Plan} {a′ : List ℕ} → code < 8 → r ≡ Bits shift
+        → Looked a (code % 8) (address / 2 ^ shift) shift write recorded hit a′ → p ≡ lookPlan code address shift hit
+        → PlannedIn030 (plan030 (cacheOf a) recorded code address write s) p a′
+    plan-look {shift} {hit} {p} {a′} small some k q =
+        let looked : Looked a code (address / 2 ^ shift) shift write recorded hit a′ = rw (← in-three-bits small) k in
         rw (sym is ∙ some)
         (record { plans = q ∙ ap (lookPlan code address shift) (looked .answers); leaves = looked .steps .leaves; sized = k .steps .sized })
 
   -- ---- what is cached
   module _ (physical : ℕ) (wp : Bool) where
-    pub cache-none : r ≡ NoPage → Sized ts ps ss ms → Stepped (λ (c : Cache030). cached s c code address physical wp) ts ps ss ms ts ps ss ms
+    pub cache-none : r ≡ NoPage → length a ≡ 69 → Stepped (λ (c : Cache030). cached s c code address physical wp) a a
     cache-none none z = rw (sym is ∙ none) (record { leaves = refl; sized = z })
 
-    pub cache-put : {shift base : ℕ} {ts′ ps′ ss′ ms′ : List ℕ} → code < 8 → r ≡ Bits shift → base ≡ baseOf physical address shift
-        → Stepped (λ (c : Cache030). inserted c (code % 8) (address / 2 ^ shift) shift base wp) ts ps ss ms ts′ ps′ ss′ ms′
-        → Stepped (λ (c : Cache030). cached s c code address physical wp) ts ps ss ms ts′ ps′ ss′ ms′
+    pub cache-put : {shift base : ℕ} {a′ : List ℕ} → code < 8 → r ≡ Bits shift → base ≡ baseOf physical address shift
+        → Stepped (λ (c : Cache030). inserted c (code % 8) (address / 2 ^ shift) shift base wp) a a′
+        → Stepped (λ (c : Cache030). cached s c code address physical wp) a a′
     cache-put {shift} small some b k =
         rw (sym is ∙ some)
         (record {
@@ -52,55 +53,55 @@ module _ {ts ps ss ms : List ℕ} (code address : ℕ) {r s : Shift} (is : r ≡
         })
 
 -- a step f that is taken unless b
-module _ {ts ps ss ms : List ℕ} (f : Cache030 → Cache030) {b : Bool} where
-  pub left-out : b ≡ true → Sized ts ps ss ms → Stepped (λ (c : Cache030). if b then c else f c) ts ps ss ms ts ps ss ms
+module _ {a : List ℕ} (f : Cache030 → Cache030) {b : Bool} where
+  pub left-out : b ≡ true → length a ≡ 69 → Stepped (λ (c : Cache030). if b then c else f c) a a
   left-out e z = rw e (record { leaves = refl; sized = z })
 
-  pub taken : {ts′ ps′ ss′ ms′ : List ℕ} → b ≡ false → Stepped f ts ps ss ms ts′ ps′ ss′ ms′
-      → Stepped (λ (c : Cache030). if b then c else f c) ts ps ss ms ts′ ps′ ss′ ms′
+  pub taken : {a′ : List ℕ} → b ≡ false → Stepped f a a′
+      → Stepped (λ (c : Cache030). if b then c else f c) a a′
   taken e k = rw e (record { leaves = k .leaves; sized = k .sized })
 
 -- ---- a page that was found, and the other ends
-module _ (tc : ℕ) {ts ps ss ms : List ℕ} (code address : ℕ) (write : Bool) {t : Translation} where
+module _ (tc : ℕ) {a : List ℕ} (code address : ℕ) (write : Bool) {t : Translation} where
   module _ (wp sup : Bool) (physical : ℕ) where
-    page-by : (forbidden : Bool) {ts′ ps′ ss′ ms′ : List ℕ} → (sup && not (bitOf code 2)) ≡ forbidden
-        → Stepped (λ (c : Cache030). if forbidden then c else cached (shiftOf tc) c code address physical wp) ts ps ss ms ts′ ps′ ss′ ms′
+    page-by : (forbidden : Bool) {a′ : List ℕ} → (sup && not (bitOf code 2)) ≡ forbidden
+        → Stepped (λ (c : Cache030). if forbidden then c else cached (shiftOf tc) c code address physical wp) a a′
         → t ≡ permittedOf forbidden write wp address physical
-        → Ended (page030 tc (cacheOf ts ps ss ms) code address write wp sup physical) t ts′ ps′ ss′ ms′
+        → Ended (page030 tc (cacheOf a) code address write wp sup physical) t a′
     unfolding page030 permittedOf
     page-by true e k f = rw e (record { answers = f; leaves = k .leaves; sized = k .sized })
     page-by false e k f = rw e (record { answers = f; leaves = k .leaves; sized = k .sized })
 
-    pub page-is : {ts′ ps′ ss′ ms′ : List ℕ}
-        → Stepped (λ (c : Cache030). if sup && not (bitOf code 2) then c else cached (shiftOf tc) c code address physical wp) ts ps ss ms ts′ ps′ ss′ ms′
+    pub page-is : {a′ : List ℕ}
+        → Stepped (λ (c : Cache030). if sup && not (bitOf code 2) then c else cached (shiftOf tc) c code address physical wp) a a′
         → t ≡ permittedOf (sup && not (bitOf code 2)) write wp address physical
-        → Ended (page030 tc (cacheOf ts ps ss ms) code address write wp sup physical) t ts′ ps′ ss′ ms′
+        → Ended (page030 tc (cacheOf a) code address write wp sup physical) t a′
     page-is k f = page-by (sup && not (bitOf code 2)) refl k f
 
   module _ (w : Walked) where
     pub end-invalid : {indirect : Bool} {x : FaultCause} → w .end ≡ end.Invalid indirect → x ≡ missingCause indirect → t ≡ violation x address
-        → Sized ts ps ss ms → Ended (end030 tc (cacheOf ts ps ss ms) code address write w) t ts ps ss ms
+        → length a ≡ 69 → Ended (end030 tc (cacheOf a) code address write w) t a
     unfolding end030
     end-invalid e f q z = rw e (record { answers = q ∙ ap (λ (x : FaultCause). violation x address) f; leaves = refl; sized = z })
 
-    pub end-bus : {at : ℕ} → w .end ≡ end.BusError at → t ≡ busError at → Sized ts ps ss ms
-        → Ended (end030 tc (cacheOf ts ps ss ms) code address write w) t ts ps ss ms
+    pub end-bus : {at : ℕ} → w .end ≡ end.BusError at → t ≡ busError at → length a ≡ 69
+        → Ended (end030 tc (cacheOf a) code address write w) t a
     unfolding end030
     end-bus e q z = rw e (record { answers = q; leaves = refl; sized = z })
 
-    pub end-stop : w .end ≡ end.LevelStop → t ≡ configuration address → Sized ts ps ss ms
-        → Ended (end030 tc (cacheOf ts ps ss ms) code address write w) t ts ps ss ms
+    pub end-stop : w .end ≡ end.LevelStop → t ≡ configuration address → length a ≡ 69
+        → Ended (end030 tc (cacheOf a) code address write w) t a
     unfolding end030
     end-stop e q z = rw e (record { answers = q; leaves = refl; sized = z })
 
-    pub end-config : w .end ≡ end.Config → t ≡ configuration address → Sized ts ps ss ms
-        → Ended (end030 tc (cacheOf ts ps ss ms) code address write w) t ts ps ss ms
+    pub end-config : w .end ≡ end.Config → t ≡ configuration address → length a ≡ 69
+        → Ended (end030 tc (cacheOf a) code address write w) t a
     unfolding end030
     end-config e q z = rw e (record { answers = q; leaves = refl; sized = z })
 
-pub end-page : (tc : ℕ) (c : Cache030) (code address : ℕ) (write : Bool) (w : Walked) {t : Translation} {field consumed to : ℕ} {ts ps ss ms : List ℕ}
+pub end-page : (tc : ℕ) (c : Cache030) (code address : ℕ) (write : Bool) (w : Walked) {t : Translation} {field consumed to : ℕ} {a : List ℕ}
     → w .end ≡ end.Page field consumed → to ≡ physicalOf field consumed address
-    → Ended (page030 tc c code address write (w .wp) (w .sup) to) t ts ps ss ms → Ended (end030 tc c code address write w) t ts ps ss ms
+    → Ended (page030 tc c code address write (w .wp) (w .sup) to) t a → Ended (end030 tc c code address write w) t a
 unfolding page030 end030
 end-page tc c code address write w e f k = rw (e, ← f) k
 

@@ -4,6 +4,7 @@ use Prim.Native.Nat.{ℕ, _/_, _^_}
 use mathlib.Core.Path.{_≡_}
 use mathlib.Core.List.{List, []}
 use mathlib.Core.Bool.{Bool, _&&_}
+use lib.ListN.{length}
 use Rattle.definition.specs.Words.{if_then_else_}
 use Rattle.definition.specs.Walk030.{everyLevel}
 use Rattle.definition.specs.Cache030.{Cache030, hitOf, afterHit}
@@ -17,7 +18,7 @@ use Rattle.definition.specs.declared.FaultCause.the-variants as cause
 use Rattle.definition.specs.declared.Translation.{Translation}
 use Rattle.tables.specs.declared.Way.{Way}
 use Rattle.tables.specs.declared.Walked.{Walked}
-use Rattle.cache.specs.Atc030.{cacheOf, Sized}
+use Rattle.cache.specs.Atc030.{cacheOf}
 use Rattle.plan.specs.declared.Plan.{Plan}
 
 -- a plan, and the 68030 cache after it
@@ -58,13 +59,13 @@ unfoldable pub end030 : ℕ → Cache030 → ℕ → ℕ → Bool → Walked →
 end030 tc c code address write w = onEnd030 tc c code address write (w .wp) (w .sup) [] (w .end)
 
 -- a plan r, with the 68030 arrays after it
-pub record PlannedIn030 (p : Planned030) (r : Plan) (ts ps ss ms : List ℕ) : Type 0 where
+pub record PlannedIn030 (p : Planned030) (r : Plan) (a : List ℕ) : Type 0 where
   pub plans : r ≡ p .plan
-  pub leaves : cacheOf ts ps ss ms ≡ p .cache
-  pub sized : Sized ts ps ss ms
+  pub leaves : cacheOf a ≡ p .cache
+  pub sized : length a ≡ 69
 
 -- a 68030 search's answer r, with the arrays after it
-pub record Ended (s : Searched) (r : Translation) (ts ps ss ms : List ℕ) : Type 0 where
+pub record Ended (s : Searched) (r : Translation) (a : List ℕ) : Type 0 where
   pub answers : r ≡ s .answer
-  pub leaves : cacheOf ts ps ss ms ≡ s .cache
-  pub sized : Sized ts ps ss ms
+  pub leaves : cacheOf a ≡ s .cache
+  pub sized : length a ≡ 69

@@ -1,4 +1,5 @@
 // A 68030 search in place: what is planned before the walk, and what the walk's end gives. Translate and load share it. A code has three bits.
+use cache::atc030::Atc030;
 use cache::atc030::insert;
 use cache::atc030::look;
 use definition::End;
@@ -11,13 +12,14 @@ use plan::Plan;
 use plan::checks;
 use tables::Walked;
 use tables::Way;
+ghost use lib.ListN.{length};
 ghost use mathlib.Core.Path.{_≡_};
 ghost use Prim.Native.Nat.{_%_, _<_};
 ghost use Rattle.definition.specs.Words.{if_then_else_};
 ghost use Rattle.definition.specs.Walk030.{shiftOf};
 ghost use Rattle.definition.specs.Cache030.{Cache030};
 ghost use Rattle.definition.specs.Translate.{violation, busError, configuration, cached};
-ghost use Rattle.cache.specs.Atc030.{cacheOf, Sized, Stepped};
+ghost use Rattle.cache.specs.Atc030.{cacheOf, Stepped};
 ghost use Rattle.search.specs.Searched.{lookPlan, plan030, missingCause, permittedOf, page030, end030, PlannedIn030, Ended};
 
 // By what the look gave: a hit adds the address's low page-shift bits.
@@ -32,35 +34,22 @@ fn looked(hit: Hit, code: u32, address: u32, shift: u32) -> Plan
 
 // The cache, where there is a page shift; else the walk.
 pub fn plan_030(
-    tags: &[u64; 22],
-    pages: &[u64; 22],
-    stamps: &mut [u64; 22],
-    marks: &mut [u64; 3],
+    c030: &mut Atc030,
     tc: u32,
     code: u32,
     address: u32,
     write: bool,
     recorded: bool,
 ) -> Plan
-    ensures { λ r. ⌜ PlannedIn030 (plan030 (cacheOf (now (tags .entry)) (now (pages .entry)) (now (stamps .entry)) (now (marks .entry))) recorded (code % 8) address write (shiftOf tc)) r (now (tags .entry)) (now (pages .entry)) (now (stamps .exit)) (now (marks .exit)) ⌝ }
+    ensures { λ r. ⌜ PlannedIn030 (plan030 (cacheOf (now (c030 .entry))) recorded (code % 8) address write (shiftOf tc)) r (now (c030 .exit)) ⌝ }
 {
-    checks::lengths_030(tags, pages, stamps, marks);
+    checks::sized(c030);
     let code = code % 8;
     match tables::page_shift(tc) {
         Shift::NoPage => Plan::Walk(Way::By030 { code, limit: 5 }),
         Shift::Bits(shift) => {
             let page = address >> shift;
-            let hit = look(
-                tags,
-                pages,
-                stamps,
-                marks,
-                code,
-                page,
-                shift,
-                write,
-                recorded,
-            );
+            let hit = look(c030, code, page, shift, write, recorded);
             looked(hit, code, address, shift)
         }
     }
@@ -110,36 +99,23 @@ fn missing_cause(indirect: bool) -> FaultCause
 }
 
 // The page's base is cached, where there is a page shift.
-fn cache_page(
-    tags: &mut [u64; 22],
-    pages: &mut [u64; 22],
-    stamps: &mut [u64; 22],
-    marks: &mut [u64; 3],
-    tc: u32,
-    code: u32,
-    address: u32,
-    physical: u32,
-    wp: bool,
-)
-    requires { ⌜ (code < 8) × Sized (now tags) (now pages) (now stamps) (now marks) ⌝ }
-    ensures { λ _. ⌜ Stepped (λ (c : Cache030). cached (shiftOf tc) c code address physical wp) (now (tags .entry)) (now (pages .entry)) (now (stamps .entry)) (now (marks .entry)) (now (tags .exit)) (now (pages .exit)) (now (stamps .exit)) (now (marks .exit)) ⌝ }
+fn cache_page(c030: &mut Atc030, tc: u32, code: u32, address: u32, physical: u32, wp: bool)
+    requires { ⌜ (code < 8) × (length (now c030) ≡ 69) ⌝ }
+    ensures { λ _. ⌜ Stepped (λ (c : Cache030). cached (shiftOf tc) c code address physical wp) (now (c030 .entry)) (now (c030 .exit)) ⌝ }
 {
     match tables::page_shift(tc) {
         Shift::NoPage => {}
         Shift::Bits(shift) => {
             let page = address >> shift;
             let base = tables::page_base(physical, address, shift);
-            insert(tags, pages, stamps, marks, code, page, shift, base, wp);
+            insert(c030, code, page, shift, base, wp);
         }
     }
 }
 
 // Nothing is cached of a page that S forbids.
 fn cache_unless(
-    tags: &mut [u64; 22],
-    pages: &mut [u64; 22],
-    stamps: &mut [u64; 22],
-    marks: &mut [u64; 3],
+    c030: &mut Atc030,
     forbidden: bool,
     tc: u32,
     code: u32,
@@ -147,13 +123,13 @@ fn cache_unless(
     physical: u32,
     wp: bool,
 )
-    requires { ⌜ (code < 8) × Sized (now tags) (now pages) (now stamps) (now marks) ⌝ }
-    ensures { λ _. ⌜ Stepped (λ (c : Cache030). if forbidden then c else cached (shiftOf tc) c code address physical wp) (now (tags .entry)) (now (pages .entry)) (now (stamps .entry)) (now (marks .entry)) (now (tags .exit)) (now (pages .exit)) (now (stamps .exit)) (now (marks .exit)) ⌝ }
+    requires { ⌜ (code < 8) × (length (now c030) ≡ 69) ⌝ }
+    ensures { λ _. ⌜ Stepped (λ (c : Cache030). if forbidden then c else cached (shiftOf tc) c code address physical wp) (now (c030 .entry)) (now (c030 .exit)) ⌝ }
 {
     if forbidden {
         return;
     }
-    cache_page(tags, pages, stamps, marks, tc, code, address, physical, wp);
+    cache_page(c030, tc, code, address, physical, wp);
 }
 
 // A page that S forbids gives SupervisorProtect, and then a write with WP gives WriteProtect.
@@ -171,10 +147,7 @@ fn permitted(forbidden: bool, write: bool, wp: bool, address: u32, physical: u32
 
 // S set and a user access: SupervisorProtect, nothing cached. Otherwise the page's base is cached, also where WP then forbids a write.
 fn page_found(
-    tags: &mut [u64; 22],
-    pages: &mut [u64; 22],
-    stamps: &mut [u64; 22],
-    marks: &mut [u64; 3],
+    c030: &mut Atc030,
     tc: u32,
     code: u32,
     address: u32,
@@ -183,57 +156,31 @@ fn page_found(
     sup: bool,
     physical: u32,
 ) -> Translation
-    requires { ⌜ (code < 8) × Sized (now tags) (now pages) (now stamps) (now marks) ⌝ }
-    ensures { λ r. ⌜ Ended (page030 tc (cacheOf (now (tags .entry)) (now (pages .entry)) (now (stamps .entry)) (now (marks .entry))) code address write wp sup physical) r (now (tags .exit)) (now (pages .exit)) (now (stamps .exit)) (now (marks .exit)) ⌝ }
+    requires { ⌜ (code < 8) × (length (now c030) ≡ 69) ⌝ }
+    ensures { λ r. ⌜ Ended (page030 tc (cacheOf (now (c030 .entry))) code address write wp sup physical) r (now (c030 .exit)) ⌝ }
 {
     let forbidden = sup & !((code >> 2) % 2 == 1);
-    cache_unless(
-        tags,
-        pages,
-        stamps,
-        marks,
-        forbidden,
-        tc,
-        code,
-        address,
-        physical,
-        wp,
-    );
+    cache_unless(c030, forbidden, tc, code, address, physical, wp);
     permitted(forbidden, write, wp, address, physical)
 }
 
 // What a walk's end gives.
 pub fn end_030(
-    tags: &mut [u64; 22],
-    pages: &mut [u64; 22],
-    stamps: &mut [u64; 22],
-    marks: &mut [u64; 3],
+    c030: &mut Atc030,
     tc: u32,
     code: u32,
     address: u32,
     write: bool,
     w: Walked,
 ) -> Translation
-    ensures { λ r. ⌜ Ended (end030 tc (cacheOf (now (tags .entry)) (now (pages .entry)) (now (stamps .entry)) (now (marks .entry))) (code % 8) address write w) r (now (tags .exit)) (now (pages .exit)) (now (stamps .exit)) (now (marks .exit)) ⌝ }
+    ensures { λ r. ⌜ Ended (end030 tc (cacheOf (now (c030 .entry))) (code % 8) address write w) r (now (c030 .exit)) ⌝ }
 {
-    checks::lengths_030(tags, pages, stamps, marks);
+    checks::sized(c030);
     let end = w.end;
     match end {
         End::Page { field, consumed } => {
             let to = tables::physical(field, consumed, address);
-            page_found(
-                tags,
-                pages,
-                stamps,
-                marks,
-                tc,
-                code % 8,
-                address,
-                write,
-                w.wp,
-                w.sup,
-                to,
-            )
+            page_found(c030, tc, code % 8, address, write, w.wp, w.sup, to)
         }
         End::Invalid { indirect } => fault(missing_cause(indirect), address),
         End::BusError { at } => bus_fault(at),

@@ -2,7 +2,7 @@
 use mathlib.Core.Path.{_≡_}
 use Rattle.definition.specs.Flush.{Flushed as FlushedOf}
 use Rattle.definition.specs.declared.Flush.{Flush}
-use Rattle.cache.specs.Pair.{pairOf, Whole}
+use Rattle.cache.specs.Pair.{pairOf, SizedPair}
 use Rattle.cache.specs.declared.CachePair.{CachePair}
 use Rattle.tableless.specs.declared.Flushed.{Flushed}
 
@@ -13,4 +13,4 @@ flushedWith answer caches = record { answer = answer; caches = caches }
 pub record FlushedBy (f : FlushedOf) (r : Flushed) : Type 0 where
   pub answers : r .answer ≡ f .answer
   pub leaves : pairOf (r .caches) ≡ f .caches
-  pub whole : Whole (r .caches)
+  pub whole : SizedPair (r .caches)

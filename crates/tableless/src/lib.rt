@@ -27,25 +27,9 @@ pub fn probe(
 ) -> Probe
     ensures { λ r. ⌜ r ≡ probeOf g own instruction write address (pairOf caches) ⌝ }
 {
-    let tags = caches.tags;
-    let pages = caches.pages;
-    let stamps = caches.stamps;
-    let marks = caches.marks;
-    let keys = caches.keys;
-    let bases = caches.bases;
-    inquiry::probe::probe_in(
-        &tags,
-        &pages,
-        &stamps,
-        &marks,
-        &keys,
-        &bases,
-        g,
-        own,
-        instruction,
-        write,
-        address,
-    )
+    let c030 = caches.c030;
+    let c040 = caches.c040;
+    inquiry::probe::probe_in(&c030, &c040, g, own, instruction, write, address)
 }
 
 // ---- The flushes.
@@ -54,23 +38,12 @@ pub fn probe(
 pub fn flush_all(caches: CachePair) -> Flushed
     ensures { λ r. ⌜ FlushedBy (flushAll (pairOf caches)) r ⌝ }
 {
-    let mut tags = caches.tags;
-    let pages = caches.pages;
-    let stamps = caches.stamps;
-    let marks = caches.marks;
-    let mut keys = caches.keys;
-    let bases = caches.bases;
-    let answer = flush::flush_all_in(&mut tags, &pages, &stamps, &marks, &mut keys, &bases);
+    let mut c030 = caches.c030;
+    let mut c040 = caches.c040;
+    let answer = flush::flush_all_in(&mut c030, &mut c040);
     Flushed {
         answer,
-        caches: CachePair {
-            tags,
-            pages,
-            stamps,
-            marks,
-            keys,
-            bases,
-        },
+        caches: CachePair { c030, c040 },
     }
 }
 
@@ -78,23 +51,12 @@ pub fn flush_all(caches: CachePair) -> Flushed
 pub fn flush_code(code: u32, mask: u32, caches: CachePair) -> Flushed
     ensures { λ r. ⌜ FlushedBy (flushCode code mask (pairOf caches)) r ⌝ }
 {
-    let mut tags = caches.tags;
-    let pages = caches.pages;
-    let stamps = caches.stamps;
-    let marks = caches.marks;
-    let keys = caches.keys;
-    let bases = caches.bases;
-    let answer = flush::flush_code_in(&mut tags, &pages, &stamps, &marks, code, mask);
+    let mut c030 = caches.c030;
+    let c040 = caches.c040;
+    let answer = flush::flush_code_in(&mut c030, code, mask);
     Flushed {
         answer,
-        caches: CachePair {
-            tags,
-            pages,
-            stamps,
-            marks,
-            keys,
-            bases,
-        },
+        caches: CachePair { c030, c040 },
     }
 }
 
@@ -102,23 +64,12 @@ pub fn flush_code(code: u32, mask: u32, caches: CachePair) -> Flushed
 pub fn flush_page(code: u32, mask: u32, address: u32, caches: CachePair) -> Flushed
     ensures { λ r. ⌜ FlushedBy (flushPage code mask address (pairOf caches)) r ⌝ }
 {
-    let mut tags = caches.tags;
-    let pages = caches.pages;
-    let stamps = caches.stamps;
-    let marks = caches.marks;
-    let keys = caches.keys;
-    let bases = caches.bases;
-    let answer = flush::flush_page_in(&mut tags, &pages, &stamps, &marks, code, mask, address);
+    let mut c030 = caches.c030;
+    let c040 = caches.c040;
+    let answer = flush::flush_page_in(&mut c030, code, mask, address);
     Flushed {
         answer,
-        caches: CachePair {
-            tags,
-            pages,
-            stamps,
-            marks,
-            keys,
-            bases,
-        },
+        caches: CachePair { c030, c040 },
     }
 }
 
@@ -126,22 +77,11 @@ pub fn flush_page(code: u32, mask: u32, address: u32, caches: CachePair) -> Flus
 pub fn flush_frame(frame: u32, caches: CachePair) -> Flushed
     ensures { λ r. ⌜ FlushedBy (flushFrame frame (pairOf caches)) r ⌝ }
 {
-    let tags = caches.tags;
-    let pages = caches.pages;
-    let stamps = caches.stamps;
-    let marks = caches.marks;
-    let mut keys = caches.keys;
-    let bases = caches.bases;
-    let answer = flush::flush_frame_in(&mut keys, &bases, frame);
+    let c030 = caches.c030;
+    let mut c040 = caches.c040;
+    let answer = flush::flush_frame_in(&mut c040, frame);
     Flushed {
         answer,
-        caches: CachePair {
-            tags,
-            pages,
-            stamps,
-            marks,
-            keys,
-            bases,
-        },
+        caches: CachePair { c030, c040 },
     }
 }

@@ -3,6 +3,7 @@ use Prim.Native.Nat.{ℕ, _/_, _%_, _^_}
 use mathlib.Core.Path.{_≡_, refl, ap, _∙_}
 use mathlib.Core.List.{List}
 use mathlib.Core.Bool.{Bool, true, false, not, _&&_}
+use lib.ListN.{length}
 use Rattle.definition.specs.Registers.{asSupervisor, walkCode}
 use Rattle.definition.specs.Walk040.{pageBits, frameOf, physical040}
 use Rattle.definition.specs.Cache040.{Cache040, inserted040}
@@ -20,74 +21,74 @@ use Rattle.tables.specs.declared.Walked.{Walked}
 use Rattle.tables.specs.declared.Walked040.{Walked040}
 use Rattle.tables.specs.declared.Way.{Way}
 use Rattle.cache.specs.Atc030.{cacheOf}
-use Rattle.cache.specs.Atc040.{cache040Of, Sized040, Stepped040}
+use Rattle.cache.specs.Atc040.{cache040Of, Stepped040}
 use Rattle.plan.specs.declared.Plan.{Plan}
 use Rattle.plan.specs.declared.Plan.the-variants as plan
 use Rattle.search.specs.Searched.{end030, Ended}
 use Rattle.translate.specs.Stages.{resident040, end040, onWalks, concludeAccess}
-use Rattle.plan.specs.Arrays.{cachesOf, SizedAll}
+use Rattle.cache.specs.Pair.{cachesOf, SizedAll}
 use Rattle.plan.proofs.Bounds.{in-three-bits}
 use Rattle.translate.specs.InPlace.{Ended040, AnsweredIn}
 use Rattle.translate.proofs.Planning.{walk-small}
 
 -- ---- a resident 68040 page
-module _ (tc address : ℕ) (supervisor write : Bool) {ks bs : List ℕ} where
+module _ (tc address : ℕ) (supervisor write : Bool) {c4 : List ℕ} where
   module _ (field : ℕ) (wp sup : Bool) where
-    pub resident-w : {t : Translation} → (write && wp) ≡ true → t ≡ violation cause.WriteProtect address → Sized040 ks bs
-        → Ended040 (resident040 tc (cache040Of ks bs) address supervisor write field wp sup) t ks bs
+    pub resident-w : {t : Translation} → (write && wp) ≡ true → t ≡ violation cause.WriteProtect address → length c4 ≡ 128
+        → Ended040 (resident040 tc (cache040Of c4) address supervisor write field wp sup) t c4
     unfolding resident040
     resident-w e f z = rw e (record { answers = f; leaves = refl; sized = z })
 
-    pub resident-s : {t : Translation} → (write && wp) ≡ false → (not supervisor && sup) ≡ true → t ≡ violation cause.SupervisorProtect address → Sized040 ks bs
-        → Ended040 (resident040 tc (cache040Of ks bs) address supervisor write field wp sup) t ks bs
+    pub resident-s : {t : Translation} → (write && wp) ≡ false → (not supervisor && sup) ≡ true → t ≡ violation cause.SupervisorProtect address → length c4 ≡ 128
+        → Ended040 (resident040 tc (cache040Of c4) address supervisor write field wp sup) t c4
     unfolding resident040
     resident-s e h f z = rw (e, h) (record { answers = f; leaves = refl; sized = z })
 
-    pub resident-in : {bits base to : ℕ} {ks′ bs′ : List ℕ} → (write && wp) ≡ false → (not supervisor && sup) ≡ false → bits ≡ pageBits tc
+    pub resident-in : {bits base to : ℕ} {c4′ : List ℕ} → (write && wp) ≡ false → (not supervisor && sup) ≡ false → bits ≡ pageBits tc
         → base ≡ frameOf tc field
-        → Stepped040 (λ (c : Cache040). inserted040 c (address / 2 ^ bits) supervisor base wp sup) ks bs ks′ bs′
+        → Stepped040 (λ (c : Cache040). inserted040 c (address / 2 ^ bits) supervisor base wp sup) c4 c4′
         → to ≡ physical040 tc field address
-        → Ended040 (resident040 tc (cache040Of ks bs) address supervisor write field wp sup) (Translation.Address to) ks′ bs′
+        → Ended040 (resident040 tc (cache040Of c4) address supervisor write field wp sup) (Translation.Address to) c4′
     unfolding resident040
     resident-in e h b f k p =
         rw (e, h) (record { answers = ap Translation.Address p; leaves = k .leaves ∙ rw (b, f) refl; sized = k .sized })
 
   -- ---- the other ends
-  pub end-absent : {t : Translation} {e : End040} {missing : FaultCause} → e ≡ end.Absent missing → t ≡ violation missing address → Sized040 ks bs
-      → Ended040 (end040 tc (cache040Of ks bs) address supervisor write e) t ks bs
+  pub end-absent : {t : Translation} {e : End040} {missing : FaultCause} → e ≡ end.Absent missing → t ≡ violation missing address → length c4 ≡ 128
+      → Ended040 (end040 tc (cache040Of c4) address supervisor write e) t c4
   unfolding end040
   end-absent e f z = rw e (record { answers = f; leaves = refl; sized = z })
 
-  pub end-lost : {t : Translation} {e : End040} {at : ℕ} → e ≡ end.Lost at → t ≡ busError at → Sized040 ks bs
-      → Ended040 (end040 tc (cache040Of ks bs) address supervisor write e) t ks bs
+  pub end-lost : {t : Translation} {e : End040} {at : ℕ} → e ≡ end.Lost at → t ≡ busError at → length c4 ≡ 128
+      → Ended040 (end040 tc (cache040Of c4) address supervisor write e) t c4
   unfolding end040
   end-lost e f z = rw e (record { answers = f; leaves = refl; sized = z })
 
-pub end-resident : (tc : ℕ) (c : Cache040) (address : ℕ) (supervisor write : Bool) {e : End040} {field : ℕ} {wp sup : Bool} {t : Translation} {ks bs : List ℕ}
-    → e ≡ end.Resident field wp sup → Ended040 (resident040 tc c address supervisor write field wp sup) t ks bs
-    → Ended040 (end040 tc c address supervisor write e) t ks bs
+pub end-resident : (tc : ℕ) (c : Cache040) (address : ℕ) (supervisor write : Bool) {e : End040} {field : ℕ} {wp sup : Bool} {t : Translation} {c4 : List ℕ}
+    → e ≡ end.Resident field wp sup → Ended040 (resident040 tc c address supervisor write field wp sup) t c4
+    → Ended040 (end040 tc c address supervisor write e) t c4
 unfolding end040
 end-resident tc c address supervisor write e k = rw e k
 
 -- ---- the walks
-module _ (g : Registers) (a : Access) {ts ps ss ms ks bs : List ℕ} (z : SizedAll ts ps ss ms ks bs) {w : Walks} where
+module _ (g : Registers) (a : Access) {c3 c4 : List ℕ} (z : SizedAll c3 c4) {w : Walks} where
   pub walked-idle : w ≡ walks.Idle
-      → AnsweredIn (onWalks g a (cachesOf ts ps ss ms ks bs) w) (Translation.Address (a .address)) 0 ts ps ss ms ks bs
+      → AnsweredIn (onWalks g a (cachesOf c3 c4) w) (Translation.Address (a .address)) 0 c3 c4
   unfolding onWalks
   walked-idle e = rw e (record { answers = refl; counts = refl; leaves = refl; whole = z })
 
-  pub walked-030 : {x : Walked} {code : ℕ} {t : Translation} {ts′ ps′ ss′ ms′ : List ℕ} → w ≡ walks.By030 x → code ≡ walkCode a
-      → Ended (end030 (g .tc) (cacheOf ts ps ss ms) (code % 8) (a .address) (a .write) x) t ts′ ps′ ss′ ms′
-      → AnsweredIn (onWalks g a (cachesOf ts ps ss ms ks bs) w) t (x .asked) ts′ ps′ ss′ ms′ ks bs
+  pub walked-030 : {x : Walked} {code : ℕ} {t : Translation} {c3′ : List ℕ} → w ≡ walks.By030 x → code ≡ walkCode a
+      → Ended (end030 (g .tc) (cacheOf c3) (code % 8) (a .address) (a .write) x) t c3′
+      → AnsweredIn (onWalks g a (cachesOf c3 c4) w) t (x .asked) c3′ c4
   unfolding onWalks
-  walked-030 {x} {code} {t} {ts′} {ps′} {ss′} {ms′} e f k =
-      let q : Ended (end030 (g .tc) (cacheOf ts ps ss ms) code (a .address) (a .write) x) t ts′ ps′ ss′ ms′ = rw (← in-three-bits (walk-small a f)) k in
+  walked-030 {x} {code} {t} {c3′} e f k =
+      let q : Ended (end030 (g .tc) (cacheOf c3) code (a .address) (a .write) x) t c3′ = rw (← in-three-bits (walk-small a f)) k in
       rw (e, ← f)
       (record { answers = q .answers; counts = refl; leaves = rw (q .leaves) refl; whole = record { sized = q .sized; sized040 = z .sized040 } })
 
-  pub walked-040 : {x : Walked040} {supervisor : Bool} {t : Translation} {ks′ bs′ : List ℕ} → w ≡ walks.By040 x → supervisor ≡ asSupervisor a
-      → Ended040 (end040 (g .tc) (cache040Of ks bs) (a .address) supervisor (a .write) (x .end)) t ks′ bs′
-      → AnsweredIn (onWalks g a (cachesOf ts ps ss ms ks bs) w) t (x .asked) ts ps ss ms ks′ bs′
+  pub walked-040 : {x : Walked040} {supervisor : Bool} {t : Translation} {c4′ : List ℕ} → w ≡ walks.By040 x → supervisor ≡ asSupervisor a
+      → Ended040 (end040 (g .tc) (cache040Of c4) (a .address) supervisor (a .write) (x .end)) t c4′
+      → AnsweredIn (onWalks g a (cachesOf c3 c4) w) t (x .asked) c3 c4′
   unfolding onWalks
   walked-040 e f k =
       rw (e, ← f)
@@ -95,17 +96,17 @@ module _ (g : Registers) (a : Access) {ts ps ss ms ks bs : List ℕ} (z : SizedA
 
 -- ---- the plans
 module _ (g : Registers) (a : Access) {p : Plan} (w : Walks) where
-  pub concluded-refused : {ts ps ss ms ks bs : List ℕ} {n : ℕ} → p ≡ plan.Refused n → SizedAll ts ps ss ms ks bs
-      → AnsweredIn (concludeAccess g a (cachesOf ts ps ss ms ks bs) p w) (Translation.Refused n) 0 ts ps ss ms ks bs
+  pub concluded-refused : {c3 c4 : List ℕ} {n : ℕ} → p ≡ plan.Refused n → SizedAll c3 c4
+      → AnsweredIn (concludeAccess g a (cachesOf c3 c4) p w) (Translation.Refused n) 0 c3 c4
   unfolding concludeAccess
   concluded-refused e z = rw e (record { answers = refl; counts = refl; leaves = refl; whole = z })
 
-  pub concluded-settled : {ts ps ss ms ks bs : List ℕ} {x : ℕ} → p ≡ plan.Settled x → SizedAll ts ps ss ms ks bs
-      → AnsweredIn (concludeAccess g a (cachesOf ts ps ss ms ks bs) p w) (Translation.Address x) 0 ts ps ss ms ks bs
+  pub concluded-settled : {c3 c4 : List ℕ} {x : ℕ} → p ≡ plan.Settled x → SizedAll c3 c4
+      → AnsweredIn (concludeAccess g a (cachesOf c3 c4) p w) (Translation.Address x) 0 c3 c4
   unfolding concludeAccess
   concluded-settled e z = rw e (record { answers = refl; counts = refl; leaves = refl; whole = z })
 
-  pub concluded-walk : (c : Caches) {x : Way} {t : Translation} {n : ℕ} {ts ps ss ms ks bs : List ℕ} → p ≡ plan.Walk x
-      → AnsweredIn (onWalks g a c w) t n ts ps ss ms ks bs → AnsweredIn (concludeAccess g a c p w) t n ts ps ss ms ks bs
+  pub concluded-walk : (c : Caches) {x : Way} {t : Translation} {n : ℕ} {c3 c4 : List ℕ} → p ≡ plan.Walk x
+      → AnsweredIn (onWalks g a c w) t n c3 c4 → AnsweredIn (concludeAccess g a c p w) t n c3 c4
   unfolding concludeAccess
   concluded-walk c e k = rw e k

@@ -16,26 +16,26 @@ use Rattle.plan.specs.declared.Plan.{Plan}
 use Rattle.plan.specs.declared.Plan.the-variants as plan
 use Rattle.plan.specs.Plans.{wayOf}
 use Rattle.translate.specs.Stages.{planAccess, shownTranslated, onWalks}
-use Rattle.plan.specs.Arrays.{cachesOf}
+use Rattle.cache.specs.Pair.{cachesOf}
 use Rattle.translate.specs.InPlace.{PlannedIn, AnsweredIn}
 use Rattle.translate.proofs.Staged.{translated-by}
 use Rattle.translate.proofs.Concluding.{concluded-refused, concluded-settled, concluded-walk}
 
 module _ (g : Registers) (a : Access) (m : Memory) (c : Caches) {two three : Bool} (is-two : two ≡ badBase m) (is-three : three ≡ badRange m)
-    {p : Plan} {ts ps ss ms ks bs : List ℕ} (k : PlannedIn (planAccess g a two three c) p ts ps ss ms ks bs) where
+    {p : Plan} {c3 c4 : List ℕ} (k : PlannedIn (planAccess g a two three c) p c3 c4) where
   -- the plan is the one of the memory's own checks
-  planned : PlannedIn (planAccess g a (badBase m) (badRange m) c) p ts ps ss ms ks bs
+  planned : PlannedIn (planAccess g a (badBase m) (badRange m) c) p c3 c4
   planned = rw (← is-two, ← is-three) k
 
-  pub in-refused : {n : ℕ} → p ≡ plan.Refused n → AnsweredIn (shownTranslated (translate g a m c)) (Translation.Refused n) 0 ts ps ss ms ks bs
+  pub in-refused : {n : ℕ} → p ≡ plan.Refused n → AnsweredIn (shownTranslated (translate g a m c)) (Translation.Refused n) 0 c3 c4
   in-refused e = translated-by g a m c (planned .plans) (planned .leaves) (concluded-refused g a _ e (k .whole))
 
-  pub in-settled : {x : ℕ} → p ≡ plan.Settled x → AnsweredIn (shownTranslated (translate g a m c)) (Translation.Address x) 0 ts ps ss ms ks bs
+  pub in-settled : {x : ℕ} → p ≡ plan.Settled x → AnsweredIn (shownTranslated (translate g a m c)) (Translation.Address x) 0 c3 c4
   in-settled e = translated-by g a m c (planned .plans) (planned .leaves) (concluded-settled g a _ e (k .whole))
 
-  pub in-walked : {way : Way} {w : Walks} {t : Translation} {n : ℕ} {ts′ ps′ ss′ ms′ ks′ bs′ : List ℕ} → p ≡ plan.Walk way
-      → w ≡ walksOf m g (a .address) way → AnsweredIn (onWalks g a (cachesOf ts ps ss ms ks bs) w) t n ts′ ps′ ss′ ms′ ks′ bs′
-      → AnsweredIn (shownTranslated (translate g a m c)) t n ts′ ps′ ss′ ms′ ks′ bs′
+  pub in-walked : {way : Way} {w : Walks} {t : Translation} {n : ℕ} {c3′ c4′ : List ℕ} → p ≡ plan.Walk way
+      → w ≡ walksOf m g (a .address) way → AnsweredIn (onWalks g a (cachesOf c3 c4) w) t n c3′ c4′
+      → AnsweredIn (shownTranslated (translate g a m c)) t n c3′ c4′
   in-walked {way} {w} e f q =
       translated-by g a m c (planned .plans) (planned .leaves)
-      (concluded-walk g a (walksOf m g (a .address) (wayOf p)) (cachesOf ts ps ss ms ks bs) e (rw (e, ← f) q))
+      (concluded-walk g a (walksOf m g (a .address) (wayOf p)) (cachesOf c3 c4) e (rw (e, ← f) q))

@@ -1,5 +1,7 @@
 // Translate in place, over arrays that the caller keeps: 'No PMMU or not enabled: the address itself. .. Then transparent registers, cache, walk.'
+use cache::atc030::Atc030;
 use cache::atc030::bad_cache;
+use cache::atc040::Atc040;
 use cache::atc040::insert_040;
 use cache::atc040::look_040;
 use definition::Access;
@@ -14,7 +16,7 @@ use plan::checks;
 use tables::Walks;
 use tables::Way;
 ghost use mathlib.Core.Path.{_≡_};
-ghost use lib.ListN.{take};
+ghost use lib.ListN.{length, take};
 ghost use Rattle.definition.specs.Words.{anyOf};
 ghost use Rattle.definition.specs.Memory.{memory};
 ghost use Rattle.definition.specs.Refusal.{crossed};
@@ -22,9 +24,9 @@ ghost use Rattle.definition.specs.Translate.{translate};
 ghost use Prim.Native.Nat.{_/_, _^_};
 ghost use Rattle.definition.specs.Walk040.{pageBits};
 ghost use Rattle.definition.specs.Cache040.{hit040};
-ghost use Rattle.cache.specs.Atc040.{cache040Of, Sized040};
+ghost use Rattle.cache.specs.Atc040.{cache040Of};
 ghost use Rattle.translate.specs.Stages.{lookPlan040, planOn, planAccess, resident040, end040, onWalks, concludeAccess, shownTranslated};
-ghost use Rattle.plan.specs.Arrays.{cachesOf, SizedAll};
+ghost use Rattle.cache.specs.Pair.{cachesOf, SizedAll};
 ghost use Rattle.translate.specs.InPlace.{PlannedIn, Ended040, AnsweredIn};
 
 // An answer with its count: how many longs were asked for.
@@ -46,35 +48,19 @@ fn looked_040(hit: Hit, tc: u32, address: u32, supervisor: bool) -> Plan
 }
 
 // The 68040 cache, keyed by frame and supervisor; else the walk.
-fn plan_040(
-    keys: &[u64; 64],
-    bases: &[u64; 64],
-    tc: u32,
-    address: u32,
-    supervisor: bool,
-    write: bool,
-) -> Plan
-    ensures { λ r. ⌜ r ≡ lookPlan040 tc address supervisor (hit040 (cache040Of (now (keys .entry)) (now (bases .entry))) (address / 2 ^ pageBits tc) supervisor write) ⌝ }
+fn plan_040(c040: &Atc040, tc: u32, address: u32, supervisor: bool, write: bool) -> Plan
+    ensures { λ r. ⌜ r ≡ lookPlan040 tc address supervisor (hit040 (cache040Of (now (c040 .entry))) (address / 2 ^ pageBits tc) supervisor write) ⌝ }
 {
     let bits = tables::page_bits(tc);
     let frame = address >> bits;
-    let hit = look_040(keys, bases, frame, supervisor, write);
+    let hit = look_040(c040, frame, supervisor, write);
     looked_040(hit, tc, address, supervisor)
 }
 
 // The transparent registers before either cache.
-fn plan_on(
-    tags: &[u64; 22],
-    pages: &[u64; 22],
-    stamps: &mut [u64; 22],
-    marks: &mut [u64; 3],
-    keys: &[u64; 64],
-    bases: &[u64; 64],
-    g: Registers,
-    a: Access,
-) -> Plan
-    requires { ⌜ SizedAll (now tags) (now pages) (now stamps) (now marks) (now keys) (now bases) ⌝ }
-    ensures { λ r. ⌜ PlannedIn (planOn g a (cachesOf (now (tags .entry)) (now (pages .entry)) (now (stamps .entry)) (now (marks .entry)) (now (keys .entry)) (now (bases .entry)))) r (now (tags .entry)) (now (pages .entry)) (now (stamps .exit)) (now (marks .exit)) (now (keys .entry)) (now (bases .entry)) ⌝ }
+fn plan_on(c030: &mut Atc030, c040: &Atc040, g: Registers, a: Access) -> Plan
+    requires { ⌜ SizedAll (now c030) (now c040) ⌝ }
+    ensures { λ r. ⌜ PlannedIn (planOn g a (cachesOf (now (c030 .entry)) (now (c040 .entry)))) r (now (c030 .exit)) (now (c040 .entry)) ⌝ }
 {
     let compared = checks::compared_code(a);
     let instruction = checks::as_instruction(a);
@@ -83,41 +69,27 @@ fn plan_on(
     }
     if g.family == 30 {
         let code = checks::walk_code(a);
-        return search::plan_030(
-            tags,
-            pages,
-            stamps,
-            marks,
-            g.tc,
-            code,
-            a.address,
-            a.write,
-            a.recorded,
-        );
+        return search::plan_030(c030, g.tc, code, a.address, a.write, a.recorded);
     }
     let supervisor = checks::as_supervisor(a);
-    plan_040(keys, bases, g.tc, a.address, supervisor, a.write)
+    plan_040(c040, g.tc, a.address, supervisor, a.write)
 }
 
 // The refusals, before the test for an enabled PMMU. `two`: the base is bad; `three`: a range is crossed.
 pub fn plan_access(
-    tags: &[u64; 22],
-    pages: &[u64; 22],
-    stamps: &mut [u64; 22],
-    marks: &mut [u64; 3],
-    keys: &[u64; 64],
-    bases: &[u64; 64],
+    c030: &mut Atc030,
+    c040: &Atc040,
     two: bool,
     three: bool,
     g: Registers,
     a: Access,
 ) -> Plan
-    ensures { λ r. ⌜ PlannedIn (planAccess g a two three (cachesOf (now (tags .entry)) (now (pages .entry)) (now (stamps .entry)) (now (marks .entry)) (now (keys .entry)) (now (bases .entry)))) r (now (tags .entry)) (now (pages .entry)) (now (stamps .exit)) (now (marks .exit)) (now (keys .entry)) (now (bases .entry)) ⌝ }
+    ensures { λ r. ⌜ PlannedIn (planAccess g a two three (cachesOf (now (c030 .entry)) (now (c040 .entry)))) r (now (c030 .exit)) (now (c040 .entry)) ⌝ }
 {
-    checks::lengths(tags, pages, stamps, marks, keys, bases);
+    checks::lengths(c030, c040);
     let code = a.code;
     let five = checks::bad_override(code);
-    let four = bad_cache(tags, pages, stamps, marks);
+    let four = bad_cache(c030);
     let one = checks::no_family(g.family);
     let enabled = checks::is_on(g);
     let n = checks::first_refusal(one, false, five, two, three, four);
@@ -127,15 +99,14 @@ pub fn plan_access(
     if !enabled {
         return Plan::Settled(a.address);
     }
-    plan_on(tags, pages, stamps, marks, keys, bases, g, a)
+    plan_on(c030, c040, g, a)
 }
 
 // ---- The conclusion.
 
 // A write with W faults first, then user with S. Only a permitted access is cached.
 fn resident(
-    keys: &mut [u64; 64],
-    bases: &mut [u64; 64],
+    c040: &mut Atc040,
     tc: u32,
     address: u32,
     supervisor: bool,
@@ -144,8 +115,8 @@ fn resident(
     wp: bool,
     sup: bool,
 ) -> Translation
-    requires { ⌜ Sized040 (now keys) (now bases) ⌝ }
-    ensures { λ r. ⌜ Ended040 (resident040 tc (cache040Of (now (keys .entry)) (now (bases .entry))) address supervisor write field wp sup) r (now (keys .exit)) (now (bases .exit)) ⌝ }
+    requires { ⌜ (length (now c040) ≡ 128) ⌝ }
+    ensures { λ r. ⌜ Ended040 (resident040 tc (cache040Of (now (c040 .entry))) address supervisor write field wp sup) r (now (c040 .exit)) ⌝ }
 {
     if write & wp {
         return search::fault(FaultCause::WriteProtect, address);
@@ -156,27 +127,25 @@ fn resident(
     let bits = tables::page_bits(tc);
     let frame = address >> bits;
     let base = tables::frame_base(tc, field);
-    insert_040(keys, bases, frame, supervisor, base, wp, sup);
+    insert_040(c040, frame, supervisor, base, wp, sup);
     Translation::Address(tables::physical_040(tc, field, address))
 }
 
 // What a 68040 walk's end gives.
 fn end_040(
-    keys: &mut [u64; 64],
-    bases: &mut [u64; 64],
+    c040: &mut Atc040,
     tc: u32,
     address: u32,
     supervisor: bool,
     write: bool,
     end: End040,
 ) -> Translation
-    requires { ⌜ Sized040 (now keys) (now bases) ⌝ }
-    ensures { λ r. ⌜ Ended040 (end040 tc (cache040Of (now (keys .entry)) (now (bases .entry))) address supervisor write end) r (now (keys .exit)) (now (bases .exit)) ⌝ }
+    requires { ⌜ (length (now c040) ≡ 128) ⌝ }
+    ensures { λ r. ⌜ Ended040 (end040 tc (cache040Of (now (c040 .entry))) address supervisor write end) r (now (c040 .exit)) ⌝ }
 {
     match end {
         End040::Resident { field, wp, sup } => resident(
-            keys,
-            bases,
+            c040,
             tc,
             address,
             supervisor,
@@ -191,19 +160,9 @@ fn end_040(
 }
 
 // What a walk gives: its end's answer, and the longs that it asked for.
-fn walked(
-    tags: &mut [u64; 22],
-    pages: &mut [u64; 22],
-    stamps: &mut [u64; 22],
-    marks: &mut [u64; 3],
-    keys: &mut [u64; 64],
-    bases: &mut [u64; 64],
-    g: Registers,
-    a: Access,
-    walks: Walks,
-) -> Outcome
-    requires { ⌜ SizedAll (now tags) (now pages) (now stamps) (now marks) (now keys) (now bases) ⌝ }
-    ensures { λ r. ⌜ AnsweredIn (onWalks g a (cachesOf (now (tags .entry)) (now (pages .entry)) (now (stamps .entry)) (now (marks .entry)) (now (keys .entry)) (now (bases .entry))) walks) (r .answer) (r .count) (now (tags .exit)) (now (pages .exit)) (now (stamps .exit)) (now (marks .exit)) (now (keys .exit)) (now (bases .exit)) ⌝ }
+fn walked(c030: &mut Atc030, c040: &mut Atc040, g: Registers, a: Access, walks: Walks) -> Outcome
+    requires { ⌜ SizedAll (now c030) (now c040) ⌝ }
+    ensures { λ r. ⌜ AnsweredIn (onWalks g a (cachesOf (now (c030 .entry)) (now (c040 .entry))) walks) (r .answer) (r .count) (now (c030 .exit)) (now (c040 .exit)) ⌝ }
 {
     match walks {
         Walks::Idle => Outcome {
@@ -212,17 +171,7 @@ fn walked(
         },
         Walks::By030(w) => {
             let code = checks::walk_code(a);
-            let answer = search::end_030(
-                tags,
-                pages,
-                stamps,
-                marks,
-                g.tc,
-                code,
-                a.address,
-                a.write,
-                w,
-            );
+            let answer = search::end_030(c030, g.tc, code, a.address, a.write, w);
             Outcome {
                 answer,
                 count: w.asked,
@@ -231,7 +180,7 @@ fn walked(
         Walks::By040(walk) => {
             let supervisor = checks::as_supervisor(a);
             let end = walk.end;
-            let answer = end_040(keys, bases, g.tc, a.address, supervisor, a.write, end);
+            let answer = end_040(c040, g.tc, a.address, supervisor, a.write, end);
             Outcome {
                 answer,
                 count: walk.asked,
@@ -242,20 +191,16 @@ fn walked(
 
 // The answer, its count and the next caches, from the plan and the walk that it asked for.
 pub fn conclude_access(
-    tags: &mut [u64; 22],
-    pages: &mut [u64; 22],
-    stamps: &mut [u64; 22],
-    marks: &mut [u64; 3],
-    keys: &mut [u64; 64],
-    bases: &mut [u64; 64],
+    c030: &mut Atc030,
+    c040: &mut Atc040,
     g: Registers,
     a: Access,
     plan: Plan,
     walks: Walks,
 ) -> Outcome
-    ensures { λ r. ⌜ AnsweredIn (concludeAccess g a (cachesOf (now (tags .entry)) (now (pages .entry)) (now (stamps .entry)) (now (marks .entry)) (now (keys .entry)) (now (bases .entry))) plan walks) (r .answer) (r .count) (now (tags .exit)) (now (pages .exit)) (now (stamps .exit)) (now (marks .exit)) (now (keys .exit)) (now (bases .exit)) ⌝ }
+    ensures { λ r. ⌜ AnsweredIn (concludeAccess g a (cachesOf (now (c030 .entry)) (now (c040 .entry))) plan walks) (r .answer) (r .count) (now (c030 .exit)) (now (c040 .exit)) ⌝ }
 {
-    checks::lengths(tags, pages, stamps, marks, keys, bases);
+    checks::lengths(c030, c040);
     match plan {
         Plan::Refused(n) => Outcome {
             answer: Translation::Refused(n),
@@ -265,7 +210,7 @@ pub fn conclude_access(
             answer: Translation::Address(x),
             count: 0,
         },
-        Plan::Walk(_) => walked(tags, pages, stamps, marks, keys, bases, g, a, walks),
+        Plan::Walk(_) => walked(c030, c040, g, a, walks),
     }
 }
 
@@ -274,12 +219,8 @@ pub fn conclude_access(
 // Translate over caches that the caller keeps, with the first `n` of the ranges that it keeps.
 // `three` says whether one of these is crossed: a caller that keeps ranges knows it, and no call has to search them.
 pub fn translate_in(
-    tags: &mut [u64; 22],
-    pages: &mut [u64; 22],
-    stamps: &mut [u64; 22],
-    marks: &mut [u64; 3],
-    keys: &mut [u64; 64],
-    bases: &mut [u64; 64],
+    c030: &mut Atc030,
+    c040: &mut Atc040,
     longs: &[u32],
     base: u32,
     list: [Range; 16],
@@ -288,10 +229,10 @@ pub fn translate_in(
     g: Registers,
     a: Access,
 ) -> Outcome
-    ensures { λ r. ⌜ (three ≡ anyOf crossed (take n list) → AnsweredIn (shownTranslated (translate g a (memory (now (longs .entry)) base (take n list)) (cachesOf (now (tags .entry)) (now (pages .entry)) (now (stamps .entry)) (now (marks .entry)) (now (keys .entry)) (now (bases .entry))))) (r .answer) (r .count) (now (tags .exit)) (now (pages .exit)) (now (stamps .exit)) (now (marks .exit)) (now (keys .exit)) (now (bases .exit))) ⌝ }
+    ensures { λ r. ⌜ (three ≡ anyOf crossed (take n list) → AnsweredIn (shownTranslated (translate g a (memory (now (longs .entry)) base (take n list)) (cachesOf (now (c030 .entry)) (now (c040 .entry))))) (r .answer) (r .count) (now (c030 .exit)) (now (c040 .exit))) ⌝ }
 {
     let two = tables::bad_base(longs.len(), base);
-    let plan = plan_access(tags, pages, stamps, marks, keys, bases, two, three, g, a);
+    let plan = plan_access(c030, c040, two, three, g, a);
     match plan {
         Plan::Refused(number) => Outcome {
             answer: Translation::Refused(number),
@@ -303,7 +244,7 @@ pub fn translate_in(
         },
         Plan::Walk(way) => {
             let walks = tables::walk_kept(longs, base, list, n, g, a.address, way);
-            walked(tags, pages, stamps, marks, keys, bases, g, a, walks)
+            walked(c030, c040, g, a, walks)
         }
     }
 }

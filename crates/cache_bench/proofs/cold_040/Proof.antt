@@ -4,10 +4,10 @@ use Rattle.cache_bench.proofs.cold_040.Statement.{statement}
 use Rattle.cache_bench.proofs.cold_040.Tie as tie
 
 abbrev Inv-loop : tie.InvT-loop
-Inv-loop pages count keys₀ bases₀ x₀ sum₀ counter₀ keys bases x sum counter = Unit {0}
+Inv-loop pages count c₀ x₀ sum₀ counter₀ c x sum counter = Unit {0}
 
 abbrev μ-loop : tie.MeasureT-loop
-μ-loop pages count keys₀ bases₀ x₀ sum₀ counter₀ keys bases x sum counter = count - counter
+μ-loop pages count c₀ x₀ sum₀ counter₀ c x sum counter = count - counter
 
 empty-requires : tie.Need-empty-requires Inv-loop μ-loop
 empty-requires c κs = search needs

@@ -4,10 +4,10 @@ use Rattle.cache_bench.proofs.fill_040.Statement.{statement}
 use Rattle.cache_bench.proofs.fill_040.Tie as tie
 
 abbrev Inv-loop : tie.InvT-loop
-Inv-loop pages keys₀ bases₀ page₀ keys bases page = Unit {0}
+Inv-loop pages c₀ page₀ c page = Unit {0}
 
 abbrev μ-loop : tie.MeasureT-loop
-μ-loop pages keys₀ bases₀ page₀ keys bases page = pages - page
+μ-loop pages c₀ page₀ c page = pages - page
 
 loop-holds : tie.Need-loop-holds Inv-loop μ-loop
 loop-holds c = search needs

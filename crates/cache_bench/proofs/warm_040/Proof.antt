@@ -4,10 +4,10 @@ use Rattle.cache_bench.proofs.warm_040.Statement.{statement}
 use Rattle.cache_bench.proofs.warm_040.Tie as tie
 
 abbrev Inv-loop : tie.InvT-loop
-Inv-loop pages count keys bases x₀ sum₀ counter₀ x sum counter = Unit {0}
+Inv-loop pages count c x₀ sum₀ counter₀ x sum counter = Unit {0}
 
 abbrev μ-loop : tie.MeasureT-loop
-μ-loop pages count keys bases x₀ sum₀ counter₀ x sum counter = count - counter
+μ-loop pages count c x₀ sum₀ counter₀ x sum counter = count - counter
 
 empty-requires : tie.Need-empty-requires Inv-loop μ-loop
 empty-requires c κs = search needs

@@ -55,7 +55,7 @@ use Rattle.definition.specs.Load.{load as loadOf}
 use Rattle.definition.specs.Cache040.{Cache040}
 use Rattle.cache.specs.Atc030.{cacheOf}
 use Rattle.load.specs.Loaded.{planLoad, concludeLoad, shownLoaded, LoadedIn}
-use Rattle.plan.specs.Arrays.{pairWith}
+use Rattle.cache.specs.Pair.{pairWith}
 use Rattle.search.specs.Searched.{PlannedIn030}
 use Rattle.definition.specs.Refusal.{badBase}
 use Rattle.definition.specs.Words.{anyOf}
@@ -121,7 +121,7 @@ use Rattle.lent.proofs.load_lent.Statement as stated
 use Rattle.lent.proofs.load_lent.Code as code
 
 abbrev stayed : Stays (self.ended .signature .params) (self.ended .kept)
-stayed = (stay-ref (0 ∷ []) tt (plain (λ _. (Array u64 22))), (stay-ref (1 ∷ []) tt (plain (λ _. (Array u64 22))), (stay-ref (2 ∷ []) tt (plain (λ _. (Array u64 22))), (stay-ref (3 ∷ []) tt (plain (λ _. (Array u64 3))), (stay-none-slice (4 ∷ []) tt (plain (λ _. u32)) yes, (stay-none (λ _. u32) yes, (stay-none-slice (5 ∷ []) tt (plain (λ _. row-Range.the-row)) yes, (stay-none (λ _. row-Registers.the-row) yes, (stay-none (λ _. u32) yes, (stay-none (λ _. Boolean) yes, (stay-none (λ _. u32) yes, tt)))))))))))
+stayed = (stay-ref (0 ∷ []) tt (plain (λ _. (Array u64 69))), (stay-none-slice (1 ∷ []) tt (plain (λ _. u32)) yes, (stay-none (λ _. u32) yes, (stay-none-slice (2 ∷ []) tt (plain (λ _. row-Range.the-row)) yes, (stay-none (λ _. row-Registers.the-row) yes, (stay-none (λ _. u32) yes, (stay-none (λ _. Boolean) yes, (stay-none (λ _. u32) yes, tt))))))))
 
 module _ {M : Type 1} (𝓤 : URA M) (H : Heap 𝓤) (A : Atoms 𝓤) (mem : Memory → SProp 𝓤) (run : Routine → Fun 𝓤) where
   abbrev C0 : Contract 𝓤
@@ -148,48 +148,48 @@ module _ {M : Type 1} (𝓤 : URA M) (H : Heap 𝓤) (A : Atoms 𝓤) (mem : Mem
   abbrev C7 : Contract 𝓤
   C7 = tripleOf 𝓤 H A c7.signature (c7.spec 𝓤 H A mem run)
 
-module _ {M : Type 1} (𝓤 : URA M) (H : Heap 𝓤) (A : Atoms 𝓤) (W : Given 𝓤 H A) (mem : Memory → SProp 𝓤) (run : Routine → Fun 𝓤) (κ0 : Lft) (κ1 : Lft) (κ2 : Lft) (κ3 : Lft) (κ4 : Lft) (κ5 : Lft) (q0 : Share) (q1 : Share) (q2 : Share) (q3 : Share) (q4 : Share) (q5 : Share) (x1 : RefT (List ℕ)) (x2 : RefT (List ℕ)) (x3 : RefT (List ℕ)) (x4 : RefT (List ℕ)) (x5 : RefT (List ℕ)) (x6 : ℕ) (x7 : RefT (List Range)) (x8 : Registers) (x9 : ℕ) (x10 : Bool) (x11 : ℕ) (i1 : Is (MutRef (named 0) κ0 (Array u64 22)) x1 (vptr (x1 .ptr .0) (x1 .ptr .1) ∷ [])) (i2 : Is (MutRef (named 1) κ1 (Array u64 22)) x2 (vptr (x2 .ptr .0) (x2 .ptr .1) ∷ [])) (i3 : Is (MutRef (named 2) κ2 (Array u64 22)) x3 (vptr (x3 .ptr .0) (x3 .ptr .1) ∷ [])) (i4 : Is (MutRef (named 3) κ3 (Array u64 3)) x4 (vptr (x4 .ptr .0) (x4 .ptr .1) ∷ [])) (i5 : Is (ShrSlice (named 4) κ4 u32) x5 (sliceVal (x5 .ptr) (length (x5 .now)) ∷ [])) (i6 : Is u32 x6 (vint w32 x6 ∷ [])) (i7 : Is (ShrSlice (named 5) κ5 row-Range.the-row) x7 (sliceVal (x7 .ptr) (length (x7 .now)) ∷ [])) (i8 : Is row-Registers.the-row x8 (LL.val row-Registers.the-type law-Registers.the-laws x8 ∷ [])) (i9 : Is u32 x9 (vint w32 x9 ∷ [])) (i10 : Is Boolean x10 (vbool x10 ∷ [])) (i11 : Is u32 x11 (vint w32 x11 ∷ [])) where
-  abbrev at-entry : Vals self.signature (κ0, (κ1, (κ2, (κ3, (κ4, (κ5, tt))))))
-  at-entry = (vptr (x1 .ptr .0) (x1 .ptr .1) ∷ [], (vptr (x2 .ptr .0) (x2 .ptr .1) ∷ [], (vptr (x3 .ptr .0) (x3 .ptr .1) ∷ [], (vptr (x4 .ptr .0) (x4 .ptr .1) ∷ [], (sliceVal (x5 .ptr) (length (x5 .now)) ∷ [], (vint w32 x6 ∷ [], (sliceVal (x7 .ptr) (length (x7 .now)) ∷ [], (LL.val row-Registers.the-type law-Registers.the-laws x8 ∷ [], (vint w32 x9 ∷ [], (vbool x10 ∷ [], (vint w32 x11 ∷ [], tt)))))))))))
+module _ {M : Type 1} (𝓤 : URA M) (H : Heap 𝓤) (A : Atoms 𝓤) (W : Given 𝓤 H A) (mem : Memory → SProp 𝓤) (run : Routine → Fun 𝓤) (κ0 : Lft) (κ1 : Lft) (κ2 : Lft) (q0 : Share) (q1 : Share) (q2 : Share) (x1 : RefT (List ℕ)) (x2 : RefT (List ℕ)) (x3 : ℕ) (x4 : RefT (List Range)) (x5 : Registers) (x6 : ℕ) (x7 : Bool) (x8 : ℕ) (i1 : Is (MutRef (named 0) κ0 (Array u64 69)) x1 (vptr (x1 .ptr .0) (x1 .ptr .1) ∷ [])) (i2 : Is (ShrSlice (named 1) κ1 u32) x2 (sliceVal (x2 .ptr) (length (x2 .now)) ∷ [])) (i3 : Is u32 x3 (vint w32 x3 ∷ [])) (i4 : Is (ShrSlice (named 2) κ2 row-Range.the-row) x4 (sliceVal (x4 .ptr) (length (x4 .now)) ∷ [])) (i5 : Is row-Registers.the-row x5 (LL.val row-Registers.the-type law-Registers.the-laws x5 ∷ [])) (i6 : Is u32 x6 (vint w32 x6 ∷ [])) (i7 : Is Boolean x7 (vbool x7 ∷ [])) (i8 : Is u32 x8 (vint w32 x8 ∷ [])) where
+  abbrev at-entry : Vals self.signature (κ0, (κ1, (κ2, tt)))
+  at-entry = (vptr (x1 .ptr .0) (x1 .ptr .1) ∷ [], (sliceVal (x2 .ptr) (length (x2 .now)) ∷ [], (vint w32 x3 ∷ [], (sliceVal (x4 .ptr) (length (x4 .now)) ∷ [], (LL.val row-Registers.the-type law-Registers.the-laws x5 ∷ [], (vint w32 x6 ∷ [], (vbool x7 ∷ [], (vint w32 x8 ∷ [], tt))))))))
 
   abbrev Post : Val → SProp 𝓤
-  Post = walk-of 𝓤 H A self.ended stayed (self.clauses 𝓤 H A mem run) .post (((κ0, (κ1, (κ2, (κ3, (κ4, (κ5, tt)))))), (q0, (q1, (q2, (q3, (q4, (q5, tt)))))), tt, (x1, (x2, (x3, (x4, (x5, (x6, (x7, (x8, (x9, (x10, (x11, tt))))))))))), at-entry), tt)
+  Post = walk-of 𝓤 H A self.ended stayed (self.clauses 𝓤 H A mem run) .post (((κ0, (κ1, (κ2, tt))), (q0, (q1, (q2, tt))), tt, (x1, (x2, (x3, (x4, (x5, (x6, (x7, (x8, tt)))))))), at-entry), tt)
 
-  exits : (y1 : List ℕ) (y2 : List ℕ) (y3 : List ℕ) (y4 : List ℕ) (r : LoadOutcome) (u : Val) → Is row-LoadOutcome.the-row r (u ∷ []) → ((k : Cache040) → LoadedIn (shownLoaded (loadOf x8 x9 x10 x11 (memory (now x5) x6 (now x7)) (pairWith (cacheOf (now x1) (now x2) (now x3) (now x4)) k))) (r .answer) (r .count) (y1) (y2) (y3) (y4)) → ent 𝓤 (⋆ 𝓤 H A (‵ (flft κ0 q0) ∷ ‵ (flft κ1 q1) ∷ ‵ (flft κ2 q2) ∷ ‵ (flft κ3 q3) ∷ ‵ (flft κ4 q4) ∷ ‵ (flft κ5 q5) ∷ ‵ ((ShrSlice (named 4) κ4 u32) .own x5 (sliceVal (x5 .ptr) (length (x5 .now)) ∷ [])) ∷ ‵ ((ShrSlice (named 5) κ5 row-Range.the-row) .own x7 (sliceVal (x7 .ptr) (length (x7 .now)) ∷ [])) ∷ ‵ (fobs (x1 .name) ((Array u64 22) .coded .code y1)) ∷ ‵ (fbor κ0 (Behind (mem-of (Array u64 22)) (x1 .ptr .0) (x1 .ptr .1) (x1 .name))) ∷ ‵ (fobs (x2 .name) ((Array u64 22) .coded .code y2)) ∷ ‵ (fbor κ1 (Behind (mem-of (Array u64 22)) (x2 .ptr .0) (x2 .ptr .1) (x2 .name))) ∷ ‵ (fobs (x3 .name) ((Array u64 22) .coded .code y3)) ∷ ‵ (fbor κ2 (Behind (mem-of (Array u64 22)) (x3 .ptr .0) (x3 .ptr .1) (x3 .name))) ∷ ‵ (fobs (x4 .name) ((Array u64 3) .coded .code y4)) ∷ ‵ (fbor κ3 (Behind (mem-of (Array u64 3)) (x4 .ptr .0) (x4 .ptr .1) (x4 .name))) ∷ [])) (Post u)
-  exits y1 y2 y3 y4 r u is e =
-      qed W (‵ (flft κ0 q0) ∷ ‵ (flft κ1 q1) ∷ ‵ (flft κ2 q2) ∷ ‵ (flft κ3 q3) ∷ ‵ (flft κ4 q4) ∷ ‵ (flft κ5 q5) ∷ ‵ ((ShrSlice (named 4) κ4 u32) .own x5 (sliceVal (x5 .ptr) (length (x5 .now)) ∷ [])) ∷ ‵ ((ShrSlice (named 5) κ5 row-Range.the-row) .own x7 (sliceVal (x7 .ptr) (length (x7 .now)) ∷ [])) ∷ ‵ (fobs (x1 .name) ((Array u64 22) .coded .code y1)) ∷ ‵ (fbor κ0 (Behind (mem-of (Array u64 22)) (x1 .ptr .0) (x1 .ptr .1) (x1 .name))) ∷ ‵ (fobs (x2 .name) ((Array u64 22) .coded .code y2)) ∷ ‵ (fbor κ1 (Behind (mem-of (Array u64 22)) (x2 .ptr .0) (x2 .ptr .1) (x2 .name))) ∷ ‵ (fobs (x3 .name) ((Array u64 22) .coded .code y3)) ∷ ‵ (fbor κ2 (Behind (mem-of (Array u64 22)) (x3 .ptr .0) (x3 .ptr .1) (x3 .name))) ∷ ‵ (fobs (x4 .name) ((Array u64 3) .coded .code y4)) ∷ ‵ (fbor κ3 (Behind (mem-of (Array u64 3)) (x4 .ptr .0) (x4 .ptr .1) (x4 .name))) ∷ []) ∵
-      suffices ! _ (ends-at 𝓤 H A self.ended stayed (self.clauses 𝓤 H A mem run) W (((κ0, (κ1, (κ2, (κ3, (κ4, (κ5, tt)))))), (q0, (q1, (q2, (q3, (q4, (q5, tt)))))), tt, (x1, (x2, (x3, (x4, (x5, (x6, (x7, (x8, (x9, (x10, (x11, tt))))))))))), at-entry), tt) u r (y1, (y2, (y3, (y4, (tt, (tt, (tt, (tt, (tt, (tt, (tt, tt))))))))))) (tt, (tt, (tt, (tt, (tt, (tt, (tt, (tt, (tt, (tt, (tt, tt)))))))))))) $ says ! e $
-      nothing ! $ move ! (6 ∷ 0 ∷ []) $ join ! $ move ! (5 ∷ 0 ∷ []) $ join ! $ move ! (4 ∷ 0 ∷ []) $ join ! $ move ! (3 ∷ 0 ∷ []) $ join ! $ move ! (2 ∷ 0 ∷ []) $ join ! $ move ! (1 ∷ 0 ∷ []) $ join ! $ frame ! $ nothing ! $ owned ! u32 (Is u32) (uint-makes 𝓤 H A W w32) x11 _ i11 $ fjoin ! $ owned ! Boolean (Is Boolean) (bool-makes 𝓤 H A W) x10 _ i10 $ fjoin ! $ owned ! u32 (Is u32) (uint-makes 𝓤 H A W w32) x9 _ i9 $ fjoin ! $ owned ! row-Registers.the-row (Is row-Registers.the-row) (LL.makes row-Registers.the-type law-Registers.the-plain 𝓤 H A) x8 _ i8 $ fjoin ! $ move ! (2 ∷ 0 ∷ []) $ fjoin ! $ owned ! u32 (Is u32) (uint-makes 𝓤 H A W w32) x6 _ i6 $ fjoin ! $ move ! (1 ∷ 0 ∷ []) $ fjoin ! $ move ! (7 ∷ 8 ∷ []) $ feqI ! (List Val) (vptr (x4 .ptr .0) (x4 .ptr .1) ∷ []) (vptr (x4 .ptr .0) (x4 .ptr .1) ∷ []) refl $ fjoin3 ! $ fjoin ! $ move ! (5 ∷ 6 ∷ []) $ feqI ! (List Val) (vptr (x3 .ptr .0) (x3 .ptr .1) ∷ []) (vptr (x3 .ptr .0) (x3 .ptr .1) ∷ []) refl $ fjoin3 ! $ fjoin ! $ move ! (3 ∷ 4 ∷ []) $ feqI ! (List Val) (vptr (x2 .ptr .0) (x2 .ptr .1) ∷ []) (vptr (x2 .ptr .0) (x2 .ptr .1) ∷ []) refl $ fjoin3 ! $ fjoin ! $ move ! (1 ∷ 2 ∷ []) $ feqI ! (List Val) (vptr (x1 .ptr .0) (x1 .ptr .1) ∷ []) (vptr (x1 .ptr .0) (x1 .ptr .1) ∷ []) refl $ fjoin3 ! $ fjoin ! $ frame ! $ owned ! row-LoadOutcome.the-row (Is row-LoadOutcome.the-row) (LL.makes row-LoadOutcome.the-type law-LoadOutcome.the-plain 𝓤 H A) r _ is $ done !
+  exits : (y1 : List ℕ) (r : LoadOutcome) (u : Val) → Is row-LoadOutcome.the-row r (u ∷ []) → ((k : Cache040) → LoadedIn (shownLoaded (loadOf x5 x6 x7 x8 (memory (now x2) x3 (now x4)) (pairWith (cacheOf (now x1)) k))) (r .answer) (r .count) (y1)) → ent 𝓤 (⋆ 𝓤 H A (‵ (flft κ0 q0) ∷ ‵ (flft κ1 q1) ∷ ‵ (flft κ2 q2) ∷ ‵ ((ShrSlice (named 1) κ1 u32) .own x2 (sliceVal (x2 .ptr) (length (x2 .now)) ∷ [])) ∷ ‵ ((ShrSlice (named 2) κ2 row-Range.the-row) .own x4 (sliceVal (x4 .ptr) (length (x4 .now)) ∷ [])) ∷ ‵ (fobs (x1 .name) ((Array u64 69) .coded .code y1)) ∷ ‵ (fbor κ0 (Behind (mem-of (Array u64 69)) (x1 .ptr .0) (x1 .ptr .1) (x1 .name))) ∷ [])) (Post u)
+  exits y1 r u is e =
+      qed W (‵ (flft κ0 q0) ∷ ‵ (flft κ1 q1) ∷ ‵ (flft κ2 q2) ∷ ‵ ((ShrSlice (named 1) κ1 u32) .own x2 (sliceVal (x2 .ptr) (length (x2 .now)) ∷ [])) ∷ ‵ ((ShrSlice (named 2) κ2 row-Range.the-row) .own x4 (sliceVal (x4 .ptr) (length (x4 .now)) ∷ [])) ∷ ‵ (fobs (x1 .name) ((Array u64 69) .coded .code y1)) ∷ ‵ (fbor κ0 (Behind (mem-of (Array u64 69)) (x1 .ptr .0) (x1 .ptr .1) (x1 .name))) ∷ []) ∵
+      suffices ! _ (ends-at 𝓤 H A self.ended stayed (self.clauses 𝓤 H A mem run) W (((κ0, (κ1, (κ2, tt))), (q0, (q1, (q2, tt))), tt, (x1, (x2, (x3, (x4, (x5, (x6, (x7, (x8, tt)))))))), at-entry), tt) u r (y1, (tt, (tt, (tt, (tt, (tt, (tt, (tt, tt)))))))) (tt, (tt, (tt, (tt, (tt, (tt, (tt, (tt, tt))))))))) $ says ! e $
+      nothing ! $ move ! (3 ∷ 0 ∷ []) $ join ! $ move ! (2 ∷ 0 ∷ []) $ join ! $ move ! (1 ∷ 0 ∷ []) $ join ! $ frame ! $ nothing ! $ owned ! u32 (Is u32) (uint-makes 𝓤 H A W w32) x8 _ i8 $ fjoin ! $ owned ! Boolean (Is Boolean) (bool-makes 𝓤 H A W) x7 _ i7 $ fjoin ! $ owned ! u32 (Is u32) (uint-makes 𝓤 H A W w32) x6 _ i6 $ fjoin ! $ owned ! row-Registers.the-row (Is row-Registers.the-row) (LL.makes row-Registers.the-type law-Registers.the-plain 𝓤 H A) x5 _ i5 $ fjoin ! $ move ! (2 ∷ 0 ∷ []) $ fjoin ! $ owned ! u32 (Is u32) (uint-makes 𝓤 H A W w32) x3 _ i3 $ fjoin ! $ move ! (1 ∷ 0 ∷ []) $ fjoin ! $ move ! (1 ∷ 2 ∷ []) $ feqI ! (List Val) (vptr (x1 .ptr .0) (x1 .ptr .1) ∷ []) (vptr (x1 .ptr .0) (x1 .ptr .1) ∷ []) refl $ fjoin3 ! $ fjoin ! $ frame ! $ owned ! row-LoadOutcome.the-row (Is row-LoadOutcome.the-row) (LL.makes row-LoadOutcome.the-type law-LoadOutcome.the-plain 𝓤 H A) r _ is $ done !
 
   -- the call of `checks.bad_longs`: what it is passed, what it asks, and what is known of its result
   abbrev to-0 : (a0 : RefT (List ℕ)) (v0 : Val) (a1 : ℕ) (v1 : Val) → C0 𝓤 H A mem run .Ghost
-  to-0 a0 v0 a1 v1 = (((κ4, tt), (q4, tt), tt, (a0, (a1, tt)), (v0 ∷ [], (v1 ∷ [], tt))), tt)
+  to-0 a0 v0 a1 v1 = (((κ1, tt), (q1, tt), tt, (a0, (a1, tt)), (v0 ∷ [], (v1 ∷ [], tt))), tt)
 
-  goes-0 : (a0 : RefT (List ℕ)) (v0 : Val) (a1 : ℕ) (v1 : Val) (i1 : Is u32 a1 (v1 ∷ [])) → ent 𝓤 (⋆ 𝓤 H A (‵ (flft κ4 q4) ∷ ‵ ((ShrSlice (named 0) κ4 u32) .own a0 (v0 ∷ [])) ∷ [])) (C0 𝓤 H A mem run .pre (to-0 a0 v0 a1 v1))
+  goes-0 : (a0 : RefT (List ℕ)) (v0 : Val) (a1 : ℕ) (v1 : Val) (i1 : Is u32 a1 (v1 ∷ [])) → ent 𝓤 (⋆ 𝓤 H A (‵ (flft κ1 q1) ∷ ‵ ((ShrSlice (named 0) κ1 u32) .own a0 (v0 ∷ [])) ∷ [])) (C0 𝓤 H A mem run .pre (to-0 a0 v0 a1 v1))
   goes-0 a0 v0 a1 v1 i1 =
-      qed W (‵ (flft κ4 q4) ∷ ‵ ((ShrSlice (named 0) κ4 u32) .own a0 (v0 ∷ [])) ∷ []) ∵ nothing ! $ owned ! u32 (Is u32) (uint-makes 𝓤 H A W w32) a1 _ i1 $ fjoin ! $ move ! (2 ∷ 0 ∷ []) $ fjoin ! $ nothing ! $ move ! (2 ∷ 0 ∷ []) $ join ! $ join ! $ frame ! $ done !
+      qed W (‵ (flft κ1 q1) ∷ ‵ ((ShrSlice (named 0) κ1 u32) .own a0 (v0 ∷ [])) ∷ []) ∵ nothing ! $ owned ! u32 (Is u32) (uint-makes 𝓤 H A W w32) a1 _ i1 $ fjoin ! $ move ! (2 ∷ 0 ∷ []) $ fjoin ! $ nothing ! $ move ! (2 ∷ 0 ∷ []) $ join ! $ join ! $ frame ! $ done !
 
-  said-0 : (a0 : RefT (List ℕ)) (a1 : ℕ) (r : Bool) → ent 𝓤 (ensured 𝓤 H A c0.ended (c0.clauses 𝓤 H A mem run) (κ4, tt) (a0, (a1, tt)) tt r) (fact 𝓤 (r ≡ badBase (memory (now a0) a1 [])))
-  said-0 a0 a1 r = exE 𝓤 _ (λ ws. snd∗ 𝓤 (sem 𝓤 H A (lasts c0.ended (κ4, tt) (a0, (a1, tt)) ws)) (fact 𝓤 (r ≡ badBase (memory (now a0) a1 []))))
+  said-0 : (a0 : RefT (List ℕ)) (a1 : ℕ) (r : Bool) → ent 𝓤 (ensured 𝓤 H A c0.ended (c0.clauses 𝓤 H A mem run) (κ1, tt) (a0, (a1, tt)) tt r) (fact 𝓤 (r ≡ badBase (memory (now a0) a1 [])))
+  said-0 a0 a1 r = exE 𝓤 _ (λ ws. snd∗ 𝓤 (sem 𝓤 H A (lasts c0.ended (κ1, tt) (a0, (a1, tt)) ws)) (fact 𝓤 (r ≡ badBase (memory (now a0) a1 []))))
 
   -- the call of `any_crossed`: what it is passed, what it asks, and what is known of its result
   abbrev to-1 : (a0 : RefT (List Range)) (v0 : Val) → C1 𝓤 H A mem run .Ghost
-  to-1 a0 v0 = (((κ5, tt), (q5, tt), tt, (a0, tt), (v0 ∷ [], tt)), tt)
+  to-1 a0 v0 = (((κ2, tt), (q2, tt), tt, (a0, tt), (v0 ∷ [], tt)), tt)
 
-  goes-1 : (a0 : RefT (List Range)) (v0 : Val) → ent 𝓤 (⋆ 𝓤 H A (‵ (flft κ5 q5) ∷ ‵ ((ShrSlice (named 0) κ5 row-Range.the-row) .own a0 (v0 ∷ [])) ∷ [])) (C1 𝓤 H A mem run .pre (to-1 a0 v0))
+  goes-1 : (a0 : RefT (List Range)) (v0 : Val) → ent 𝓤 (⋆ 𝓤 H A (‵ (flft κ2 q2) ∷ ‵ ((ShrSlice (named 0) κ2 row-Range.the-row) .own a0 (v0 ∷ [])) ∷ [])) (C1 𝓤 H A mem run .pre (to-1 a0 v0))
   goes-1 a0 v0 =
-      qed W (‵ (flft κ5 q5) ∷ ‵ ((ShrSlice (named 0) κ5 row-Range.the-row) .own a0 (v0 ∷ [])) ∷ []) ∵ nothing ! $ move ! (2 ∷ 0 ∷ []) $ fjoin ! $ nothing ! $ move ! (2 ∷ 0 ∷ []) $ join ! $ join ! $ frame ! $ done !
+      qed W (‵ (flft κ2 q2) ∷ ‵ ((ShrSlice (named 0) κ2 row-Range.the-row) .own a0 (v0 ∷ [])) ∷ []) ∵ nothing ! $ move ! (2 ∷ 0 ∷ []) $ fjoin ! $ nothing ! $ move ! (2 ∷ 0 ∷ []) $ join ! $ join ! $ frame ! $ done !
 
-  said-1 : (a0 : RefT (List Range)) (r : Bool) → ent 𝓤 (ensured 𝓤 H A c1.ended (c1.clauses 𝓤 H A mem run) (κ5, tt) (a0, tt) tt r) (fact 𝓤 (r ≡ anyOf crossed (now a0)))
-  said-1 a0 r = exE 𝓤 _ (λ ws. snd∗ 𝓤 (sem 𝓤 H A (lasts c1.ended (κ5, tt) (a0, tt) ws)) (fact 𝓤 (r ≡ anyOf crossed (now a0))))
+  said-1 : (a0 : RefT (List Range)) (r : Bool) → ent 𝓤 (ensured 𝓤 H A c1.ended (c1.clauses 𝓤 H A mem run) (κ2, tt) (a0, tt) tt r) (fact 𝓤 (r ≡ anyOf crossed (now a0)))
+  said-1 a0 r = exE 𝓤 _ (λ ws. snd∗ 𝓤 (sem 𝓤 H A (lasts c1.ended (κ2, tt) (a0, tt) ws)) (fact 𝓤 (r ≡ anyOf crossed (now a0))))
 
   -- the call of `planned_load`: what it is passed, and what it asks
-  abbrev to-2 : (κ6 : Lft) (q6 : Share) (κ7 : Lft) (q7 : Share) (κ8 : Lft) (q8 : Share) (κ9 : Lft) (q9 : Share) (a0 : RefT (List ℕ)) (v0 : Val) (a1 : RefT (List ℕ)) (v1 : Val) (a2 : RefT (List ℕ)) (v2 : Val) (a3 : RefT (List ℕ)) (v3 : Val) (a4 : Bool) (v4 : Val) (a5 : Bool) (v5 : Val) (a6 : Registers) (v6 : Val) (a7 : ℕ) (v7 : Val) (a8 : ℕ) (v8 : Val) → C2 𝓤 H A mem run .Ghost
-  to-2 κ6 q6 κ7 q7 κ8 q8 κ9 q9 a0 v0 a1 v1 a2 v2 a3 v3 a4 v4 a5 v5 a6 v6 a7 v7 a8 v8 = (((κ6, (κ7, (κ8, (κ9, tt)))), (q6, (q7, (q8, (q9, tt)))), tt, (a0, (a1, (a2, (a3, (a4, (a5, (a6, (a7, (a8, tt))))))))), (v0 ∷ [], (v1 ∷ [], (v2 ∷ [], (v3 ∷ [], (v4 ∷ [], (v5 ∷ [], (v6 ∷ [], (v7 ∷ [], (v8 ∷ [], tt)))))))))), tt)
+  abbrev to-2 : (κ3 : Lft) (q3 : Share) (a0 : RefT (List ℕ)) (v0 : Val) (a1 : Bool) (v1 : Val) (a2 : Bool) (v2 : Val) (a3 : Registers) (v3 : Val) (a4 : ℕ) (v4 : Val) (a5 : ℕ) (v5 : Val) → C2 𝓤 H A mem run .Ghost
+  to-2 κ3 q3 a0 v0 a1 v1 a2 v2 a3 v3 a4 v4 a5 v5 = (((κ3, tt), (q3, tt), tt, (a0, (a1, (a2, (a3, (a4, (a5, tt)))))), (v0 ∷ [], (v1 ∷ [], (v2 ∷ [], (v3 ∷ [], (v4 ∷ [], (v5 ∷ [], tt))))))), tt)
 
-  goes-2 : (κ6 : Lft) (q6 : Share) (κ7 : Lft) (q7 : Share) (κ8 : Lft) (q8 : Share) (κ9 : Lft) (q9 : Share) (a0 : RefT (List ℕ)) (v0 : Val) (a1 : RefT (List ℕ)) (v1 : Val) (a2 : RefT (List ℕ)) (v2 : Val) (a3 : RefT (List ℕ)) (v3 : Val) (a4 : Bool) (v4 : Val) (a5 : Bool) (v5 : Val) (a6 : Registers) (v6 : Val) (a7 : ℕ) (v7 : Val) (a8 : ℕ) (v8 : Val) (i4 : Is Boolean a4 (v4 ∷ [])) (i5 : Is Boolean a5 (v5 ∷ [])) (i6 : Is row-Registers.the-row a6 (v6 ∷ [])) (i7 : Is u32 a7 (v7 ∷ [])) (i8 : Is u32 a8 (v8 ∷ [])) → ent 𝓤 (⋆ 𝓤 H A (‵ (flft κ6 q6) ∷ ‵ (flft κ7 q7) ∷ ‵ (flft κ8 q8) ∷ ‵ (flft κ9 q9) ∷ ‵ ((MutRef (named 0) κ6 (Array u64 22)) .own a0 (v0 ∷ [])) ∷ ‵ ((MutRef (named 1) κ7 (Array u64 22)) .own a1 (v1 ∷ [])) ∷ ‵ ((MutRef (named 2) κ8 (Array u64 22)) .own a2 (v2 ∷ [])) ∷ ‵ ((MutRef (named 3) κ9 (Array u64 3)) .own a3 (v3 ∷ [])) ∷ [])) (C2 𝓤 H A mem run .pre (to-2 κ6 q6 κ7 q7 κ8 q8 κ9 q9 a0 v0 a1 v1 a2 v2 a3 v3 a4 v4 a5 v5 a6 v6 a7 v7 a8 v8))
-  goes-2 κ6 q6 κ7 q7 κ8 q8 κ9 q9 a0 v0 a1 v1 a2 v2 a3 v3 a4 v4 a5 v5 a6 v6 a7 v7 a8 v8 i4 i5 i6 i7 i8 =
-      qed W (‵ (flft κ6 q6) ∷ ‵ (flft κ7 q7) ∷ ‵ (flft κ8 q8) ∷ ‵ (flft κ9 q9) ∷ ‵ ((MutRef (named 0) κ6 (Array u64 22)) .own a0 (v0 ∷ [])) ∷ ‵ ((MutRef (named 1) κ7 (Array u64 22)) .own a1 (v1 ∷ [])) ∷ ‵ ((MutRef (named 2) κ8 (Array u64 22)) .own a2 (v2 ∷ [])) ∷ ‵ ((MutRef (named 3) κ9 (Array u64 3)) .own a3 (v3 ∷ [])) ∷ []) ∵ nothing ! $ owned ! u32 (Is u32) (uint-makes 𝓤 H A W w32) a8 _ i8 $ fjoin ! $ owned ! u32 (Is u32) (uint-makes 𝓤 H A W w32) a7 _ i7 $ fjoin ! $ owned ! row-Registers.the-row (Is row-Registers.the-row) (LL.makes row-Registers.the-type law-Registers.the-plain 𝓤 H A) a6 _ i6 $ fjoin ! $ owned ! Boolean (Is Boolean) (bool-makes 𝓤 H A W) a5 _ i5 $ fjoin ! $ owned ! Boolean (Is Boolean) (bool-makes 𝓤 H A W) a4 _ i4 $ fjoin ! $ move ! (8 ∷ 0 ∷ []) $ fjoin ! $ move ! (7 ∷ 0 ∷ []) $ fjoin ! $ move ! (6 ∷ 0 ∷ []) $ fjoin ! $ move ! (5 ∷ 0 ∷ []) $ fjoin ! $ nothing ! $ move ! (5 ∷ 0 ∷ []) $ join ! $ move ! (4 ∷ 0 ∷ []) $ join ! $ move ! (3 ∷ 0 ∷ []) $ join ! $ move ! (2 ∷ 0 ∷ []) $ join ! $ join ! $ frame ! $ done !
+  goes-2 : (κ3 : Lft) (q3 : Share) (a0 : RefT (List ℕ)) (v0 : Val) (a1 : Bool) (v1 : Val) (a2 : Bool) (v2 : Val) (a3 : Registers) (v3 : Val) (a4 : ℕ) (v4 : Val) (a5 : ℕ) (v5 : Val) (i1 : Is Boolean a1 (v1 ∷ [])) (i2 : Is Boolean a2 (v2 ∷ [])) (i3 : Is row-Registers.the-row a3 (v3 ∷ [])) (i4 : Is u32 a4 (v4 ∷ [])) (i5 : Is u32 a5 (v5 ∷ [])) → ent 𝓤 (⋆ 𝓤 H A (‵ (flft κ3 q3) ∷ ‵ ((MutRef (named 0) κ3 (Array u64 69)) .own a0 (v0 ∷ [])) ∷ [])) (C2 𝓤 H A mem run .pre (to-2 κ3 q3 a0 v0 a1 v1 a2 v2 a3 v3 a4 v4 a5 v5))
+  goes-2 κ3 q3 a0 v0 a1 v1 a2 v2 a3 v3 a4 v4 a5 v5 i1 i2 i3 i4 i5 =
+      qed W (‵ (flft κ3 q3) ∷ ‵ ((MutRef (named 0) κ3 (Array u64 69)) .own a0 (v0 ∷ [])) ∷ []) ∵ nothing ! $ owned ! u32 (Is u32) (uint-makes 𝓤 H A W w32) a5 _ i5 $ fjoin ! $ owned ! u32 (Is u32) (uint-makes 𝓤 H A W w32) a4 _ i4 $ fjoin ! $ owned ! row-Registers.the-row (Is row-Registers.the-row) (LL.makes row-Registers.the-type law-Registers.the-plain 𝓤 H A) a3 _ i3 $ fjoin ! $ owned ! Boolean (Is Boolean) (bool-makes 𝓤 H A W) a2 _ i2 $ fjoin ! $ owned ! Boolean (Is Boolean) (bool-makes 𝓤 H A W) a1 _ i1 $ fjoin ! $ move ! (2 ∷ 0 ∷ []) $ fjoin ! $ nothing ! $ move ! (2 ∷ 0 ∷ []) $ join ! $ join ! $ frame ! $ done !
 
   -- the call of `way_of`: what it is passed, what it asks, and what is known of its result
   abbrev to-3 : (a0 : Plan) (v0 : Val) → C3 𝓤 H A mem run .Ghost
@@ -226,22 +226,22 @@ module _ {M : Type 1} (𝓤 : URA M) (H : Heap 𝓤) (A : Atoms 𝓤) (W : Given
 
   -- the call of `walk_030_for`: what it is passed, what it asks, and what is known of its result
   abbrev to-6 : (a0 : RefT (List ℕ)) (v0 : Val) (a1 : ℕ) (v1 : Val) (a2 : RefT (List Range)) (v2 : Val) (a3 : ℕ) (v3 : Val) (a4 : Root) (v4 : Val) (a5 : ℕ) (v5 : Val) (a6 : Way) (v6 : Val) → C6 𝓤 H A mem run .Ghost
-  to-6 a0 v0 a1 v1 a2 v2 a3 v3 a4 v4 a5 v5 a6 v6 = (((κ4, (κ5, tt)), (q4, (q5, tt)), tt, (a0, (a1, (a2, (a3, (a4, (a5, (a6, tt))))))), (v0 ∷ [], (v1 ∷ [], (v2 ∷ [], (v3 ∷ [], (v4 ∷ [], (v5 ∷ [], (v6 ∷ [], tt)))))))), tt)
+  to-6 a0 v0 a1 v1 a2 v2 a3 v3 a4 v4 a5 v5 a6 v6 = (((κ1, (κ2, tt)), (q1, (q2, tt)), tt, (a0, (a1, (a2, (a3, (a4, (a5, (a6, tt))))))), (v0 ∷ [], (v1 ∷ [], (v2 ∷ [], (v3 ∷ [], (v4 ∷ [], (v5 ∷ [], (v6 ∷ [], tt)))))))), tt)
 
-  goes-6 : (a0 : RefT (List ℕ)) (v0 : Val) (a1 : ℕ) (v1 : Val) (a2 : RefT (List Range)) (v2 : Val) (a3 : ℕ) (v3 : Val) (a4 : Root) (v4 : Val) (a5 : ℕ) (v5 : Val) (a6 : Way) (v6 : Val) (i1 : Is u32 a1 (v1 ∷ [])) (i3 : Is u32 a3 (v3 ∷ [])) (i4 : Is row-Root.the-row a4 (v4 ∷ [])) (i5 : Is u32 a5 (v5 ∷ [])) (i6 : Is row-Way.the-row a6 (v6 ∷ [])) → ent 𝓤 (⋆ 𝓤 H A (‵ (flft κ4 q4) ∷ ‵ (flft κ5 q5) ∷ ‵ ((ShrSlice (named 0) κ4 u32) .own a0 (v0 ∷ [])) ∷ ‵ ((ShrSlice (named 1) κ5 row-Range.the-row) .own a2 (v2 ∷ [])) ∷ [])) (C6 𝓤 H A mem run .pre (to-6 a0 v0 a1 v1 a2 v2 a3 v3 a4 v4 a5 v5 a6 v6))
+  goes-6 : (a0 : RefT (List ℕ)) (v0 : Val) (a1 : ℕ) (v1 : Val) (a2 : RefT (List Range)) (v2 : Val) (a3 : ℕ) (v3 : Val) (a4 : Root) (v4 : Val) (a5 : ℕ) (v5 : Val) (a6 : Way) (v6 : Val) (i1 : Is u32 a1 (v1 ∷ [])) (i3 : Is u32 a3 (v3 ∷ [])) (i4 : Is row-Root.the-row a4 (v4 ∷ [])) (i5 : Is u32 a5 (v5 ∷ [])) (i6 : Is row-Way.the-row a6 (v6 ∷ [])) → ent 𝓤 (⋆ 𝓤 H A (‵ (flft κ1 q1) ∷ ‵ (flft κ2 q2) ∷ ‵ ((ShrSlice (named 0) κ1 u32) .own a0 (v0 ∷ [])) ∷ ‵ ((ShrSlice (named 1) κ2 row-Range.the-row) .own a2 (v2 ∷ [])) ∷ [])) (C6 𝓤 H A mem run .pre (to-6 a0 v0 a1 v1 a2 v2 a3 v3 a4 v4 a5 v5 a6 v6))
   goes-6 a0 v0 a1 v1 a2 v2 a3 v3 a4 v4 a5 v5 a6 v6 i1 i3 i4 i5 i6 =
-      qed W (‵ (flft κ4 q4) ∷ ‵ (flft κ5 q5) ∷ ‵ ((ShrSlice (named 0) κ4 u32) .own a0 (v0 ∷ [])) ∷ ‵ ((ShrSlice (named 1) κ5 row-Range.the-row) .own a2 (v2 ∷ [])) ∷ []) ∵ nothing ! $ owned ! row-Way.the-row (Is row-Way.the-row) (EL.makes row-Way.the-type law-Way.the-plain 𝓤 H A) a6 _ i6 $ fjoin ! $ owned ! u32 (Is u32) (uint-makes 𝓤 H A W w32) a5 _ i5 $ fjoin ! $ owned ! row-Root.the-row (Is row-Root.the-row) (LL.makes row-Root.the-type law-Root.the-plain 𝓤 H A) a4 _ i4 $ fjoin ! $ owned ! u32 (Is u32) (uint-makes 𝓤 H A W w32) a3 _ i3 $ fjoin ! $ move ! (4 ∷ 0 ∷ []) $ fjoin ! $ owned ! u32 (Is u32) (uint-makes 𝓤 H A W w32) a1 _ i1 $ fjoin ! $ move ! (3 ∷ 0 ∷ []) $ fjoin ! $ nothing ! $ move ! (3 ∷ 0 ∷ []) $ join ! $ move ! (2 ∷ 0 ∷ []) $ join ! $ join ! $ frame ! $ done !
+      qed W (‵ (flft κ1 q1) ∷ ‵ (flft κ2 q2) ∷ ‵ ((ShrSlice (named 0) κ1 u32) .own a0 (v0 ∷ [])) ∷ ‵ ((ShrSlice (named 1) κ2 row-Range.the-row) .own a2 (v2 ∷ [])) ∷ []) ∵ nothing ! $ owned ! row-Way.the-row (Is row-Way.the-row) (EL.makes row-Way.the-type law-Way.the-plain 𝓤 H A) a6 _ i6 $ fjoin ! $ owned ! u32 (Is u32) (uint-makes 𝓤 H A W w32) a5 _ i5 $ fjoin ! $ owned ! row-Root.the-row (Is row-Root.the-row) (LL.makes row-Root.the-type law-Root.the-plain 𝓤 H A) a4 _ i4 $ fjoin ! $ owned ! u32 (Is u32) (uint-makes 𝓤 H A W w32) a3 _ i3 $ fjoin ! $ move ! (4 ∷ 0 ∷ []) $ fjoin ! $ owned ! u32 (Is u32) (uint-makes 𝓤 H A W w32) a1 _ i1 $ fjoin ! $ move ! (3 ∷ 0 ∷ []) $ fjoin ! $ nothing ! $ move ! (3 ∷ 0 ∷ []) $ join ! $ move ! (2 ∷ 0 ∷ []) $ join ! $ join ! $ frame ! $ done !
 
-  said-6 : (a0 : RefT (List ℕ)) (a1 : ℕ) (a2 : RefT (List Range)) (a3 : ℕ) (a4 : Root) (a5 : ℕ) (a6 : Way) (r : Walks) → ent 𝓤 (ensured 𝓤 H A c6.ended (c6.clauses 𝓤 H A mem run) (κ4, (κ5, tt)) (a0, (a1, (a2, (a3, (a4, (a5, (a6, tt))))))) tt r) (fact 𝓤 (r ≡ walks030 (memory (now a0) a1 (now a2)) a3 a4 a5 a6))
-  said-6 a0 a1 a2 a3 a4 a5 a6 r = exE 𝓤 _ (λ ws. snd∗ 𝓤 (sem 𝓤 H A (lasts c6.ended (κ4, (κ5, tt)) (a0, (a1, (a2, (a3, (a4, (a5, (a6, tt))))))) ws)) (fact 𝓤 (r ≡ walks030 (memory (now a0) a1 (now a2)) a3 a4 a5 a6)))
+  said-6 : (a0 : RefT (List ℕ)) (a1 : ℕ) (a2 : RefT (List Range)) (a3 : ℕ) (a4 : Root) (a5 : ℕ) (a6 : Way) (r : Walks) → ent 𝓤 (ensured 𝓤 H A c6.ended (c6.clauses 𝓤 H A mem run) (κ1, (κ2, tt)) (a0, (a1, (a2, (a3, (a4, (a5, (a6, tt))))))) tt r) (fact 𝓤 (r ≡ walks030 (memory (now a0) a1 (now a2)) a3 a4 a5 a6))
+  said-6 a0 a1 a2 a3 a4 a5 a6 r = exE 𝓤 _ (λ ws. snd∗ 𝓤 (sem 𝓤 H A (lasts c6.ended (κ1, (κ2, tt)) (a0, (a1, (a2, (a3, (a4, (a5, (a6, tt))))))) ws)) (fact 𝓤 (r ≡ walks030 (memory (now a0) a1 (now a2)) a3 a4 a5 a6)))
 
   -- the call of `concluded_load`: what it is passed, and what it asks
-  abbrev to-7 : (κ10 : Lft) (q10 : Share) (κ11 : Lft) (q11 : Share) (κ12 : Lft) (q12 : Share) (κ13 : Lft) (q13 : Share) (a0 : RefT (List ℕ)) (v0 : Val) (a1 : RefT (List ℕ)) (v1 : Val) (a2 : RefT (List ℕ)) (v2 : Val) (a3 : RefT (List ℕ)) (v3 : Val) (a4 : Registers) (v4 : Val) (a5 : ℕ) (v5 : Val) (a6 : Bool) (v6 : Val) (a7 : ℕ) (v7 : Val) (a8 : Plan) (v8 : Val) (a9 : Walks) (v9 : Val) → C7 𝓤 H A mem run .Ghost
-  to-7 κ10 q10 κ11 q11 κ12 q12 κ13 q13 a0 v0 a1 v1 a2 v2 a3 v3 a4 v4 a5 v5 a6 v6 a7 v7 a8 v8 a9 v9 = (((κ10, (κ11, (κ12, (κ13, tt)))), (q10, (q11, (q12, (q13, tt)))), tt, (a0, (a1, (a2, (a3, (a4, (a5, (a6, (a7, (a8, (a9, tt)))))))))), (v0 ∷ [], (v1 ∷ [], (v2 ∷ [], (v3 ∷ [], (v4 ∷ [], (v5 ∷ [], (v6 ∷ [], (v7 ∷ [], (v8 ∷ [], (v9 ∷ [], tt))))))))))), tt)
+  abbrev to-7 : (κ4 : Lft) (q4 : Share) (a0 : RefT (List ℕ)) (v0 : Val) (a1 : Registers) (v1 : Val) (a2 : ℕ) (v2 : Val) (a3 : Bool) (v3 : Val) (a4 : ℕ) (v4 : Val) (a5 : Plan) (v5 : Val) (a6 : Walks) (v6 : Val) → C7 𝓤 H A mem run .Ghost
+  to-7 κ4 q4 a0 v0 a1 v1 a2 v2 a3 v3 a4 v4 a5 v5 a6 v6 = (((κ4, tt), (q4, tt), tt, (a0, (a1, (a2, (a3, (a4, (a5, (a6, tt))))))), (v0 ∷ [], (v1 ∷ [], (v2 ∷ [], (v3 ∷ [], (v4 ∷ [], (v5 ∷ [], (v6 ∷ [], tt)))))))), tt)
 
-  goes-7 : (κ10 : Lft) (q10 : Share) (κ11 : Lft) (q11 : Share) (κ12 : Lft) (q12 : Share) (κ13 : Lft) (q13 : Share) (a0 : RefT (List ℕ)) (v0 : Val) (a1 : RefT (List ℕ)) (v1 : Val) (a2 : RefT (List ℕ)) (v2 : Val) (a3 : RefT (List ℕ)) (v3 : Val) (a4 : Registers) (v4 : Val) (a5 : ℕ) (v5 : Val) (a6 : Bool) (v6 : Val) (a7 : ℕ) (v7 : Val) (a8 : Plan) (v8 : Val) (a9 : Walks) (v9 : Val) (i4 : Is row-Registers.the-row a4 (v4 ∷ [])) (i5 : Is u32 a5 (v5 ∷ [])) (i6 : Is Boolean a6 (v6 ∷ [])) (i7 : Is u32 a7 (v7 ∷ [])) (i8 : Is row-Plan.the-row a8 (v8 ∷ [])) (i9 : Is row-Walks.the-row a9 (v9 ∷ [])) → ent 𝓤 (⋆ 𝓤 H A (‵ (flft κ10 q10) ∷ ‵ (flft κ11 q11) ∷ ‵ (flft κ12 q12) ∷ ‵ (flft κ13 q13) ∷ ‵ ((MutRef (named 0) κ10 (Array u64 22)) .own a0 (v0 ∷ [])) ∷ ‵ ((MutRef (named 1) κ11 (Array u64 22)) .own a1 (v1 ∷ [])) ∷ ‵ ((MutRef (named 2) κ12 (Array u64 22)) .own a2 (v2 ∷ [])) ∷ ‵ ((MutRef (named 3) κ13 (Array u64 3)) .own a3 (v3 ∷ [])) ∷ [])) (C7 𝓤 H A mem run .pre (to-7 κ10 q10 κ11 q11 κ12 q12 κ13 q13 a0 v0 a1 v1 a2 v2 a3 v3 a4 v4 a5 v5 a6 v6 a7 v7 a8 v8 a9 v9))
-  goes-7 κ10 q10 κ11 q11 κ12 q12 κ13 q13 a0 v0 a1 v1 a2 v2 a3 v3 a4 v4 a5 v5 a6 v6 a7 v7 a8 v8 a9 v9 i4 i5 i6 i7 i8 i9 =
-      qed W (‵ (flft κ10 q10) ∷ ‵ (flft κ11 q11) ∷ ‵ (flft κ12 q12) ∷ ‵ (flft κ13 q13) ∷ ‵ ((MutRef (named 0) κ10 (Array u64 22)) .own a0 (v0 ∷ [])) ∷ ‵ ((MutRef (named 1) κ11 (Array u64 22)) .own a1 (v1 ∷ [])) ∷ ‵ ((MutRef (named 2) κ12 (Array u64 22)) .own a2 (v2 ∷ [])) ∷ ‵ ((MutRef (named 3) κ13 (Array u64 3)) .own a3 (v3 ∷ [])) ∷ []) ∵ nothing ! $ owned ! row-Walks.the-row (Is row-Walks.the-row) (EL.makes row-Walks.the-type law-Walks.the-plain 𝓤 H A) a9 _ i9 $ fjoin ! $ owned ! row-Plan.the-row (Is row-Plan.the-row) (EL.makes row-Plan.the-type law-Plan.the-plain 𝓤 H A) a8 _ i8 $ fjoin ! $ owned ! u32 (Is u32) (uint-makes 𝓤 H A W w32) a7 _ i7 $ fjoin ! $ owned ! Boolean (Is Boolean) (bool-makes 𝓤 H A W) a6 _ i6 $ fjoin ! $ owned ! u32 (Is u32) (uint-makes 𝓤 H A W w32) a5 _ i5 $ fjoin ! $ owned ! row-Registers.the-row (Is row-Registers.the-row) (LL.makes row-Registers.the-type law-Registers.the-plain 𝓤 H A) a4 _ i4 $ fjoin ! $ move ! (8 ∷ 0 ∷ []) $ fjoin ! $ move ! (7 ∷ 0 ∷ []) $ fjoin ! $ move ! (6 ∷ 0 ∷ []) $ fjoin ! $ move ! (5 ∷ 0 ∷ []) $ fjoin ! $ nothing ! $ move ! (5 ∷ 0 ∷ []) $ join ! $ move ! (4 ∷ 0 ∷ []) $ join ! $ move ! (3 ∷ 0 ∷ []) $ join ! $ move ! (2 ∷ 0 ∷ []) $ join ! $ join ! $ frame ! $ done !
+  goes-7 : (κ4 : Lft) (q4 : Share) (a0 : RefT (List ℕ)) (v0 : Val) (a1 : Registers) (v1 : Val) (a2 : ℕ) (v2 : Val) (a3 : Bool) (v3 : Val) (a4 : ℕ) (v4 : Val) (a5 : Plan) (v5 : Val) (a6 : Walks) (v6 : Val) (i1 : Is row-Registers.the-row a1 (v1 ∷ [])) (i2 : Is u32 a2 (v2 ∷ [])) (i3 : Is Boolean a3 (v3 ∷ [])) (i4 : Is u32 a4 (v4 ∷ [])) (i5 : Is row-Plan.the-row a5 (v5 ∷ [])) (i6 : Is row-Walks.the-row a6 (v6 ∷ [])) → ent 𝓤 (⋆ 𝓤 H A (‵ (flft κ4 q4) ∷ ‵ ((MutRef (named 0) κ4 (Array u64 69)) .own a0 (v0 ∷ [])) ∷ [])) (C7 𝓤 H A mem run .pre (to-7 κ4 q4 a0 v0 a1 v1 a2 v2 a3 v3 a4 v4 a5 v5 a6 v6))
+  goes-7 κ4 q4 a0 v0 a1 v1 a2 v2 a3 v3 a4 v4 a5 v5 a6 v6 i1 i2 i3 i4 i5 i6 =
+      qed W (‵ (flft κ4 q4) ∷ ‵ ((MutRef (named 0) κ4 (Array u64 69)) .own a0 (v0 ∷ [])) ∷ []) ∵ nothing ! $ owned ! row-Walks.the-row (Is row-Walks.the-row) (EL.makes row-Walks.the-type law-Walks.the-plain 𝓤 H A) a6 _ i6 $ fjoin ! $ owned ! row-Plan.the-row (Is row-Plan.the-row) (EL.makes row-Plan.the-type law-Plan.the-plain 𝓤 H A) a5 _ i5 $ fjoin ! $ owned ! u32 (Is u32) (uint-makes 𝓤 H A W w32) a4 _ i4 $ fjoin ! $ owned ! Boolean (Is Boolean) (bool-makes 𝓤 H A W) a3 _ i3 $ fjoin ! $ owned ! u32 (Is u32) (uint-makes 𝓤 H A W w32) a2 _ i2 $ fjoin ! $ owned ! row-Registers.the-row (Is row-Registers.the-row) (LL.makes row-Registers.the-type law-Registers.the-plain 𝓤 H A) a1 _ i1 $ fjoin ! $ move ! (2 ∷ 0 ∷ []) $ fjoin ! $ nothing ! $ move ! (2 ∷ 0 ∷ []) $ join ! $ join ! $ frame ! $ done !
 
   module _ (𝓣 : Tables 𝓤 H) (known-0 : Triple 𝓤 (𝓣 .C #plan·checks·bad-longs) (C0 𝓤 H A mem run)) (known-1 : Triple 𝓤 (𝓣 .C #tables·any-crossed) (C1 𝓤 H A mem run)) (known-2 : Triple 𝓤 (𝓣 .C #lent·planned-load) (C2 𝓤 H A mem run)) (known-3 : Triple 𝓤 (𝓣 .C #plan·way-of) (C3 𝓤 H A mem run)) (known-4 : Triple 𝓤 (𝓣 .C #tables·tc-of) (C4 𝓤 H A mem run)) (known-5 : Triple 𝓤 (𝓣 .C #tables·root-for) (C5 𝓤 H A mem run)) (known-6 : Triple 𝓤 (𝓣 .C #tables·walk-030-for) (C6 𝓤 H A mem run)) (known-7 : Triple 𝓤 (𝓣 .C #lent·concluded-load) (C7 𝓤 H A mem run)) where
     abbrev C : Calls 𝓤 H
@@ -253,141 +253,99 @@ module _ {M : Type 1} (𝓤 : URA M) (H : Heap 𝓤) (A : Atoms 𝓤) (W : Given
     fm : FmC 𝓤 H (W .laws) (𝓣 .C)
     fm = fmOf 𝓤 H (W .laws) 𝓣
 
-    walk : ent 𝓤 (onEntry 𝓤 H A self.signature (κ0, (κ1, (κ2, (κ3, (κ4, (κ5, tt)))))) (q0, (q1, (q2, (q3, (q4, (q5, tt)))))) (x1, (x2, (x3, (x4, (x5, (x6, (x7, (x8, (x9, (x10, (x11, tt))))))))))) at-entry) (WpFn 𝓤 H (𝓣 .C) (𝓣 .Λ) code.function ((vptr (x1 .ptr .0) (x1 .ptr .1)) ∷ (vptr (x2 .ptr .0) (x2 .ptr .1)) ∷ (vptr (x3 .ptr .0) (x3 .ptr .1)) ∷ (vptr (x4 .ptr .0) (x4 .ptr .1)) ∷ (sliceVal (x5 .ptr) (length (x5 .now))) ∷ (vint w32 x6) ∷ (sliceVal (x7 .ptr) (length (x7 .now))) ∷ (LL.val row-Registers.the-type law-Registers.the-laws x8) ∷ (vint w32 x9) ∷ (vbool x10) ∷ (vint w32 x11) ∷ []) Post)
+    walk : ent 𝓤 (onEntry 𝓤 H A self.signature (κ0, (κ1, (κ2, tt))) (q0, (q1, (q2, tt))) (x1, (x2, (x3, (x4, (x5, (x6, (x7, (x8, tt)))))))) at-entry) (WpFn 𝓤 H (𝓣 .C) (𝓣 .Λ) code.function ((vptr (x1 .ptr .0) (x1 .ptr .1)) ∷ (sliceVal (x2 .ptr) (length (x2 .now))) ∷ (vint w32 x3) ∷ (sliceVal (x4 .ptr) (length (x4 .now))) ∷ (LL.val row-Registers.the-type law-Registers.the-laws x5) ∷ (vint w32 x6) ∷ (vbool x7) ∷ (vint w32 x8) ∷ []) Post)
     walk =
-        qed W ((‵ (flft κ0 q0) ⊛ ‵ (flft κ1 q1) ⊛ ‵ (flft κ2 q2) ⊛ ‵ (flft κ3 q3) ⊛ ‵ (flft κ4 q4) ⊛ ‵ (flft κ5 q5) ⊛ ‵ ftrue) ∷ ‵ (owns ((MutRef (named 0) κ0 (Array u64 22)) ∷ (MutRef (named 1) κ1 (Array u64 22)) ∷ (MutRef (named 2) κ2 (Array u64 22)) ∷ (MutRef (named 3) κ3 (Array u64 3)) ∷ (ShrSlice (named 4) κ4 u32) ∷ u32 ∷ (ShrSlice (named 5) κ5 row-Range.the-row) ∷ row-Registers.the-row ∷ u32 ∷ Boolean ∷ u32 ∷ []) (x1, (x2, (x3, (x4, (x5, (x6, (x7, (x8, (x9, (x10, (x11, tt))))))))))) at-entry) ∷ []) ∵ enter ! (𝓣 .C) (𝓣 .Λ) code.function ((vptr (x1 .ptr .0) (x1 .ptr .1)) ∷ (vptr (x2 .ptr .0) (x2 .ptr .1)) ∷ (vptr (x3 .ptr .0) (x3 .ptr .1)) ∷ (vptr (x4 .ptr .0) (x4 .ptr .1)) ∷ (sliceVal (x5 .ptr) (length (x5 .now))) ∷ (vint w32 x6) ∷ (sliceVal (x7 .ptr) (length (x7 .now))) ∷ (LL.val row-Registers.the-type law-Registers.the-laws x8) ∷ (vint w32 x9) ∷ (vbool x10) ∷ (vint w32 x11) ∷ []) _ $
-        alloc1 ! (λ l0. alloc1 ! (λ l1. alloc1 ! (λ l2. alloc1 ! (λ l3. alloc1 ! (λ l4. alloc1 ! (λ l5. alloc1 ! (λ l6. alloc1 ! (λ l7. alloc1 ! (λ l8. alloc1 ! (λ l9. alloc1 ! (λ l10. alloc1 ! (λ l11. alloc1 ! (λ l12. alloc1 ! (λ l13. alloc1 ! (λ l14. alloc1 ! (λ l15. alloc1 ! (λ l16. alloc1 ! (λ l17. alloc1 ! (λ l18. alloc1 ! (λ l19. alloc1 ! (λ l20. alloc1 ! (λ l21. alloc1 ! (λ l22. alloc1 ! (λ l23. alloc1 ! (λ l24. alloc1 ! (λ l25. alloc1 ! (λ l26. alloc0 ! $ params1 ! $
-        pass1 ! (init ! 50 refl (tt, tt)) $ pass1 ! (init ! 48 refl (tt, tt)) $ pass1 ! (init ! 46 refl (tt, tt)) $ pass1 ! (init ! 44 refl (tt, tt)) $ pass1 ! (init ! 42 refl (shr-slice-lawful 𝓤 H A W (named 4) κ4 u32 .typed x5 _ i5 .0)) $ pass1 ! (init ! 40 refl (uint-lawful 𝓤 H A W w32 .typed x6 _ i6 .0)) $ pass1 ! (init ! 38 refl (shr-slice-lawful 𝓤 H A W (named 5) κ5 row-Range.the-row .typed x7 _ i7 .0)) $ pass1 ! (init ! 36 refl (LL.lawful row-Registers.the-type law-Registers.the-laws 𝓤 H A W .typed x8 _ i8 .0)) $ pass1 ! (init ! 34 refl (uint-lawful 𝓤 H A W w32 .typed x9 _ i9 .0)) $ pass1 ! (init ! 32 refl (bool-lawful 𝓤 H A W .typed x10 _ i10 .0)) $ pass1 ! (init ! 30 refl (uint-lawful 𝓤 H A W w32 .typed x11 _ i11 .0)) $ pass0 ! $
-        move ! (55 ∷ []) $ fsplit ! $ fsplit3 ! $ drop ! $ move ! (2 ∷ []) $ fsplit ! $ fsplit3 ! $ drop ! $ move ! (2 ∷ []) $ fsplit ! $ fsplit3 ! $ drop ! $ move ! (2 ∷ []) $
-        fsplit ! $ fsplit3 ! $ drop ! $ move ! (2 ∷ []) $ fsplit ! $ move ! (1 ∷ []) $ fsplit ! $ drop ! $ fsplit ! $ move ! (1 ∷ []) $ fsplit ! $ drop ! $ fsplit ! $ drop ! $
-        fsplit ! $ drop ! $ fsplit ! $ drop ! $ drop ! $ move ! (64 ∷ []) $ split ! $ move ! (1 ∷ []) $ split ! $ move ! (1 ∷ []) $ split ! $ move ! (1 ∷ []) $ split ! $
-        move ! (1 ∷ []) $ split ! $ move ! (1 ∷ []) $ split ! $ move ! (1 ∷ []) $ drop ! $ move ! (7 ∷ []) $
-        use1 W (‵ ((ShrSlice (named 4) κ4 u32) .own x5 (sliceVal (x5 .ptr) (length (x5 .now)) ∷ [])) ⊛ ‵ ((ShrSlice (named 4) κ4 u32) .own x5 (sliceVal (x5 .ptr) (length (x5 .now)) ∷ []))) (shr-slice-copy 𝓤 H A W (named 4) κ4 u32 .twice x5 _) $
+        qed W ((‵ (flft κ0 q0) ⊛ ‵ (flft κ1 q1) ⊛ ‵ (flft κ2 q2) ⊛ ‵ ftrue) ∷ ‵ (owns ((MutRef (named 0) κ0 (Array u64 69)) ∷ (ShrSlice (named 1) κ1 u32) ∷ u32 ∷ (ShrSlice (named 2) κ2 row-Range.the-row) ∷ row-Registers.the-row ∷ u32 ∷ Boolean ∷ u32 ∷ []) (x1, (x2, (x3, (x4, (x5, (x6, (x7, (x8, tt)))))))) at-entry) ∷ []) ∵ enter ! (𝓣 .C) (𝓣 .Λ) code.function ((vptr (x1 .ptr .0) (x1 .ptr .1)) ∷ (sliceVal (x2 .ptr) (length (x2 .now))) ∷ (vint w32 x3) ∷ (sliceVal (x4 .ptr) (length (x4 .now))) ∷ (LL.val row-Registers.the-type law-Registers.the-laws x5) ∷ (vint w32 x6) ∷ (vbool x7) ∷ (vint w32 x8) ∷ []) _ $
+        alloc1 ! (λ l0. alloc1 ! (λ l1. alloc1 ! (λ l2. alloc1 ! (λ l3. alloc1 ! (λ l4. alloc1 ! (λ l5. alloc1 ! (λ l6. alloc1 ! (λ l7. alloc1 ! (λ l8. alloc1 ! (λ l9. alloc1 ! (λ l10. alloc1 ! (λ l11. alloc1 ! (λ l12. alloc1 ! (λ l13. alloc1 ! (λ l14. alloc1 ! (λ l15. alloc1 ! (λ l16. alloc1 ! (λ l17. alloc0 ! $ params1 ! $
+        pass1 ! (init ! 32 refl (tt, tt)) $ pass1 ! (init ! 30 refl (shr-slice-lawful 𝓤 H A W (named 1) κ1 u32 .typed x2 _ i2 .0)) $ pass1 ! (init ! 28 refl (uint-lawful 𝓤 H A W w32 .typed x3 _ i3 .0)) $ pass1 ! (init ! 26 refl (shr-slice-lawful 𝓤 H A W (named 2) κ2 row-Range.the-row .typed x4 _ i4 .0)) $ pass1 ! (init ! 24 refl (LL.lawful row-Registers.the-type law-Registers.the-laws 𝓤 H A W .typed x5 _ i5 .0)) $ pass1 ! (init ! 22 refl (uint-lawful 𝓤 H A W w32 .typed x6 _ i6 .0)) $ pass1 ! (init ! 20 refl (bool-lawful 𝓤 H A W .typed x7 _ i7 .0)) $ pass1 ! (init ! 18 refl (uint-lawful 𝓤 H A W w32 .typed x8 _ i8 .0)) $ pass0 ! $
+        move ! (37 ∷ []) $ fsplit ! $ fsplit3 ! $ drop ! $ move ! (2 ∷ []) $ fsplit ! $ move ! (1 ∷ []) $ fsplit ! $ drop ! $ fsplit ! $ move ! (1 ∷ []) $ fsplit ! $ drop ! $
+        fsplit ! $ drop ! $ fsplit ! $ drop ! $ fsplit ! $ drop ! $ drop ! $ move ! (40 ∷ []) $ split ! $ move ! (1 ∷ []) $ split ! $ move ! (1 ∷ []) $ split ! $ move ! (1 ∷ []) $
+        drop ! $ move ! (4 ∷ []) $
+        use1 W (‵ ((ShrSlice (named 1) κ1 u32) .own x2 (sliceVal (x2 .ptr) (length (x2 .now)) ∷ [])) ⊛ ‵ ((ShrSlice (named 1) κ1 u32) .own x2 (sliceVal (x2 .ptr) (length (x2 .now)) ∷ []))) (shr-slice-copy 𝓤 H A W (named 1) κ1 u32 .twice x2 _) $
         split ! $ move ! (3 ∷ 0 ∷ []) $ group ! 2 $
-        use1 W (raw (C0 𝓤 H A mem run .pre (to-0 x5 (sliceVal (x5 .ptr) (length (x5 .now))) x6 (vint w32 x6)))) (goes-0 x5 (sliceVal (x5 .ptr) (length (x5 .now))) x6 (vint w32 x6) i6) $
-        calls-at ! fm (C0 𝓤 H A mem run) known-0 (to-0 x5 (sliceVal (x5 .ptr) (length (x5 .now))) x6 (vint w32 x6)) (and-then ! (load ! (from ! (stop !)) (look ! 58 refl)) (and-then ! (load ! (from ! (stop !)) (look ! 56 refl)) (no-more !))) (λ u1.
-        use1 W (later (some (λ (r : Bool). ((‵ (flft κ4 q4) ⊛ ‵ ftrue) ⊛ ‵ (Boolean .own r (u1 ∷ []))) ⊛ raw (ensured 𝓤 H A c0.ended (c0.clauses 𝓤 H A mem run) (κ4, tt) (x5, (x6, tt)) tt r)))) (id⊢ 𝓤 _) $ await ! tt $ choose ! (λ r2. split ! $ move ! (1 ∷ []) $ use1 W (raw (fact 𝓤 (r2 ≡ badBase (memory (now x5) x6 [])))) (said-0 x5 x6 r2) $ heard ! (r2 ≡ badBase (memory (now x5) x6 [])) (λ e3. split ! $
+        use1 W (raw (C0 𝓤 H A mem run .pre (to-0 x2 (sliceVal (x2 .ptr) (length (x2 .now))) x3 (vint w32 x3)))) (goes-0 x2 (sliceVal (x2 .ptr) (length (x2 .now))) x3 (vint w32 x3) i3) $
+        calls-at ! fm (C0 𝓤 H A mem run) known-0 (to-0 x2 (sliceVal (x2 .ptr) (length (x2 .now))) x3 (vint w32 x3)) (and-then ! (load ! (from ! (stop !)) (look ! 37 refl)) (and-then ! (load ! (from ! (stop !)) (look ! 35 refl)) (no-more !))) (λ u1.
+        use1 W (later (some (λ (r : Bool). ((‵ (flft κ1 q1) ⊛ ‵ ftrue) ⊛ ‵ (Boolean .own r (u1 ∷ []))) ⊛ raw (ensured 𝓤 H A c0.ended (c0.clauses 𝓤 H A mem run) (κ1, tt) (x2, (x3, tt)) tt r)))) (id⊢ 𝓤 _) $ await ! tt $ choose ! (λ r2. split ! $ move ! (1 ∷ []) $ use1 W (raw (fact 𝓤 (r2 ≡ badBase (memory (now x2) x3 [])))) (said-0 x2 x3 r2) $ heard ! (r2 ≡ badBase (memory (now x2) x3 [])) (λ e3. split ! $
         split ! $ move ! (1 ∷ []) $ drop ! $ move ! (1 ∷ []) $
-        facts ! Boolean (Is Boolean) (shows 𝓤 H A Boolean) r2 (u1 ∷ []) (λ is4. land ! (from ! (stop !)) (init ! 44 refl (bool-lawful 𝓤 H A W .typed r2 _ is4 .0)) $
-        rewrite ! 44 (λ (u : Val). ‵ (fat fullShare tyBool l12 0 u)) (ap only (bool-tells r2 _ is4)) refl $ move ! (7 ∷ []) $
-        use1 W (‵ ((ShrSlice (named 5) κ5 row-Range.the-row) .own x7 (sliceVal (x7 .ptr) (length (x7 .now)) ∷ [])) ⊛ ‵ ((ShrSlice (named 5) κ5 row-Range.the-row) .own x7 (sliceVal (x7 .ptr) (length (x7 .now)) ∷ []))) (shr-slice-copy 𝓤 H A W (named 5) κ5 row-Range.the-row .twice x7 _) $
+        facts ! Boolean (Is Boolean) (shows 𝓤 H A Boolean) r2 (u1 ∷ []) (λ is4. land ! (from ! (stop !)) (init ! 23 refl (bool-lawful 𝓤 H A W .typed r2 _ is4 .0)) $
+        rewrite ! 23 (λ (u : Val). ‵ (fat fullShare tyBool l9 0 u)) (ap only (bool-tells r2 _ is4)) refl $ move ! (4 ∷ []) $
+        use1 W (‵ ((ShrSlice (named 2) κ2 row-Range.the-row) .own x4 (sliceVal (x4 .ptr) (length (x4 .now)) ∷ [])) ⊛ ‵ ((ShrSlice (named 2) κ2 row-Range.the-row) .own x4 (sliceVal (x4 .ptr) (length (x4 .now)) ∷ []))) (shr-slice-copy 𝓤 H A W (named 2) κ2 row-Range.the-row .twice x4 _) $
         split ! $ move ! (4 ∷ 0 ∷ []) $ group ! 2 $
-        use1 W (raw (C1 𝓤 H A mem run .pre (to-1 x7 (sliceVal (x7 .ptr) (length (x7 .now)))))) (goes-1 x7 (sliceVal (x7 .ptr) (length (x7 .now)))) $
-        calls-at ! fm (C1 𝓤 H A mem run) known-1 (to-1 x7 (sliceVal (x7 .ptr) (length (x7 .now)))) (and-then ! (load ! (from ! (stop !)) (look ! 54 refl)) (no-more !)) (λ u5.
-        use1 W (later (some (λ (r : Bool). ((‵ (flft κ5 q5) ⊛ ‵ ftrue) ⊛ ‵ (Boolean .own r (u5 ∷ []))) ⊛ raw (ensured 𝓤 H A c1.ended (c1.clauses 𝓤 H A mem run) (κ5, tt) (x7, tt) tt r)))) (id⊢ 𝓤 _) $ await ! tt $ choose ! (λ r6. split ! $ move ! (1 ∷ []) $ use1 W (raw (fact 𝓤 (r6 ≡ anyOf crossed (now x7)))) (said-1 x7 r6) $ heard ! (r6 ≡ anyOf crossed (now x7)) (λ e7. split ! $
+        use1 W (raw (C1 𝓤 H A mem run .pre (to-1 x4 (sliceVal (x4 .ptr) (length (x4 .now)))))) (goes-1 x4 (sliceVal (x4 .ptr) (length (x4 .now)))) $
+        calls-at ! fm (C1 𝓤 H A mem run) known-1 (to-1 x4 (sliceVal (x4 .ptr) (length (x4 .now)))) (and-then ! (load ! (from ! (stop !)) (look ! 33 refl)) (no-more !)) (λ u5.
+        use1 W (later (some (λ (r : Bool). ((‵ (flft κ2 q2) ⊛ ‵ ftrue) ⊛ ‵ (Boolean .own r (u5 ∷ []))) ⊛ raw (ensured 𝓤 H A c1.ended (c1.clauses 𝓤 H A mem run) (κ2, tt) (x4, tt) tt r)))) (id⊢ 𝓤 _) $ await ! tt $ choose ! (λ r6. split ! $ move ! (1 ∷ []) $ use1 W (raw (fact 𝓤 (r6 ≡ anyOf crossed (now x4)))) (said-1 x4 r6) $ heard ! (r6 ≡ anyOf crossed (now x4)) (λ e7. split ! $
         split ! $ move ! (1 ∷ []) $ drop ! $ move ! (1 ∷ []) $
-        facts ! Boolean (Is Boolean) (shows 𝓤 H A Boolean) r6 (u5 ∷ []) (λ is8. land ! (from ! (stop !)) (init ! 42 refl (bool-lawful 𝓤 H A W .typed r6 _ is8 .0)) $
-        rewrite ! 42 (λ (u : Val). ‵ (fat fullShare tyBool l13 0 u)) (ap only (bool-tells r6 _ is8)) refl $
-        assigns ! (addr ! (from ! (hop ! (look ! 66 refl) (stop !)))) (from ! (stop !)) (init ! 30 refl (tt, tt)) $
-        assigns ! (addr ! (from ! (hop ! (look ! 64 refl) (stop !)))) (from ! (stop !)) (init ! 28 refl (tt, tt)) $
-        assigns ! (addr ! (from ! (hop ! (look ! 62 refl) (stop !)))) (from ! (stop !)) (init ! 26 refl (tt, tt)) $
-        assigns ! (addr ! (from ! (hop ! (look ! 60 refl) (stop !)))) (from ! (stop !)) (init ! 24 refl (tt, tt)) $ lft-new ! tt (λ α6. move ! (15 ∷ 16 ∷ []) $
-        feqI ! (List Val) (vptr (x1 .ptr .0) (x1 .ptr .1) ∷ []) (vptr (x1 .ptr .0) (x1 .ptr .1) ∷ []) refl $ fjoin3 ! $ move ! (0 ∷ 9 ∷ []) $
-        use2 W (later (some (λ (δ9 : GName). ‵ ((MutRef (named 0) (α6 ∷ []) (Array u64 22)) .own (record { ptr = (x1 .ptr .0, x1 .ptr .1); name = δ9; now = (x1 .now) }) (vptr (x1 .ptr .0) (x1 .ptr .1) ∷ [])) ⊛ ‵ (LentAgain (Array u64 22) κ0 (α6 ∷ []) q0 (x1 .name) (x1 .ptr .0) (x1 .ptr .1) δ9 (x1 .now))))) (lends-again 𝓤 H A W (Array u64 22) (named 0) κ0 (α6 ∷ []) q0 (x1 .name) (x1 .ptr .0) (x1 .ptr .1) (named 0) (x1 .now)) $ await ! tt $ choose ! (λ δ9. split ! $
-        lft-new ! tt (λ α7. move ! (15 ∷ 16 ∷ []) $ feqI ! (List Val) (vptr (x2 .ptr .0) (x2 .ptr .1) ∷ []) (vptr (x2 .ptr .0) (x2 .ptr .1) ∷ []) refl $ fjoin3 ! $
-        move ! (0 ∷ 11 ∷ []) $
-        use2 W (later (some (λ (δ10 : GName). ‵ ((MutRef (named 1) (α7 ∷ []) (Array u64 22)) .own (record { ptr = (x2 .ptr .0, x2 .ptr .1); name = δ10; now = (x2 .now) }) (vptr (x2 .ptr .0) (x2 .ptr .1) ∷ [])) ⊛ ‵ (LentAgain (Array u64 22) κ1 (α7 ∷ []) q1 (x2 .name) (x2 .ptr .0) (x2 .ptr .1) δ10 (x2 .now))))) (lends-again 𝓤 H A W (Array u64 22) (named 1) κ1 (α7 ∷ []) q1 (x2 .name) (x2 .ptr .0) (x2 .ptr .1) (named 1) (x2 .now)) $ await ! tt $ choose ! (λ δ10. split ! $
-        lft-new ! tt (λ α8. move ! (15 ∷ 16 ∷ []) $ feqI ! (List Val) (vptr (x3 .ptr .0) (x3 .ptr .1) ∷ []) (vptr (x3 .ptr .0) (x3 .ptr .1) ∷ []) refl $ fjoin3 ! $
-        move ! (0 ∷ 13 ∷ []) $
-        use2 W (later (some (λ (δ11 : GName). ‵ ((MutRef (named 2) (α8 ∷ []) (Array u64 22)) .own (record { ptr = (x3 .ptr .0, x3 .ptr .1); name = δ11; now = (x3 .now) }) (vptr (x3 .ptr .0) (x3 .ptr .1) ∷ [])) ⊛ ‵ (LentAgain (Array u64 22) κ2 (α8 ∷ []) q2 (x3 .name) (x3 .ptr .0) (x3 .ptr .1) δ11 (x3 .now))))) (lends-again 𝓤 H A W (Array u64 22) (named 2) κ2 (α8 ∷ []) q2 (x3 .name) (x3 .ptr .0) (x3 .ptr .1) (named 2) (x3 .now)) $ await ! tt $ choose ! (λ δ11. split ! $
-        lft-new ! tt (λ α9. move ! (15 ∷ 16 ∷ []) $ feqI ! (List Val) (vptr (x4 .ptr .0) (x4 .ptr .1) ∷ []) (vptr (x4 .ptr .0) (x4 .ptr .1) ∷ []) refl $ fjoin3 ! $
-        move ! (0 ∷ 15 ∷ []) $
-        use2 W (later (some (λ (δ12 : GName). ‵ ((MutRef (named 3) (α9 ∷ []) (Array u64 3)) .own (record { ptr = (x4 .ptr .0, x4 .ptr .1); name = δ12; now = (x4 .now) }) (vptr (x4 .ptr .0) (x4 .ptr .1) ∷ [])) ⊛ ‵ (LentAgain (Array u64 3) κ3 (α9 ∷ []) q3 (x4 .name) (x4 .ptr .0) (x4 .ptr .1) δ12 (x4 .now))))) (lends-again 𝓤 H A W (Array u64 3) (named 3) κ3 (α9 ∷ []) q3 (x4 .name) (x4 .ptr .0) (x4 .ptr .1) (named 3) (x4 .now)) $ await ! tt $ choose ! (λ δ12. split ! $
-        move ! (11 ∷ 8 ∷ 5 ∷ 2 ∷ 9 ∷ 6 ∷ 3 ∷ 0 ∷ []) $ group ! 8 $
-        use1 W (raw (C2 𝓤 H A mem run .pre (to-2 (α6 ∷ []) fullShare (α7 ∷ []) fullShare (α8 ∷ []) fullShare (α9 ∷ []) fullShare (record { ptr = (x1 .ptr .0, x1 .ptr .1); name = δ9; now = (x1 .now) }) (vptr (x1 .ptr .0) (x1 .ptr .1)) (record { ptr = (x2 .ptr .0, x2 .ptr .1); name = δ10; now = (x2 .now) }) (vptr (x2 .ptr .0) (x2 .ptr .1)) (record { ptr = (x3 .ptr .0, x3 .ptr .1); name = δ11; now = (x3 .now) }) (vptr (x3 .ptr .0) (x3 .ptr .1)) (record { ptr = (x4 .ptr .0, x4 .ptr .1); name = δ12; now = (x4 .now) }) (vptr (x4 .ptr .0) (x4 .ptr .1)) r2 (vbool r2) r6 (vbool r6) x8 (LL.val row-Registers.the-type law-Registers.the-laws x8) x9 (vint w32 x9) x11 (vint w32 x11)))) (goes-2 (α6 ∷ []) fullShare (α7 ∷ []) fullShare (α8 ∷ []) fullShare (α9 ∷ []) fullShare (record { ptr = (x1 .ptr .0, x1 .ptr .1); name = δ9; now = (x1 .now) }) (vptr (x1 .ptr .0) (x1 .ptr .1)) (record { ptr = (x2 .ptr .0, x2 .ptr .1); name = δ10; now = (x2 .now) }) (vptr (x2 .ptr .0) (x2 .ptr .1)) (record { ptr = (x3 .ptr .0, x3 .ptr .1); name = δ11; now = (x3 .now) }) (vptr (x3 .ptr .0) (x3 .ptr .1)) (record { ptr = (x4 .ptr .0, x4 .ptr .1); name = δ12; now = (x4 .now) }) (vptr (x4 .ptr .0) (x4 .ptr .1)) r2 (vbool r2) r6 (vbool r6) x8 (LL.val row-Registers.the-type law-Registers.the-laws x8) x9 (vint w32 x9) x11 (vint w32 x11) (subst (Is Boolean r2) (bool-tells r2 _ is4) is4) (subst (Is Boolean r6) (bool-tells r6 _ is8) is8) i8 i9 i11) $
-        calls-at ! fm (C2 𝓤 H A mem run) known-2 (to-2 (α6 ∷ []) fullShare (α7 ∷ []) fullShare (α8 ∷ []) fullShare (α9 ∷ []) fullShare (record { ptr = (x1 .ptr .0, x1 .ptr .1); name = δ9; now = (x1 .now) }) (vptr (x1 .ptr .0) (x1 .ptr .1)) (record { ptr = (x2 .ptr .0, x2 .ptr .1); name = δ10; now = (x2 .now) }) (vptr (x2 .ptr .0) (x2 .ptr .1)) (record { ptr = (x3 .ptr .0, x3 .ptr .1); name = δ11; now = (x3 .now) }) (vptr (x3 .ptr .0) (x3 .ptr .1)) (record { ptr = (x4 .ptr .0, x4 .ptr .1); name = δ12; now = (x4 .now) }) (vptr (x4 .ptr .0) (x4 .ptr .1)) r2 (vbool r2) r6 (vbool r6) x8 (LL.val row-Registers.the-type law-Registers.the-laws x8) x9 (vint w32 x9) x11 (vint w32 x11)) (and-then ! (load ! (from ! (stop !)) (look ! 23 refl)) (and-then ! (load ! (from ! (stop !)) (look ! 21 refl)) (and-then ! (load ! (from ! (stop !)) (look ! 19 refl)) (and-then ! (load ! (from ! (stop !)) (look ! 17 refl)) (and-then ! (load ! (from ! (stop !)) (look ! 37 refl)) (and-then ! (load ! (from ! (stop !)) (look ! 35 refl)) (and-then ! (load ! (from ! (stop !)) (look ! 45 refl)) (and-then ! (load ! (from ! (stop !)) (look ! 43 refl)) (and-then ! (load ! (from ! (stop !)) (look ! 39 refl)) (no-more !)))))))))) (λ u13.
-        use1 W (later (some (λ (r : Plan). ((‵ (flft (α6 ∷ []) fullShare) ⊛ ‵ (flft (α7 ∷ []) fullShare) ⊛ ‵ (flft (α8 ∷ []) fullShare) ⊛ ‵ (flft (α9 ∷ []) fullShare) ⊛ ‵ ftrue) ⊛ ‵ (row-Plan.the-row .own r (u13 ∷ []))) ⊛ raw (ensured 𝓤 H A c2.ended (c2.clauses 𝓤 H A mem run) ((α6 ∷ []), ((α7 ∷ []), ((α8 ∷ []), ((α9 ∷ []), tt)))) ((record { ptr = (x1 .ptr .0, x1 .ptr .1); name = δ9; now = (x1 .now) }), ((record { ptr = (x2 .ptr .0, x2 .ptr .1); name = δ10; now = (x2 .now) }), ((record { ptr = (x3 .ptr .0, x3 .ptr .1); name = δ11; now = (x3 .now) }), ((record { ptr = (x4 .ptr .0, x4 .ptr .1); name = δ12; now = (x4 .now) }), (r2, (r6, (x8, (x9, (x11, tt))))))))) tt r)))) (id⊢ 𝓤 _) $ await ! tt $ choose ! (λ r14. split ! $ move ! (1 ∷ []) $ use1 W (some (λ (ws : Lasts c2.ended ((α6 ∷ []), ((α7 ∷ []), ((α8 ∷ []), ((α9 ∷ []), tt)))) ((record { ptr = (x1 .ptr .0, x1 .ptr .1); name = δ9; now = (x1 .now) }), ((record { ptr = (x2 .ptr .0, x2 .ptr .1); name = δ10; now = (x2 .now) }), ((record { ptr = (x3 .ptr .0, x3 .ptr .1); name = δ11; now = (x3 .now) }), ((record { ptr = (x4 .ptr .0, x4 .ptr .1); name = δ12; now = (x4 .now) }), (r2, (r6, (x8, (x9, (x11, tt)))))))))). ‵ (lasts c2.ended ((α6 ∷ []), ((α7 ∷ []), ((α8 ∷ []), ((α9 ∷ []), tt)))) ((record { ptr = (x1 .ptr .0, x1 .ptr .1); name = δ9; now = (x1 .now) }), ((record { ptr = (x2 .ptr .0, x2 .ptr .1); name = δ10; now = (x2 .now) }), ((record { ptr = (x3 .ptr .0, x3 .ptr .1); name = δ11; now = (x3 .now) }), ((record { ptr = (x4 .ptr .0, x4 .ptr .1); name = δ12; now = (x4 .now) }), (r2, (r6, (x8, (x9, (x11, tt))))))))) ws) ⊛ raw (fact 𝓤 (PlannedIn030 (planLoad x8 x9 x11 r2 r6 (cacheOf (now (record { ptr = (x1 .ptr .0, x1 .ptr .1); name = δ9; now = (x1 .now) })) (now (record { ptr = (x2 .ptr .0, x2 .ptr .1); name = δ10; now = (x2 .now) })) (now (record { ptr = (x3 .ptr .0, x3 .ptr .1); name = δ11; now = (x3 .now) })) (now (record { ptr = (x4 .ptr .0, x4 .ptr .1); name = δ12; now = (x4 .now) })))) r14 ((ws .0)) ((ws .1 .0)) ((ws .1 .1 .0)) ((ws .1 .1 .1 .0)))))) (id⊢ 𝓤 _) $ choose ! (λ ws17. split ! $ move ! (1 ∷ []) $ heard ! (PlannedIn030 (planLoad x8 x9 x11 r2 r6 (cacheOf (now (record { ptr = (x1 .ptr .0, x1 .ptr .1); name = δ9; now = (x1 .now) })) (now (record { ptr = (x2 .ptr .0, x2 .ptr .1); name = δ10; now = (x2 .now) })) (now (record { ptr = (x3 .ptr .0, x3 .ptr .1); name = δ11; now = (x3 .now) })) (now (record { ptr = (x4 .ptr .0, x4 .ptr .1); name = δ12; now = (x4 .now) })))) r14 ((ws17 .0)) ((ws17 .1 .0)) ((ws17 .1 .1 .0)) ((ws17 .1 .1 .1 .0))) (λ e15.
-        fsplit ! $ move ! (1 ∷ []) $ fsplit ! $ move ! (1 ∷ []) $ fsplit ! $ move ! (1 ∷ []) $ fsplit ! $ move ! (1 ∷ []) $ fsplit ! $ drop ! $ fsplit ! $ drop ! $ fsplit ! $
-        drop ! $ fsplit ! $ drop ! $ fsplit ! $ drop ! $ drop ! $ move ! (4 ∷ []) $ split ! $ split ! $ move ! (1 ∷ []) $ split ! $ move ! (1 ∷ []) $ split ! $ move ! (1 ∷ []) $
-        split ! $ move ! (1 ∷ []) $ drop ! $ move ! (4 ∷ []) $
-        facts ! row-Plan.the-row (Is row-Plan.the-row) (shows 𝓤 H A row-Plan.the-row) r14 (u13 ∷ []) (λ is16. land ! (from ! (stop !)) (init ! 40 refl (EL.lawful row-Plan.the-type law-Plan.the-laws 𝓤 H A W tt .typed r14 _ is16 .0)) $
-        rewrite ! 40 (λ (u : Val). ‵ (fat fullShare law-Plan.mir l14 0 u)) (ap only (EL.tells row-Plan.the-type law-Plan.the-laws r14 _ is16)) refl $ move ! (3 ∷ []) $ lft-end ! tt $
-        move ! (0 ∷ 11 ∷ 7 ∷ []) $
-        use3 W (later (‵ ((MutRef (named 0) κ0 (Array u64 22)) .own (record { ptr = (x1 .ptr .0, x1 .ptr .1); name = x1 .name; now = (ws17 .0) }) (vptr (x1 .ptr .0) (x1 .ptr .1) ∷ [])) ⊛ ‵ (flft κ0 q0))) (comes-back 𝓤 H A W (Array u64 22) (named 0) κ0 (α6 ∷ []) q0 (x1 .name) (x1 .ptr .0) (x1 .ptr .1) δ9 (x1 .now) (ws17 .0)) $ await ! tt $ split ! $ fsplit3 ! $ drop ! $
-        move ! (5 ∷ []) $ lft-end ! tt $ move ! (0 ∷ 11 ∷ 8 ∷ []) $
-        use3 W (later (‵ ((MutRef (named 1) κ1 (Array u64 22)) .own (record { ptr = (x2 .ptr .0, x2 .ptr .1); name = x2 .name; now = (ws17 .1 .0) }) (vptr (x2 .ptr .0) (x2 .ptr .1) ∷ [])) ⊛ ‵ (flft κ1 q1))) (comes-back 𝓤 H A W (Array u64 22) (named 1) κ1 (α7 ∷ []) q1 (x2 .name) (x2 .ptr .0) (x2 .ptr .1) δ10 (x2 .now) (ws17 .1 .0)) $ await ! tt $ split ! $ fsplit3 ! $ drop ! $
-        move ! (7 ∷ []) $ lft-end ! tt $ move ! (0 ∷ 11 ∷ 9 ∷ []) $
-        use3 W (later (‵ ((MutRef (named 2) κ2 (Array u64 22)) .own (record { ptr = (x3 .ptr .0, x3 .ptr .1); name = x3 .name; now = (ws17 .1 .1 .0) }) (vptr (x3 .ptr .0) (x3 .ptr .1) ∷ [])) ⊛ ‵ (flft κ2 q2))) (comes-back 𝓤 H A W (Array u64 22) (named 2) κ2 (α8 ∷ []) q2 (x3 .name) (x3 .ptr .0) (x3 .ptr .1) δ11 (x3 .now) (ws17 .1 .1 .0)) $ await ! tt $ split ! $ fsplit3 ! $ drop ! $
-        move ! (9 ∷ []) $ lft-end ! tt $ move ! (0 ∷ 11 ∷ 10 ∷ []) $
-        use3 W (later (‵ ((MutRef (named 3) κ3 (Array u64 3)) .own (record { ptr = (x4 .ptr .0, x4 .ptr .1); name = x4 .name; now = (ws17 .1 .1 .1 .0) }) (vptr (x4 .ptr .0) (x4 .ptr .1) ∷ [])) ⊛ ‵ (flft κ3 q3))) (comes-back 𝓤 H A W (Array u64 3) (named 3) κ3 (α9 ∷ []) q3 (x4 .name) (x4 .ptr .0) (x4 .ptr .1) δ12 (x4 .now) (ws17 .1 .1 .1 .0)) $ await ! tt $ split ! $ fsplit3 ! $ drop ! $
-        use0 W (raw (C3 𝓤 H A mem run .pre (to-3 r14 (EL.val row-Plan.the-type law-Plan.the-laws r14)))) (goes-3 r14 (EL.val row-Plan.the-type law-Plan.the-laws r14) (subst (Is row-Plan.the-row r14) (EL.tells row-Plan.the-type law-Plan.the-laws r14 _ is16) is16)) $
-        calls-at ! fm (C3 𝓤 H A mem run) known-3 (to-3 r14 (EL.val row-Plan.the-type law-Plan.the-laws r14)) (and-then ! (load ! (from ! (stop !)) (look ! 41 refl)) (no-more !)) (λ u18.
-        use1 W (later (some (λ (r : Way). (‵ ftrue ⊛ ‵ (row-Way.the-row .own r (u18 ∷ []))) ⊛ raw (ensured 𝓤 H A c3.ended (c3.clauses 𝓤 H A mem run) tt (r14, tt) tt r)))) (id⊢ 𝓤 _) $ await ! tt $ choose ! (λ r19. split ! $ move ! (1 ∷ []) $ use1 W (raw (fact 𝓤 (r19 ≡ wayOf r14))) (said-3 r14 r19) $ heard ! (r19 ≡ wayOf r14) (λ e20. split ! $
+        facts ! Boolean (Is Boolean) (shows 𝓤 H A Boolean) r6 (u5 ∷ []) (λ is8. land ! (from ! (stop !)) (init ! 21 refl (bool-lawful 𝓤 H A W .typed r6 _ is8 .0)) $
+        rewrite ! 21 (λ (u : Val). ‵ (fat fullShare tyBool l10 0 u)) (ap only (bool-tells r6 _ is8)) refl $
+        assigns ! (addr ! (from ! (hop ! (look ! 39 refl) (stop !)))) (from ! (stop !)) (init ! 9 refl (tt, tt)) $ lft-new ! tt (λ α3. move ! (6 ∷ 7 ∷ []) $
+        feqI ! (List Val) (vptr (x1 .ptr .0) (x1 .ptr .1) ∷ []) (vptr (x1 .ptr .0) (x1 .ptr .1) ∷ []) refl $ fjoin3 ! $ move ! (0 ∷ 6 ∷ []) $
+        use2 W (later (some (λ (δ9 : GName). ‵ ((MutRef (named 0) (α3 ∷ []) (Array u64 69)) .own (record { ptr = (x1 .ptr .0, x1 .ptr .1); name = δ9; now = (x1 .now) }) (vptr (x1 .ptr .0) (x1 .ptr .1) ∷ [])) ⊛ ‵ (LentAgain (Array u64 69) κ0 (α3 ∷ []) q0 (x1 .name) (x1 .ptr .0) (x1 .ptr .1) δ9 (x1 .now))))) (lends-again 𝓤 H A W (Array u64 69) (named 0) κ0 (α3 ∷ []) q0 (x1 .name) (x1 .ptr .0) (x1 .ptr .1) (named 0) (x1 .now)) $ await ! tt $ choose ! (λ δ9. split ! $
+        move ! (2 ∷ 0 ∷ []) $ group ! 2 $
+        use1 W (raw (C2 𝓤 H A mem run .pre (to-2 (α3 ∷ []) fullShare (record { ptr = (x1 .ptr .0, x1 .ptr .1); name = δ9; now = (x1 .now) }) (vptr (x1 .ptr .0) (x1 .ptr .1)) r2 (vbool r2) r6 (vbool r6) x5 (LL.val row-Registers.the-type law-Registers.the-laws x5) x6 (vint w32 x6) x8 (vint w32 x8)))) (goes-2 (α3 ∷ []) fullShare (record { ptr = (x1 .ptr .0, x1 .ptr .1); name = δ9; now = (x1 .now) }) (vptr (x1 .ptr .0) (x1 .ptr .1)) r2 (vbool r2) r6 (vbool r6) x5 (LL.val row-Registers.the-type law-Registers.the-laws x5) x6 (vint w32 x6) x8 (vint w32 x8) (subst (Is Boolean r2) (bool-tells r2 _ is4) is4) (subst (Is Boolean r6) (bool-tells r6 _ is8) is8) i5 i6 i8) $
+        calls-at ! fm (C2 𝓤 H A mem run) known-2 (to-2 (α3 ∷ []) fullShare (record { ptr = (x1 .ptr .0, x1 .ptr .1); name = δ9; now = (x1 .now) }) (vptr (x1 .ptr .0) (x1 .ptr .1)) r2 (vbool r2) r6 (vbool r6) x5 (LL.val row-Registers.the-type law-Registers.the-laws x5) x6 (vint w32 x6) x8 (vint w32 x8)) (and-then ! (load ! (from ! (stop !)) (look ! 8 refl)) (and-then ! (load ! (from ! (stop !)) (look ! 22 refl)) (and-then ! (load ! (from ! (stop !)) (look ! 20 refl)) (and-then ! (load ! (from ! (stop !)) (look ! 30 refl)) (and-then ! (load ! (from ! (stop !)) (look ! 28 refl)) (and-then ! (load ! (from ! (stop !)) (look ! 24 refl)) (no-more !))))))) (λ u10.
+        use1 W (later (some (λ (r : Plan). ((‵ (flft (α3 ∷ []) fullShare) ⊛ ‵ ftrue) ⊛ ‵ (row-Plan.the-row .own r (u10 ∷ []))) ⊛ raw (ensured 𝓤 H A c2.ended (c2.clauses 𝓤 H A mem run) ((α3 ∷ []), tt) ((record { ptr = (x1 .ptr .0, x1 .ptr .1); name = δ9; now = (x1 .now) }), (r2, (r6, (x5, (x6, (x8, tt)))))) tt r)))) (id⊢ 𝓤 _) $ await ! tt $ choose ! (λ r11. split ! $ move ! (1 ∷ []) $ use1 W (some (λ (ws : Lasts c2.ended ((α3 ∷ []), tt) ((record { ptr = (x1 .ptr .0, x1 .ptr .1); name = δ9; now = (x1 .now) }), (r2, (r6, (x5, (x6, (x8, tt))))))). ‵ (lasts c2.ended ((α3 ∷ []), tt) ((record { ptr = (x1 .ptr .0, x1 .ptr .1); name = δ9; now = (x1 .now) }), (r2, (r6, (x5, (x6, (x8, tt)))))) ws) ⊛ raw (fact 𝓤 (PlannedIn030 (planLoad x5 x6 x8 r2 r6 (cacheOf (now (record { ptr = (x1 .ptr .0, x1 .ptr .1); name = δ9; now = (x1 .now) })))) r11 ((ws .0)))))) (id⊢ 𝓤 _) $ choose ! (λ ws14. split ! $ move ! (1 ∷ []) $ heard ! (PlannedIn030 (planLoad x5 x6 x8 r2 r6 (cacheOf (now (record { ptr = (x1 .ptr .0, x1 .ptr .1); name = δ9; now = (x1 .now) })))) r11 ((ws14 .0))) (λ e12.
+        fsplit ! $ move ! (1 ∷ []) $ fsplit ! $ drop ! $ fsplit ! $ drop ! $ fsplit ! $ drop ! $ fsplit ! $ drop ! $ fsplit ! $ drop ! $ drop ! $ move ! (1 ∷ []) $ split ! $
+        split ! $ move ! (1 ∷ []) $ drop ! $ move ! (1 ∷ []) $
+        facts ! row-Plan.the-row (Is row-Plan.the-row) (shows 𝓤 H A row-Plan.the-row) r11 (u10 ∷ []) (λ is13. land ! (from ! (stop !)) (init ! 19 refl (EL.lawful row-Plan.the-type law-Plan.the-laws 𝓤 H A W tt .typed r11 _ is13 .0)) $
+        rewrite ! 19 (λ (u : Val). ‵ (fat fullShare law-Plan.mir l11 0 u)) (ap only (EL.tells row-Plan.the-type law-Plan.the-laws r11 _ is13)) refl $ lft-end ! tt $
+        move ! (0 ∷ 2 ∷ 1 ∷ []) $
+        use3 W (later (‵ ((MutRef (named 0) κ0 (Array u64 69)) .own (record { ptr = (x1 .ptr .0, x1 .ptr .1); name = x1 .name; now = (ws14 .0) }) (vptr (x1 .ptr .0) (x1 .ptr .1) ∷ [])) ⊛ ‵ (flft κ0 q0))) (comes-back 𝓤 H A W (Array u64 69) (named 0) κ0 (α3 ∷ []) q0 (x1 .name) (x1 .ptr .0) (x1 .ptr .1) δ9 (x1 .now) (ws14 .0)) $ await ! tt $ split ! $ fsplit3 ! $ drop ! $
+        use0 W (raw (C3 𝓤 H A mem run .pre (to-3 r11 (EL.val row-Plan.the-type law-Plan.the-laws r11)))) (goes-3 r11 (EL.val row-Plan.the-type law-Plan.the-laws r11) (subst (Is row-Plan.the-row r11) (EL.tells row-Plan.the-type law-Plan.the-laws r11 _ is13) is13)) $
+        calls-at ! fm (C3 𝓤 H A mem run) known-3 (to-3 r11 (EL.val row-Plan.the-type law-Plan.the-laws r11)) (and-then ! (load ! (from ! (stop !)) (look ! 20 refl)) (no-more !)) (λ u15.
+        use1 W (later (some (λ (r : Way). (‵ ftrue ⊛ ‵ (row-Way.the-row .own r (u15 ∷ []))) ⊛ raw (ensured 𝓤 H A c3.ended (c3.clauses 𝓤 H A mem run) tt (r11, tt) tt r)))) (id⊢ 𝓤 _) $ await ! tt $ choose ! (λ r16. split ! $ move ! (1 ∷ []) $ use1 W (raw (fact 𝓤 (r16 ≡ wayOf r11))) (said-3 r11 r16) $ heard ! (r16 ≡ wayOf r11) (λ e17. split ! $
         drop ! $
-        facts ! row-Way.the-row (Is row-Way.the-row) (shows 𝓤 H A row-Way.the-row) r19 (u18 ∷ []) (λ is21. land ! (from ! (stop !)) (init ! 38 refl (EL.lawful row-Way.the-type law-Way.the-laws 𝓤 H A W tt .typed r19 _ is21 .0)) $
-        rewrite ! 38 (λ (u : Val). ‵ (fat fullShare law-Way.mir l15 0 u)) (ap only (EL.tells row-Way.the-type law-Way.the-laws r19 _ is21)) refl $
-        use0 W (raw (C4 𝓤 H A mem run .pre (to-4 x8 (LL.val row-Registers.the-type law-Registers.the-laws x8)))) (goes-4 x8 (LL.val row-Registers.the-type law-Registers.the-laws x8) i8) $
-        calls-at ! fm (C4 𝓤 H A mem run) known-4 (to-4 x8 (LL.val row-Registers.the-type law-Registers.the-laws x8)) (and-then ! (load ! (from ! (stop !)) (look ! 53 refl)) (no-more !)) (λ u22.
-        use1 W (later (some (λ (r : ℕ). (‵ ftrue ⊛ ‵ (u32 .own r (u22 ∷ []))) ⊛ raw (ensured 𝓤 H A c4.ended (c4.clauses 𝓤 H A mem run) tt (x8, tt) tt r)))) (id⊢ 𝓤 _) $ await ! tt $ choose ! (λ r23. split ! $ move ! (1 ∷ []) $ use1 W (raw (fact 𝓤 (r23 ≡ x8 .tc))) (said-4 x8 r23) $ heard ! (r23 ≡ x8 .tc) (λ e24. split ! $
-        drop ! $ facts ! u32 (Is u32) (shows 𝓤 H A u32) r23 (u22 ∷ []) (λ is25. land ! (from ! (stop !)) (init ! 36 refl (uint-lawful 𝓤 H A W w32 .typed r23 _ is25 .0)) $
-        rewrite ! 36 (λ (u : Val). ‵ (fat fullShare (tyInt w32) l16 0 u)) (ap only (uint-tells w32 r23 _ is25)) refl $
-        use0 W (raw (C5 𝓤 H A mem run .pre (to-5 x8 (LL.val row-Registers.the-type law-Registers.the-laws x8) r19 (EL.val row-Way.the-type law-Way.the-laws r19)))) (goes-5 x8 (LL.val row-Registers.the-type law-Registers.the-laws x8) r19 (EL.val row-Way.the-type law-Way.the-laws r19) i8 (subst (Is row-Way.the-row r19) (EL.tells row-Way.the-type law-Way.the-laws r19 _ is21) is21)) $
-        calls-at ! fm (C5 𝓤 H A mem run) known-5 (to-5 x8 (LL.val row-Registers.the-type law-Registers.the-laws x8) r19 (EL.val row-Way.the-type law-Way.the-laws r19)) (and-then ! (load ! (from ! (stop !)) (look ! 53 refl)) (and-then ! (load ! (from ! (stop !)) (look ! 39 refl)) (no-more !))) (λ u26.
-        use1 W (later (some (λ (r : Root). (‵ ftrue ⊛ ‵ (row-Root.the-row .own r (u26 ∷ []))) ⊛ raw (ensured 𝓤 H A c5.ended (c5.clauses 𝓤 H A mem run) tt (x8, (r19, tt)) tt r)))) (id⊢ 𝓤 _) $ await ! tt $ choose ! (λ r27. split ! $ move ! (1 ∷ []) $ use1 W (raw (fact 𝓤 (r27 ≡ rootBy x8 r19))) (said-5 x8 r19 r27) $ heard ! (r27 ≡ rootBy x8 r19) (λ e28. split ! $
+        facts ! row-Way.the-row (Is row-Way.the-row) (shows 𝓤 H A row-Way.the-row) r16 (u15 ∷ []) (λ is18. land ! (from ! (stop !)) (init ! 17 refl (EL.lawful row-Way.the-type law-Way.the-laws 𝓤 H A W tt .typed r16 _ is18 .0)) $
+        rewrite ! 17 (λ (u : Val). ‵ (fat fullShare law-Way.mir l12 0 u)) (ap only (EL.tells row-Way.the-type law-Way.the-laws r16 _ is18)) refl $
+        use0 W (raw (C4 𝓤 H A mem run .pre (to-4 x5 (LL.val row-Registers.the-type law-Registers.the-laws x5)))) (goes-4 x5 (LL.val row-Registers.the-type law-Registers.the-laws x5) i5) $
+        calls-at ! fm (C4 𝓤 H A mem run) known-4 (to-4 x5 (LL.val row-Registers.the-type law-Registers.the-laws x5)) (and-then ! (load ! (from ! (stop !)) (look ! 32 refl)) (no-more !)) (λ u19.
+        use1 W (later (some (λ (r : ℕ). (‵ ftrue ⊛ ‵ (u32 .own r (u19 ∷ []))) ⊛ raw (ensured 𝓤 H A c4.ended (c4.clauses 𝓤 H A mem run) tt (x5, tt) tt r)))) (id⊢ 𝓤 _) $ await ! tt $ choose ! (λ r20. split ! $ move ! (1 ∷ []) $ use1 W (raw (fact 𝓤 (r20 ≡ x5 .tc))) (said-4 x5 r20) $ heard ! (r20 ≡ x5 .tc) (λ e21. split ! $
+        drop ! $ facts ! u32 (Is u32) (shows 𝓤 H A u32) r20 (u19 ∷ []) (λ is22. land ! (from ! (stop !)) (init ! 15 refl (uint-lawful 𝓤 H A W w32 .typed r20 _ is22 .0)) $
+        rewrite ! 15 (λ (u : Val). ‵ (fat fullShare (tyInt w32) l13 0 u)) (ap only (uint-tells w32 r20 _ is22)) refl $
+        use0 W (raw (C5 𝓤 H A mem run .pre (to-5 x5 (LL.val row-Registers.the-type law-Registers.the-laws x5) r16 (EL.val row-Way.the-type law-Way.the-laws r16)))) (goes-5 x5 (LL.val row-Registers.the-type law-Registers.the-laws x5) r16 (EL.val row-Way.the-type law-Way.the-laws r16) i5 (subst (Is row-Way.the-row r16) (EL.tells row-Way.the-type law-Way.the-laws r16 _ is18) is18)) $
+        calls-at ! fm (C5 𝓤 H A mem run) known-5 (to-5 x5 (LL.val row-Registers.the-type law-Registers.the-laws x5) r16 (EL.val row-Way.the-type law-Way.the-laws r16)) (and-then ! (load ! (from ! (stop !)) (look ! 32 refl)) (and-then ! (load ! (from ! (stop !)) (look ! 18 refl)) (no-more !))) (λ u23.
+        use1 W (later (some (λ (r : Root). (‵ ftrue ⊛ ‵ (row-Root.the-row .own r (u23 ∷ []))) ⊛ raw (ensured 𝓤 H A c5.ended (c5.clauses 𝓤 H A mem run) tt (x5, (r16, tt)) tt r)))) (id⊢ 𝓤 _) $ await ! tt $ choose ! (λ r24. split ! $ move ! (1 ∷ []) $ use1 W (raw (fact 𝓤 (r24 ≡ rootBy x5 r16))) (said-5 x5 r16 r24) $ heard ! (r24 ≡ rootBy x5 r16) (λ e25. split ! $
         drop ! $
-        facts ! row-Root.the-row (Is row-Root.the-row) (shows 𝓤 H A row-Root.the-row) r27 (u26 ∷ []) (λ is29. land ! (from ! (stop !)) (init ! 34 refl (LL.lawful row-Root.the-type law-Root.the-laws 𝓤 H A W .typed r27 _ is29 .0)) $
-        rewrite ! 34 (λ (u : Val). ‵ (fat fullShare law-Root.mir l17 0 u)) (ap only (LL.tells row-Root.the-type law-Root.the-laws r27 _ is29)) refl $ move ! (15 ∷ []) $
-        use1 W (‵ ((ShrSlice (named 4) κ4 u32) .own x5 (sliceVal (x5 .ptr) (length (x5 .now)) ∷ [])) ⊛ ‵ ((ShrSlice (named 4) κ4 u32) .own x5 (sliceVal (x5 .ptr) (length (x5 .now)) ∷ []))) (shr-slice-copy 𝓤 H A W (named 4) κ4 u32 .twice x5 _) $
-        split ! $ move ! (15 ∷ []) $
-        use1 W (‵ ((ShrSlice (named 5) κ5 row-Range.the-row) .own x7 (sliceVal (x7 .ptr) (length (x7 .now)) ∷ [])) ⊛ ‵ ((ShrSlice (named 5) κ5 row-Range.the-row) .own x7 (sliceVal (x7 .ptr) (length (x7 .now)) ∷ []))) (shr-slice-copy 𝓤 H A W (named 5) κ5 row-Range.the-row .twice x7 _) $
-        split ! $ move ! (17 ∷ 16 ∷ 2 ∷ 0 ∷ []) $ group ! 4 $
-        use1 W (raw (C6 𝓤 H A mem run .pre (to-6 x5 (sliceVal (x5 .ptr) (length (x5 .now))) x6 (vint w32 x6) x7 (sliceVal (x7 .ptr) (length (x7 .now))) r23 (vint w32 r23) r27 (LL.val row-Root.the-type law-Root.the-laws r27) x11 (vint w32 x11) r19 (EL.val row-Way.the-type law-Way.the-laws r19)))) (goes-6 x5 (sliceVal (x5 .ptr) (length (x5 .now))) x6 (vint w32 x6) x7 (sliceVal (x7 .ptr) (length (x7 .now))) r23 (vint w32 r23) r27 (LL.val row-Root.the-type law-Root.the-laws r27) x11 (vint w32 x11) r19 (EL.val row-Way.the-type law-Way.the-laws r19) i6 (subst (Is u32 r23) (uint-tells w32 r23 _ is25) is25) (subst (Is row-Root.the-row r27) (LL.tells row-Root.the-type law-Root.the-laws r27 _ is29) is29) i11 (subst (Is row-Way.the-row r19) (EL.tells row-Way.the-type law-Way.the-laws r19 _ is21) is21)) $
-        calls-at ! fm (C6 𝓤 H A mem run) known-6 (to-6 x5 (sliceVal (x5 .ptr) (length (x5 .now))) x6 (vint w32 x6) x7 (sliceVal (x7 .ptr) (length (x7 .now))) r23 (vint w32 r23) r27 (LL.val row-Root.the-type law-Root.the-laws r27) x11 (vint w32 x11) r19 (EL.val row-Way.the-type law-Way.the-laws r19)) (and-then ! (load ! (from ! (stop !)) (look ! 57 refl)) (and-then ! (load ! (from ! (stop !)) (look ! 55 refl)) (and-then ! (load ! (from ! (stop !)) (look ! 53 refl)) (and-then ! (load ! (from ! (stop !)) (look ! 35 refl)) (and-then ! (load ! (from ! (stop !)) (look ! 33 refl)) (and-then ! (load ! (from ! (stop !)) (look ! 45 refl)) (and-then ! (load ! (from ! (stop !)) (look ! 37 refl)) (no-more !)))))))) (λ u30.
-        use1 W (later (some (λ (r : Walks). ((‵ (flft κ4 q4) ⊛ ‵ (flft κ5 q5) ⊛ ‵ ftrue) ⊛ ‵ (row-Walks.the-row .own r (u30 ∷ []))) ⊛ raw (ensured 𝓤 H A c6.ended (c6.clauses 𝓤 H A mem run) (κ4, (κ5, tt)) (x5, (x6, (x7, (r23, (r27, (x11, (r19, tt))))))) tt r)))) (id⊢ 𝓤 _) $ await ! tt $ choose ! (λ r31. split ! $ move ! (1 ∷ []) $ use1 W (raw (fact 𝓤 (r31 ≡ walks030 (memory (now x5) x6 (now x7)) r23 r27 x11 r19))) (said-6 x5 x6 x7 r23 r27 x11 r19 r31) $ heard ! (r31 ≡ walks030 (memory (now x5) x6 (now x7)) r23 r27 x11 r19) (λ e32. split ! $
+        facts ! row-Root.the-row (Is row-Root.the-row) (shows 𝓤 H A row-Root.the-row) r24 (u23 ∷ []) (λ is26. land ! (from ! (stop !)) (init ! 13 refl (LL.lawful row-Root.the-type law-Root.the-laws 𝓤 H A W .typed r24 _ is26 .0)) $
+        rewrite ! 13 (λ (u : Val). ‵ (fat fullShare law-Root.mir l14 0 u)) (ap only (LL.tells row-Root.the-type law-Root.the-laws r24 _ is26)) refl $ move ! (6 ∷ []) $
+        use1 W (‵ ((ShrSlice (named 1) κ1 u32) .own x2 (sliceVal (x2 .ptr) (length (x2 .now)) ∷ [])) ⊛ ‵ ((ShrSlice (named 1) κ1 u32) .own x2 (sliceVal (x2 .ptr) (length (x2 .now)) ∷ []))) (shr-slice-copy 𝓤 H A W (named 1) κ1 u32 .twice x2 _) $
+        split ! $ move ! (6 ∷ []) $
+        use1 W (‵ ((ShrSlice (named 2) κ2 row-Range.the-row) .own x4 (sliceVal (x4 .ptr) (length (x4 .now)) ∷ [])) ⊛ ‵ ((ShrSlice (named 2) κ2 row-Range.the-row) .own x4 (sliceVal (x4 .ptr) (length (x4 .now)) ∷ []))) (shr-slice-copy 𝓤 H A W (named 2) κ2 row-Range.the-row .twice x4 _) $
+        split ! $ move ! (8 ∷ 7 ∷ 2 ∷ 0 ∷ []) $ group ! 4 $
+        use1 W (raw (C6 𝓤 H A mem run .pre (to-6 x2 (sliceVal (x2 .ptr) (length (x2 .now))) x3 (vint w32 x3) x4 (sliceVal (x4 .ptr) (length (x4 .now))) r20 (vint w32 r20) r24 (LL.val row-Root.the-type law-Root.the-laws r24) x8 (vint w32 x8) r16 (EL.val row-Way.the-type law-Way.the-laws r16)))) (goes-6 x2 (sliceVal (x2 .ptr) (length (x2 .now))) x3 (vint w32 x3) x4 (sliceVal (x4 .ptr) (length (x4 .now))) r20 (vint w32 r20) r24 (LL.val row-Root.the-type law-Root.the-laws r24) x8 (vint w32 x8) r16 (EL.val row-Way.the-type law-Way.the-laws r16) i3 (subst (Is u32 r20) (uint-tells w32 r20 _ is22) is22) (subst (Is row-Root.the-row r24) (LL.tells row-Root.the-type law-Root.the-laws r24 _ is26) is26) i8 (subst (Is row-Way.the-row r16) (EL.tells row-Way.the-type law-Way.the-laws r16 _ is18) is18)) $
+        calls-at ! fm (C6 𝓤 H A mem run) known-6 (to-6 x2 (sliceVal (x2 .ptr) (length (x2 .now))) x3 (vint w32 x3) x4 (sliceVal (x4 .ptr) (length (x4 .now))) r20 (vint w32 r20) r24 (LL.val row-Root.the-type law-Root.the-laws r24) x8 (vint w32 x8) r16 (EL.val row-Way.the-type law-Way.the-laws r16)) (and-then ! (load ! (from ! (stop !)) (look ! 36 refl)) (and-then ! (load ! (from ! (stop !)) (look ! 34 refl)) (and-then ! (load ! (from ! (stop !)) (look ! 32 refl)) (and-then ! (load ! (from ! (stop !)) (look ! 14 refl)) (and-then ! (load ! (from ! (stop !)) (look ! 12 refl)) (and-then ! (load ! (from ! (stop !)) (look ! 24 refl)) (and-then ! (load ! (from ! (stop !)) (look ! 16 refl)) (no-more !)))))))) (λ u27.
+        use1 W (later (some (λ (r : Walks). ((‵ (flft κ1 q1) ⊛ ‵ (flft κ2 q2) ⊛ ‵ ftrue) ⊛ ‵ (row-Walks.the-row .own r (u27 ∷ []))) ⊛ raw (ensured 𝓤 H A c6.ended (c6.clauses 𝓤 H A mem run) (κ1, (κ2, tt)) (x2, (x3, (x4, (r20, (r24, (x8, (r16, tt))))))) tt r)))) (id⊢ 𝓤 _) $ await ! tt $ choose ! (λ r28. split ! $ move ! (1 ∷ []) $ use1 W (raw (fact 𝓤 (r28 ≡ walks030 (memory (now x2) x3 (now x4)) r20 r24 x8 r16))) (said-6 x2 x3 x4 r20 r24 x8 r16 r28) $ heard ! (r28 ≡ walks030 (memory (now x2) x3 (now x4)) r20 r24 x8 r16) (λ e29. split ! $
         split ! $ move ! (1 ∷ []) $ split ! $ move ! (1 ∷ []) $ drop ! $ move ! (2 ∷ []) $
-        facts ! row-Walks.the-row (Is row-Walks.the-row) (shows 𝓤 H A row-Walks.the-row) r31 (u30 ∷ []) (λ is33. land ! (from ! (stop !)) (init ! 32 refl (EL.lawful row-Walks.the-type law-Walks.the-laws 𝓤 H A W tt .typed r31 _ is33 .0)) $
-        rewrite ! 32 (λ (u : Val). ‵ (fat fullShare law-Walks.mir l18 0 u)) (ap only (EL.tells row-Walks.the-type law-Walks.the-laws r31 _ is33)) refl $
-        assigns ! (addr ! (from ! (hop ! (look ! 66 refl) (stop !)))) (from ! (stop !)) (init ! 22 refl (tt, tt)) $
-        assigns ! (addr ! (from ! (hop ! (look ! 64 refl) (stop !)))) (from ! (stop !)) (init ! 20 refl (tt, tt)) $
-        assigns ! (addr ! (from ! (hop ! (look ! 62 refl) (stop !)))) (from ! (stop !)) (init ! 18 refl (tt, tt)) $
-        assigns ! (addr ! (from ! (hop ! (look ! 60 refl) (stop !)))) (from ! (stop !)) (init ! 16 refl (tt, tt)) $ lft-new ! tt (λ α10. move ! (14 ∷ 15 ∷ []) $
-        feqI ! (List Val) (vptr (x1 .ptr .0) (x1 .ptr .1) ∷ []) (vptr (x1 .ptr .0) (x1 .ptr .1) ∷ []) refl $ fjoin3 ! $ move ! (0 ∷ 15 ∷ []) $
-        use2 W (later (some (λ (δ34 : GName). ‵ ((MutRef (named 0) (α10 ∷ []) (Array u64 22)) .own (record { ptr = (x1 .ptr .0, x1 .ptr .1); name = δ34; now = (ws17 .0) }) (vptr (x1 .ptr .0) (x1 .ptr .1) ∷ [])) ⊛ ‵ (LentAgain (Array u64 22) κ0 (α10 ∷ []) q0 (x1 .name) (x1 .ptr .0) (x1 .ptr .1) δ34 (ws17 .0))))) (lends-again 𝓤 H A W (Array u64 22) (named 0) κ0 (α10 ∷ []) q0 (x1 .name) (x1 .ptr .0) (x1 .ptr .1) (named 0) (ws17 .0)) $ await ! tt $ choose ! (λ δ34. split ! $
-        lft-new ! tt (λ α11. move ! (14 ∷ 15 ∷ []) $ feqI ! (List Val) (vptr (x2 .ptr .0) (x2 .ptr .1) ∷ []) (vptr (x2 .ptr .0) (x2 .ptr .1) ∷ []) refl $ fjoin3 ! $
-        move ! (0 ∷ 15 ∷ []) $
-        use2 W (later (some (λ (δ35 : GName). ‵ ((MutRef (named 1) (α11 ∷ []) (Array u64 22)) .own (record { ptr = (x2 .ptr .0, x2 .ptr .1); name = δ35; now = (ws17 .1 .0) }) (vptr (x2 .ptr .0) (x2 .ptr .1) ∷ [])) ⊛ ‵ (LentAgain (Array u64 22) κ1 (α11 ∷ []) q1 (x2 .name) (x2 .ptr .0) (x2 .ptr .1) δ35 (ws17 .1 .0))))) (lends-again 𝓤 H A W (Array u64 22) (named 1) κ1 (α11 ∷ []) q1 (x2 .name) (x2 .ptr .0) (x2 .ptr .1) (named 1) (ws17 .1 .0)) $ await ! tt $ choose ! (λ δ35. split ! $
-        lft-new ! tt (λ α12. move ! (14 ∷ 15 ∷ []) $ feqI ! (List Val) (vptr (x3 .ptr .0) (x3 .ptr .1) ∷ []) (vptr (x3 .ptr .0) (x3 .ptr .1) ∷ []) refl $ fjoin3 ! $
-        move ! (0 ∷ 15 ∷ []) $
-        use2 W (later (some (λ (δ36 : GName). ‵ ((MutRef (named 2) (α12 ∷ []) (Array u64 22)) .own (record { ptr = (x3 .ptr .0, x3 .ptr .1); name = δ36; now = (ws17 .1 .1 .0) }) (vptr (x3 .ptr .0) (x3 .ptr .1) ∷ [])) ⊛ ‵ (LentAgain (Array u64 22) κ2 (α12 ∷ []) q2 (x3 .name) (x3 .ptr .0) (x3 .ptr .1) δ36 (ws17 .1 .1 .0))))) (lends-again 𝓤 H A W (Array u64 22) (named 2) κ2 (α12 ∷ []) q2 (x3 .name) (x3 .ptr .0) (x3 .ptr .1) (named 2) (ws17 .1 .1 .0)) $ await ! tt $ choose ! (λ δ36. split ! $
-        lft-new ! tt (λ α13. move ! (14 ∷ 15 ∷ []) $ feqI ! (List Val) (vptr (x4 .ptr .0) (x4 .ptr .1) ∷ []) (vptr (x4 .ptr .0) (x4 .ptr .1) ∷ []) refl $ fjoin3 ! $
-        move ! (0 ∷ 15 ∷ []) $
-        use2 W (later (some (λ (δ37 : GName). ‵ ((MutRef (named 3) (α13 ∷ []) (Array u64 3)) .own (record { ptr = (x4 .ptr .0, x4 .ptr .1); name = δ37; now = (ws17 .1 .1 .1 .0) }) (vptr (x4 .ptr .0) (x4 .ptr .1) ∷ [])) ⊛ ‵ (LentAgain (Array u64 3) κ3 (α13 ∷ []) q3 (x4 .name) (x4 .ptr .0) (x4 .ptr .1) δ37 (ws17 .1 .1 .1 .0))))) (lends-again 𝓤 H A W (Array u64 3) (named 3) κ3 (α13 ∷ []) q3 (x4 .name) (x4 .ptr .0) (x4 .ptr .1) (named 3) (ws17 .1 .1 .1 .0)) $ await ! tt $ choose ! (λ δ37. split ! $
-        move ! (11 ∷ 8 ∷ 5 ∷ 2 ∷ 9 ∷ 6 ∷ 3 ∷ 0 ∷ []) $ group ! 8 $
-        use1 W (raw (C7 𝓤 H A mem run .pre (to-7 (α10 ∷ []) fullShare (α11 ∷ []) fullShare (α12 ∷ []) fullShare (α13 ∷ []) fullShare (record { ptr = (x1 .ptr .0, x1 .ptr .1); name = δ34; now = (ws17 .0) }) (vptr (x1 .ptr .0) (x1 .ptr .1)) (record { ptr = (x2 .ptr .0, x2 .ptr .1); name = δ35; now = (ws17 .1 .0) }) (vptr (x2 .ptr .0) (x2 .ptr .1)) (record { ptr = (x3 .ptr .0, x3 .ptr .1); name = δ36; now = (ws17 .1 .1 .0) }) (vptr (x3 .ptr .0) (x3 .ptr .1)) (record { ptr = (x4 .ptr .0, x4 .ptr .1); name = δ37; now = (ws17 .1 .1 .1 .0) }) (vptr (x4 .ptr .0) (x4 .ptr .1)) x8 (LL.val row-Registers.the-type law-Registers.the-laws x8) x9 (vint w32 x9) x10 (vbool x10) x11 (vint w32 x11) r14 (EL.val row-Plan.the-type law-Plan.the-laws r14) r31 (EL.val row-Walks.the-type law-Walks.the-laws r31)))) (goes-7 (α10 ∷ []) fullShare (α11 ∷ []) fullShare (α12 ∷ []) fullShare (α13 ∷ []) fullShare (record { ptr = (x1 .ptr .0, x1 .ptr .1); name = δ34; now = (ws17 .0) }) (vptr (x1 .ptr .0) (x1 .ptr .1)) (record { ptr = (x2 .ptr .0, x2 .ptr .1); name = δ35; now = (ws17 .1 .0) }) (vptr (x2 .ptr .0) (x2 .ptr .1)) (record { ptr = (x3 .ptr .0, x3 .ptr .1); name = δ36; now = (ws17 .1 .1 .0) }) (vptr (x3 .ptr .0) (x3 .ptr .1)) (record { ptr = (x4 .ptr .0, x4 .ptr .1); name = δ37; now = (ws17 .1 .1 .1 .0) }) (vptr (x4 .ptr .0) (x4 .ptr .1)) x8 (LL.val row-Registers.the-type law-Registers.the-laws x8) x9 (vint w32 x9) x10 (vbool x10) x11 (vint w32 x11) r14 (EL.val row-Plan.the-type law-Plan.the-laws r14) r31 (EL.val row-Walks.the-type law-Walks.the-laws r31) i8 i9 i10 i11 (subst (Is row-Plan.the-row r14) (EL.tells row-Plan.the-type law-Plan.the-laws r14 _ is16) is16) (subst (Is row-Walks.the-row r31) (EL.tells row-Walks.the-type law-Walks.the-laws r31 _ is33) is33)) $
-        calls-at ! fm (C7 𝓤 H A mem run) known-7 (to-7 (α10 ∷ []) fullShare (α11 ∷ []) fullShare (α12 ∷ []) fullShare (α13 ∷ []) fullShare (record { ptr = (x1 .ptr .0, x1 .ptr .1); name = δ34; now = (ws17 .0) }) (vptr (x1 .ptr .0) (x1 .ptr .1)) (record { ptr = (x2 .ptr .0, x2 .ptr .1); name = δ35; now = (ws17 .1 .0) }) (vptr (x2 .ptr .0) (x2 .ptr .1)) (record { ptr = (x3 .ptr .0, x3 .ptr .1); name = δ36; now = (ws17 .1 .1 .0) }) (vptr (x3 .ptr .0) (x3 .ptr .1)) (record { ptr = (x4 .ptr .0, x4 .ptr .1); name = δ37; now = (ws17 .1 .1 .1 .0) }) (vptr (x4 .ptr .0) (x4 .ptr .1)) x8 (LL.val row-Registers.the-type law-Registers.the-laws x8) x9 (vint w32 x9) x10 (vbool x10) x11 (vint w32 x11) r14 (EL.val row-Plan.the-type law-Plan.the-laws r14) r31 (EL.val row-Walks.the-type law-Walks.the-laws r31)) (and-then ! (load ! (from ! (stop !)) (look ! 15 refl)) (and-then ! (load ! (from ! (stop !)) (look ! 13 refl)) (and-then ! (load ! (from ! (stop !)) (look ! 11 refl)) (and-then ! (load ! (from ! (stop !)) (look ! 9 refl)) (and-then ! (load ! (from ! (stop !)) (look ! 45 refl)) (and-then ! (load ! (from ! (stop !)) (look ! 43 refl)) (and-then ! (load ! (from ! (stop !)) (look ! 41 refl)) (and-then ! (load ! (from ! (stop !)) (look ! 39 refl)) (and-then ! (load ! (from ! (stop !)) (look ! 33 refl)) (and-then ! (load ! (from ! (stop !)) (look ! 25 refl)) (no-more !))))))))))) (λ u38.
-        use1 W (later (some (λ (r : LoadOutcome). ((‵ (flft (α10 ∷ []) fullShare) ⊛ ‵ (flft (α11 ∷ []) fullShare) ⊛ ‵ (flft (α12 ∷ []) fullShare) ⊛ ‵ (flft (α13 ∷ []) fullShare) ⊛ ‵ ftrue) ⊛ ‵ (row-LoadOutcome.the-row .own r (u38 ∷ []))) ⊛ raw (ensured 𝓤 H A c7.ended (c7.clauses 𝓤 H A mem run) ((α10 ∷ []), ((α11 ∷ []), ((α12 ∷ []), ((α13 ∷ []), tt)))) ((record { ptr = (x1 .ptr .0, x1 .ptr .1); name = δ34; now = (ws17 .0) }), ((record { ptr = (x2 .ptr .0, x2 .ptr .1); name = δ35; now = (ws17 .1 .0) }), ((record { ptr = (x3 .ptr .0, x3 .ptr .1); name = δ36; now = (ws17 .1 .1 .0) }), ((record { ptr = (x4 .ptr .0, x4 .ptr .1); name = δ37; now = (ws17 .1 .1 .1 .0) }), (x8, (x9, (x10, (x11, (r14, (r31, tt)))))))))) tt r)))) (id⊢ 𝓤 _) $ await ! tt $ choose ! (λ r39. split ! $ move ! (1 ∷ []) $ use1 W (some (λ (ws : Lasts c7.ended ((α10 ∷ []), ((α11 ∷ []), ((α12 ∷ []), ((α13 ∷ []), tt)))) ((record { ptr = (x1 .ptr .0, x1 .ptr .1); name = δ34; now = (ws17 .0) }), ((record { ptr = (x2 .ptr .0, x2 .ptr .1); name = δ35; now = (ws17 .1 .0) }), ((record { ptr = (x3 .ptr .0, x3 .ptr .1); name = δ36; now = (ws17 .1 .1 .0) }), ((record { ptr = (x4 .ptr .0, x4 .ptr .1); name = δ37; now = (ws17 .1 .1 .1 .0) }), (x8, (x9, (x10, (x11, (r14, (r31, tt))))))))))). ‵ (lasts c7.ended ((α10 ∷ []), ((α11 ∷ []), ((α12 ∷ []), ((α13 ∷ []), tt)))) ((record { ptr = (x1 .ptr .0, x1 .ptr .1); name = δ34; now = (ws17 .0) }), ((record { ptr = (x2 .ptr .0, x2 .ptr .1); name = δ35; now = (ws17 .1 .0) }), ((record { ptr = (x3 .ptr .0, x3 .ptr .1); name = δ36; now = (ws17 .1 .1 .0) }), ((record { ptr = (x4 .ptr .0, x4 .ptr .1); name = δ37; now = (ws17 .1 .1 .1 .0) }), (x8, (x9, (x10, (x11, (r14, (r31, tt)))))))))) ws) ⊛ raw (fact 𝓤 (LoadedIn (concludeLoad (x8 .tc) (x9 % 8) x11 x10 (cacheOf (now (record { ptr = (x1 .ptr .0, x1 .ptr .1); name = δ34; now = (ws17 .0) })) (now (record { ptr = (x2 .ptr .0, x2 .ptr .1); name = δ35; now = (ws17 .1 .0) })) (now (record { ptr = (x3 .ptr .0, x3 .ptr .1); name = δ36; now = (ws17 .1 .1 .0) })) (now (record { ptr = (x4 .ptr .0, x4 .ptr .1); name = δ37; now = (ws17 .1 .1 .1 .0) }))) r14 r31) (r39 .answer) (r39 .count) ((ws .0)) ((ws .1 .0)) ((ws .1 .1 .0)) ((ws .1 .1 .1 .0)))))) (id⊢ 𝓤 _) $ choose ! (λ ws42. split ! $ move ! (1 ∷ []) $ heard ! (LoadedIn (concludeLoad (x8 .tc) (x9 % 8) x11 x10 (cacheOf (now (record { ptr = (x1 .ptr .0, x1 .ptr .1); name = δ34; now = (ws17 .0) })) (now (record { ptr = (x2 .ptr .0, x2 .ptr .1); name = δ35; now = (ws17 .1 .0) })) (now (record { ptr = (x3 .ptr .0, x3 .ptr .1); name = δ36; now = (ws17 .1 .1 .0) })) (now (record { ptr = (x4 .ptr .0, x4 .ptr .1); name = δ37; now = (ws17 .1 .1 .1 .0) }))) r14 r31) (r39 .answer) (r39 .count) ((ws42 .0)) ((ws42 .1 .0)) ((ws42 .1 .1 .0)) ((ws42 .1 .1 .1 .0))) (λ e40.
-        fsplit ! $ move ! (1 ∷ []) $ fsplit ! $ move ! (1 ∷ []) $ fsplit ! $ move ! (1 ∷ []) $ fsplit ! $ move ! (1 ∷ []) $ fsplit ! $ drop ! $ fsplit ! $ drop ! $ fsplit ! $
-        drop ! $ fsplit ! $ drop ! $ fsplit ! $ drop ! $ fsplit ! $ drop ! $ drop ! $ move ! (4 ∷ []) $ split ! $ split ! $ move ! (1 ∷ []) $ split ! $ move ! (1 ∷ []) $ split ! $
-        move ! (1 ∷ []) $ split ! $ move ! (1 ∷ []) $ drop ! $ move ! (4 ∷ []) $
-        facts ! row-LoadOutcome.the-row (Is row-LoadOutcome.the-row) (shows 𝓤 H A row-LoadOutcome.the-row) r39 (u38 ∷ []) (λ is41. land ! (from ! (stop !)) (init ! 68 refl (LL.lawful row-LoadOutcome.the-type law-LoadOutcome.the-laws 𝓤 H A W .typed r39 _ is41 .0)) $
-        rewrite ! 68 (λ (u : Val). ‵ (fat fullShare law-LoadOutcome.mir l0 0 u)) (ap only (LL.tells row-LoadOutcome.the-type law-LoadOutcome.the-laws r39 _ is41)) refl $
-        move ! (3 ∷ []) $ lft-end ! tt $ move ! (0 ∷ 11 ∷ 7 ∷ []) $
-        use3 W (later (‵ ((MutRef (named 0) κ0 (Array u64 22)) .own (record { ptr = (x1 .ptr .0, x1 .ptr .1); name = x1 .name; now = (ws42 .0) }) (vptr (x1 .ptr .0) (x1 .ptr .1) ∷ [])) ⊛ ‵ (flft κ0 q0))) (comes-back 𝓤 H A W (Array u64 22) (named 0) κ0 (α10 ∷ []) q0 (x1 .name) (x1 .ptr .0) (x1 .ptr .1) δ34 (ws17 .0) (ws42 .0)) $ await ! tt $ split ! $ fsplit3 ! $ drop ! $
-        move ! (5 ∷ []) $ lft-end ! tt $ move ! (0 ∷ 11 ∷ 8 ∷ []) $
-        use3 W (later (‵ ((MutRef (named 1) κ1 (Array u64 22)) .own (record { ptr = (x2 .ptr .0, x2 .ptr .1); name = x2 .name; now = (ws42 .1 .0) }) (vptr (x2 .ptr .0) (x2 .ptr .1) ∷ [])) ⊛ ‵ (flft κ1 q1))) (comes-back 𝓤 H A W (Array u64 22) (named 1) κ1 (α11 ∷ []) q1 (x2 .name) (x2 .ptr .0) (x2 .ptr .1) δ35 (ws17 .1 .0) (ws42 .1 .0)) $ await ! tt $ split ! $ fsplit3 ! $ drop ! $
-        move ! (7 ∷ []) $ lft-end ! tt $ move ! (0 ∷ 11 ∷ 9 ∷ []) $
-        use3 W (later (‵ ((MutRef (named 2) κ2 (Array u64 22)) .own (record { ptr = (x3 .ptr .0, x3 .ptr .1); name = x3 .name; now = (ws42 .1 .1 .0) }) (vptr (x3 .ptr .0) (x3 .ptr .1) ∷ [])) ⊛ ‵ (flft κ2 q2))) (comes-back 𝓤 H A W (Array u64 22) (named 2) κ2 (α12 ∷ []) q2 (x3 .name) (x3 .ptr .0) (x3 .ptr .1) δ36 (ws17 .1 .1 .0) (ws42 .1 .1 .0)) $ await ! tt $ split ! $ fsplit3 ! $ drop ! $
-        move ! (9 ∷ []) $ lft-end ! tt $ move ! (0 ∷ 11 ∷ 10 ∷ []) $
-        use3 W (later (‵ ((MutRef (named 3) κ3 (Array u64 3)) .own (record { ptr = (x4 .ptr .0, x4 .ptr .1); name = x4 .name; now = (ws42 .1 .1 .1 .0) }) (vptr (x4 .ptr .0) (x4 .ptr .1) ∷ [])) ⊛ ‵ (flft κ3 q3))) (comes-back 𝓤 H A W (Array u64 3) (named 3) κ3 (α13 ∷ []) q3 (x4 .name) (x4 .ptr .0) (x4 .ptr .1) δ37 (ws17 .1 .1 .1 .0) (ws42 .1 .1 .1 .0)) $ await ! tt $ split ! $ fsplit3 ! $ drop ! $
-        returns ! (look ! 68 refl) $ forget ! 68 refl $ forget ! 66 refl $ forget ! 64 refl $ forget ! 62 refl $ forget ! 60 refl $ forget ! 58 refl $ forget ! 56 refl $
-        forget ! 54 refl $ forget ! 52 refl $ forget ! 50 refl $ forget ! 48 refl $ forget ! 46 refl $ forget ! 44 refl $ forget ! 42 refl $ forget ! 40 refl $ forget ! 38 refl $
-        forget ! 36 refl $ forget ! 34 refl $ forget ! 32 refl $ forget ! 30 refl $ forget ! 28 refl $ forget ! 26 refl $ forget ! 24 refl $ forget ! 22 refl $ forget ! 20 refl $
-        forget ! 18 refl $ forget ! 16 refl $ move ! (68 ∷ 69 ∷ []) $ free1 ! $ move ! (66 ∷ 67 ∷ []) $ free1 ! $ move ! (64 ∷ 65 ∷ []) $ free1 ! $ move ! (62 ∷ 63 ∷ []) $ free1 ! $
-        move ! (60 ∷ 61 ∷ []) $ free1 ! $ move ! (58 ∷ 59 ∷ []) $ free1 ! $ move ! (56 ∷ 57 ∷ []) $ free1 ! $ move ! (54 ∷ 55 ∷ []) $ free1 ! $ move ! (52 ∷ 53 ∷ []) $ free1 ! $
-        move ! (50 ∷ 51 ∷ []) $ free1 ! $ move ! (48 ∷ 49 ∷ []) $ free1 ! $ move ! (46 ∷ 47 ∷ []) $ free1 ! $ move ! (44 ∷ 45 ∷ []) $ free1 ! $ move ! (42 ∷ 43 ∷ []) $ free1 ! $
-        move ! (40 ∷ 41 ∷ []) $ free1 ! $ move ! (38 ∷ 39 ∷ []) $ free1 ! $ move ! (36 ∷ 37 ∷ []) $ free1 ! $ move ! (34 ∷ 35 ∷ []) $ free1 ! $ move ! (32 ∷ 33 ∷ []) $ free1 ! $
-        move ! (30 ∷ 31 ∷ []) $ free1 ! $ move ! (28 ∷ 29 ∷ []) $ free1 ! $ move ! (26 ∷ 27 ∷ []) $ free1 ! $ move ! (24 ∷ 25 ∷ []) $ free1 ! $ move ! (22 ∷ 23 ∷ []) $ free1 ! $
-        move ! (20 ∷ 21 ∷ []) $ free1 ! $ move ! (18 ∷ 19 ∷ []) $ free1 ! $ move ! (16 ∷ 17 ∷ []) $ free1 ! $ free0 ! $
-        keep ! (11 ∷ 8 ∷ 5 ∷ 2 ∷ 13 ∷ 12 ∷ 15 ∷ 14 ∷ 9 ∷ 10 ∷ 6 ∷ 7 ∷ 3 ∷ 4 ∷ 0 ∷ 1 ∷ []) $
-        by ! (exits (ws42 .0) (ws42 .1 .0) (ws42 .1 .1 .0) (ws42 .1 .1 .1 .0) r39 (LL.val row-LoadOutcome.the-type law-LoadOutcome.the-laws r39) (subst (Is row-LoadOutcome.the-row r39) (LL.tells row-LoadOutcome.the-type law-LoadOutcome.the-laws r39 _ is41) is41) (law.loads x8 x9 x11 (cacheOf (now x1) (now x2) (now x3) (now x4)) _ _ e15 x10 (memory (now x5) x6 (now x7)) e3 e7 e20 e24 e28 e32 e40)))))))))))))))))))))))))))))))))))))))))))))))))))))))))))))))))))))))))))))))
+        facts ! row-Walks.the-row (Is row-Walks.the-row) (shows 𝓤 H A row-Walks.the-row) r28 (u27 ∷ []) (λ is30. land ! (from ! (stop !)) (init ! 11 refl (EL.lawful row-Walks.the-type law-Walks.the-laws 𝓤 H A W tt .typed r28 _ is30 .0)) $
+        rewrite ! 11 (λ (u : Val). ‵ (fat fullShare law-Walks.mir l15 0 u)) (ap only (EL.tells row-Walks.the-type law-Walks.the-laws r28 _ is30)) refl $
+        assigns ! (addr ! (from ! (hop ! (look ! 39 refl) (stop !)))) (from ! (stop !)) (init ! 7 refl (tt, tt)) $ lft-new ! tt (λ α4. move ! (5 ∷ 6 ∷ []) $
+        feqI ! (List Val) (vptr (x1 .ptr .0) (x1 .ptr .1) ∷ []) (vptr (x1 .ptr .0) (x1 .ptr .1) ∷ []) refl $ fjoin3 ! $ move ! (0 ∷ 6 ∷ []) $
+        use2 W (later (some (λ (δ31 : GName). ‵ ((MutRef (named 0) (α4 ∷ []) (Array u64 69)) .own (record { ptr = (x1 .ptr .0, x1 .ptr .1); name = δ31; now = (ws14 .0) }) (vptr (x1 .ptr .0) (x1 .ptr .1) ∷ [])) ⊛ ‵ (LentAgain (Array u64 69) κ0 (α4 ∷ []) q0 (x1 .name) (x1 .ptr .0) (x1 .ptr .1) δ31 (ws14 .0))))) (lends-again 𝓤 H A W (Array u64 69) (named 0) κ0 (α4 ∷ []) q0 (x1 .name) (x1 .ptr .0) (x1 .ptr .1) (named 0) (ws14 .0)) $ await ! tt $ choose ! (λ δ31. split ! $
+        move ! (2 ∷ 0 ∷ []) $ group ! 2 $
+        use1 W (raw (C7 𝓤 H A mem run .pre (to-7 (α4 ∷ []) fullShare (record { ptr = (x1 .ptr .0, x1 .ptr .1); name = δ31; now = (ws14 .0) }) (vptr (x1 .ptr .0) (x1 .ptr .1)) x5 (LL.val row-Registers.the-type law-Registers.the-laws x5) x6 (vint w32 x6) x7 (vbool x7) x8 (vint w32 x8) r11 (EL.val row-Plan.the-type law-Plan.the-laws r11) r28 (EL.val row-Walks.the-type law-Walks.the-laws r28)))) (goes-7 (α4 ∷ []) fullShare (record { ptr = (x1 .ptr .0, x1 .ptr .1); name = δ31; now = (ws14 .0) }) (vptr (x1 .ptr .0) (x1 .ptr .1)) x5 (LL.val row-Registers.the-type law-Registers.the-laws x5) x6 (vint w32 x6) x7 (vbool x7) x8 (vint w32 x8) r11 (EL.val row-Plan.the-type law-Plan.the-laws r11) r28 (EL.val row-Walks.the-type law-Walks.the-laws r28) i5 i6 i7 i8 (subst (Is row-Plan.the-row r11) (EL.tells row-Plan.the-type law-Plan.the-laws r11 _ is13) is13) (subst (Is row-Walks.the-row r28) (EL.tells row-Walks.the-type law-Walks.the-laws r28 _ is30) is30)) $
+        calls-at ! fm (C7 𝓤 H A mem run) known-7 (to-7 (α4 ∷ []) fullShare (record { ptr = (x1 .ptr .0, x1 .ptr .1); name = δ31; now = (ws14 .0) }) (vptr (x1 .ptr .0) (x1 .ptr .1)) x5 (LL.val row-Registers.the-type law-Registers.the-laws x5) x6 (vint w32 x6) x7 (vbool x7) x8 (vint w32 x8) r11 (EL.val row-Plan.the-type law-Plan.the-laws r11) r28 (EL.val row-Walks.the-type law-Walks.the-laws r28)) (and-then ! (load ! (from ! (stop !)) (look ! 6 refl)) (and-then ! (load ! (from ! (stop !)) (look ! 30 refl)) (and-then ! (load ! (from ! (stop !)) (look ! 28 refl)) (and-then ! (load ! (from ! (stop !)) (look ! 26 refl)) (and-then ! (load ! (from ! (stop !)) (look ! 24 refl)) (and-then ! (load ! (from ! (stop !)) (look ! 18 refl)) (and-then ! (load ! (from ! (stop !)) (look ! 10 refl)) (no-more !)))))))) (λ u32.
+        use1 W (later (some (λ (r : LoadOutcome). ((‵ (flft (α4 ∷ []) fullShare) ⊛ ‵ ftrue) ⊛ ‵ (row-LoadOutcome.the-row .own r (u32 ∷ []))) ⊛ raw (ensured 𝓤 H A c7.ended (c7.clauses 𝓤 H A mem run) ((α4 ∷ []), tt) ((record { ptr = (x1 .ptr .0, x1 .ptr .1); name = δ31; now = (ws14 .0) }), (x5, (x6, (x7, (x8, (r11, (r28, tt))))))) tt r)))) (id⊢ 𝓤 _) $ await ! tt $ choose ! (λ r33. split ! $ move ! (1 ∷ []) $ use1 W (some (λ (ws : Lasts c7.ended ((α4 ∷ []), tt) ((record { ptr = (x1 .ptr .0, x1 .ptr .1); name = δ31; now = (ws14 .0) }), (x5, (x6, (x7, (x8, (r11, (r28, tt)))))))). ‵ (lasts c7.ended ((α4 ∷ []), tt) ((record { ptr = (x1 .ptr .0, x1 .ptr .1); name = δ31; now = (ws14 .0) }), (x5, (x6, (x7, (x8, (r11, (r28, tt))))))) ws) ⊛ raw (fact 𝓤 (LoadedIn (concludeLoad (x5 .tc) (x6 % 8) x8 x7 (cacheOf (now (record { ptr = (x1 .ptr .0, x1 .ptr .1); name = δ31; now = (ws14 .0) }))) r11 r28) (r33 .answer) (r33 .count) ((ws .0)))))) (id⊢ 𝓤 _) $ choose ! (λ ws36. split ! $ move ! (1 ∷ []) $ heard ! (LoadedIn (concludeLoad (x5 .tc) (x6 % 8) x8 x7 (cacheOf (now (record { ptr = (x1 .ptr .0, x1 .ptr .1); name = δ31; now = (ws14 .0) }))) r11 r28) (r33 .answer) (r33 .count) ((ws36 .0))) (λ e34.
+        fsplit ! $ move ! (1 ∷ []) $ fsplit ! $ drop ! $ fsplit ! $ drop ! $ fsplit ! $ drop ! $ fsplit ! $ drop ! $ fsplit ! $ drop ! $ fsplit ! $ drop ! $ drop ! $
+        move ! (1 ∷ []) $ split ! $ split ! $ move ! (1 ∷ []) $ drop ! $ move ! (1 ∷ []) $
+        facts ! row-LoadOutcome.the-row (Is row-LoadOutcome.the-row) (shows 𝓤 H A row-LoadOutcome.the-row) r33 (u32 ∷ []) (λ is35. land ! (from ! (stop !)) (init ! 41 refl (LL.lawful row-LoadOutcome.the-type law-LoadOutcome.the-laws 𝓤 H A W .typed r33 _ is35 .0)) $
+        rewrite ! 41 (λ (u : Val). ‵ (fat fullShare law-LoadOutcome.mir l0 0 u)) (ap only (LL.tells row-LoadOutcome.the-type law-LoadOutcome.the-laws r33 _ is35)) refl $
+        lft-end ! tt $ move ! (0 ∷ 2 ∷ 1 ∷ []) $
+        use3 W (later (‵ ((MutRef (named 0) κ0 (Array u64 69)) .own (record { ptr = (x1 .ptr .0, x1 .ptr .1); name = x1 .name; now = (ws36 .0) }) (vptr (x1 .ptr .0) (x1 .ptr .1) ∷ [])) ⊛ ‵ (flft κ0 q0))) (comes-back 𝓤 H A W (Array u64 69) (named 0) κ0 (α4 ∷ []) q0 (x1 .name) (x1 .ptr .0) (x1 .ptr .1) δ31 (ws14 .0) (ws36 .0)) $ await ! tt $ split ! $ fsplit3 ! $ drop ! $
+        returns ! (look ! 41 refl) $ forget ! 41 refl $ forget ! 39 refl $ forget ! 37 refl $ forget ! 35 refl $ forget ! 33 refl $ forget ! 31 refl $ forget ! 29 refl $
+        forget ! 27 refl $ forget ! 25 refl $ forget ! 23 refl $ forget ! 21 refl $ forget ! 19 refl $ forget ! 17 refl $ forget ! 15 refl $ forget ! 13 refl $ forget ! 11 refl $
+        forget ! 9 refl $ forget ! 7 refl $ move ! (41 ∷ 42 ∷ []) $ free1 ! $ move ! (39 ∷ 40 ∷ []) $ free1 ! $ move ! (37 ∷ 38 ∷ []) $ free1 ! $ move ! (35 ∷ 36 ∷ []) $ free1 ! $
+        move ! (33 ∷ 34 ∷ []) $ free1 ! $ move ! (31 ∷ 32 ∷ []) $ free1 ! $ move ! (29 ∷ 30 ∷ []) $ free1 ! $ move ! (27 ∷ 28 ∷ []) $ free1 ! $ move ! (25 ∷ 26 ∷ []) $ free1 ! $
+        move ! (23 ∷ 24 ∷ []) $ free1 ! $ move ! (21 ∷ 22 ∷ []) $ free1 ! $ move ! (19 ∷ 20 ∷ []) $ free1 ! $ move ! (17 ∷ 18 ∷ []) $ free1 ! $ move ! (15 ∷ 16 ∷ []) $ free1 ! $
+        move ! (13 ∷ 14 ∷ []) $ free1 ! $ move ! (11 ∷ 12 ∷ []) $ free1 ! $ move ! (9 ∷ 10 ∷ []) $ free1 ! $ move ! (7 ∷ 8 ∷ []) $ free1 ! $ free0 ! $
+        keep ! (2 ∷ 4 ∷ 3 ∷ 6 ∷ 5 ∷ 0 ∷ 1 ∷ []) $
+        by ! (exits (ws36 .0) r33 (LL.val row-LoadOutcome.the-type law-LoadOutcome.the-laws r33) (subst (Is row-LoadOutcome.the-row r33) (LL.tells row-LoadOutcome.the-type law-LoadOutcome.the-laws r33 _ is35) is35) (law.loads x5 x6 x8 (cacheOf (now x1)) _ _ e12 x7 (memory (now x2) x3 (now x4)) e3 e7 e17 e21 e25 e29 e34))))))))))))))))))))))))))))))))))))))))))))))))))))))))))
 
 module _ {M : Type 1} (𝓤 : URA M) (H : Heap 𝓤) (A : Atoms 𝓤) (W : Given 𝓤 H A) (mem : Memory → SProp 𝓤) (run : Routine → Fun 𝓤) (𝓣 : Tables 𝓤 H) where
   self-walks : Triple 𝓤 (𝓣 .C #plan·checks·bad-longs) (C0 𝓤 H A mem run) → Triple 𝓤 (𝓣 .C #tables·any-crossed) (C1 𝓤 H A mem run) → Triple 𝓤 (𝓣 .C #lent·planned-load) (C2 𝓤 H A mem run) → Triple 𝓤 (𝓣 .C #plan·way-of) (C3 𝓤 H A mem run) → Triple 𝓤 (𝓣 .C #tables·tc-of) (C4 𝓤 H A mem run) → Triple 𝓤 (𝓣 .C #tables·root-for) (C5 𝓤 H A mem run) → Triple 𝓤 (𝓣 .C #tables·walk-030-for) (C6 𝓤 H A mem run) → Triple 𝓤 (𝓣 .C #lent·concluded-load) (C7 𝓤 H A mem run) → AllWalks 𝓤 H A self.ended stayed (WpFn 𝓤 H (𝓣 .C) (𝓣 .Λ) code.function) (self.clauses 𝓤 H A mem run)
-  self-walks known-0 known-1 known-2 known-3 known-4 known-5 known-6 known-7 = walked 𝓤 H A self.ended stayed (self.clauses 𝓤 H A mem run) (WpFn 𝓤 H (𝓣 .C) (𝓣 .Λ) code.function) (λ κs. (ptr-vals, (ptr-vals, (ptr-vals, (ptr-vals, (slice-vals, (uint-vals w32, (slice-vals, (LL.vals row-Registers.the-type law-Registers.the-laws, (uint-vals w32, (bool-vals, (uint-vals w32, tt)))))))))))) (λ κs. (mut-tells (named 0) (κs .0) (Array u64 22), (mut-tells (named 1) (κs .1 .0) (Array u64 22), (mut-tells (named 2) (κs .1 .1 .0) (Array u64 22), (mut-tells (named 3) (κs .1 .1 .1 .0) (Array u64 3), (shr-slice-tells (named 4) (κs .1 .1 .1 .1 .0) u32, (uint-tells w32, (shr-slice-tells (named 5) (κs .1 .1 .1 .1 .1 .0) row-Range.the-row, (LL.tells row-Registers.the-type law-Registers.the-laws, (uint-tells w32, (bool-tells, (uint-tells w32, tt))))))))))))
-      (λ κs qs bounds a g are. via 𝓤 _ (fst∗ 𝓤 _ (emp 𝓤)) (walk 𝓤 H A W mem run (κs .0) (κs .1 .0) (κs .1 .1 .0) (κs .1 .1 .1 .0) (κs .1 .1 .1 .1 .0) (κs .1 .1 .1 .1 .1 .0) (qs .0) (qs .1 .0) (qs .1 .1 .0) (qs .1 .1 .1 .0) (qs .1 .1 .1 .1 .0) (qs .1 .1 .1 .1 .1 .0) (a .0) (a .1 .0) (a .1 .1 .0) (a .1 .1 .1 .0) (a .1 .1 .1 .1 .0) (a .1 .1 .1 .1 .1 .0) (a .1 .1 .1 .1 .1 .1 .0) (a .1 .1 .1 .1 .1 .1 .1 .0) (a .1 .1 .1 .1 .1 .1 .1 .1 .0) (a .1 .1 .1 .1 .1 .1 .1 .1 .1 .0) (a .1 .1 .1 .1 .1 .1 .1 .1 .1 .1 .0) (are .0) (are .1 .0) (are .1 .1 .0) (are .1 .1 .1 .0) (are .1 .1 .1 .1 .0) (are .1 .1 .1 .1 .1 .0) (are .1 .1 .1 .1 .1 .1 .0) (are .1 .1 .1 .1 .1 .1 .1 .0) (are .1 .1 .1 .1 .1 .1 .1 .1 .0) (are .1 .1 .1 .1 .1 .1 .1 .1 .1 .0) (are .1 .1 .1 .1 .1 .1 .1 .1 .1 .1 .0) 𝓣 known-0 known-1 known-2 known-3 known-4 known-5 known-6 known-7))
+  self-walks known-0 known-1 known-2 known-3 known-4 known-5 known-6 known-7 = walked 𝓤 H A self.ended stayed (self.clauses 𝓤 H A mem run) (WpFn 𝓤 H (𝓣 .C) (𝓣 .Λ) code.function) (λ κs. (ptr-vals, (slice-vals, (uint-vals w32, (slice-vals, (LL.vals row-Registers.the-type law-Registers.the-laws, (uint-vals w32, (bool-vals, (uint-vals w32, tt))))))))) (λ κs. (mut-tells (named 0) (κs .0) (Array u64 69), (shr-slice-tells (named 1) (κs .1 .0) u32, (uint-tells w32, (shr-slice-tells (named 2) (κs .1 .1 .0) row-Range.the-row, (LL.tells row-Registers.the-type law-Registers.the-laws, (uint-tells w32, (bool-tells, (uint-tells w32, tt)))))))))
+      (λ κs qs bounds a g are. via 𝓤 _ (fst∗ 𝓤 _ (emp 𝓤)) (walk 𝓤 H A W mem run (κs .0) (κs .1 .0) (κs .1 .1 .0) (qs .0) (qs .1 .0) (qs .1 .1 .0) (a .0) (a .1 .0) (a .1 .1 .0) (a .1 .1 .1 .0) (a .1 .1 .1 .1 .0) (a .1 .1 .1 .1 .1 .0) (a .1 .1 .1 .1 .1 .1 .0) (a .1 .1 .1 .1 .1 .1 .1 .0) (are .0) (are .1 .0) (are .1 .1 .0) (are .1 .1 .1 .0) (are .1 .1 .1 .1 .0) (are .1 .1 .1 .1 .1 .0) (are .1 .1 .1 .1 .1 .1 .0) (are .1 .1 .1 .1 .1 .1 .1 .0) 𝓣 known-0 known-1 known-2 known-3 known-4 known-5 known-6 known-7))
 
   self-meets : Triple 𝓤 (𝓣 .C #plan·checks·bad-longs) (C0 𝓤 H A mem run) → Triple 𝓤 (𝓣 .C #tables·any-crossed) (C1 𝓤 H A mem run) → Triple 𝓤 (𝓣 .C #lent·planned-load) (C2 𝓤 H A mem run) → Triple 𝓤 (𝓣 .C #plan·way-of) (C3 𝓤 H A mem run) → Triple 𝓤 (𝓣 .C #tables·tc-of) (C4 𝓤 H A mem run) → Triple 𝓤 (𝓣 .C #tables·root-for) (C5 𝓤 H A mem run) → Triple 𝓤 (𝓣 .C #tables·walk-030-for) (C6 𝓤 H A mem run) → Triple 𝓤 (𝓣 .C #lent·concluded-load) (C7 𝓤 H A mem run) → Meets 𝓤 H A self.signature (WpFn 𝓤 H (𝓣 .C) (𝓣 .Λ) code.function) (self.spec 𝓤 H A mem run)
-  self-meets known-0 known-1 known-2 known-3 known-4 known-5 known-6 known-7 = walk-meets 𝓤 H A self.ended stayed W (goes-ref 𝓤 H A W 6 0 tt (plain (λ _. (Array u64 22))), (goes-ref 𝓤 H A W 6 1 tt (plain (λ _. (Array u64 22))), (goes-ref 𝓤 H A W 6 2 tt (plain (λ _. (Array u64 22))), (goes-ref 𝓤 H A W 6 3 tt (plain (λ _. (Array u64 3))), (goes-none-slice 𝓤 H A W 6 (4 ∷ []) tt (plain (λ _. u32)) yes, (goes-none 𝓤 H A W 6 (λ _. u32) yes (λ κs x f. refl), (goes-none-slice 𝓤 H A W 6 (5 ∷ []) tt (plain (λ _. row-Range.the-row)) yes, (goes-none 𝓤 H A W 6 (λ _. row-Registers.the-row) yes (λ κs x f. refl), (goes-none 𝓤 H A W 6 (λ _. u32) yes (λ κs x f. refl), (goes-none 𝓤 H A W 6 (λ _. Boolean) yes (λ κs x f. refl), (goes-none 𝓤 H A W 6 (λ _. u32) yes (λ κs x f. refl), tt))))))))))) (self.clauses 𝓤 H A mem run) (WpFn 𝓤 H (𝓣 .C) (𝓣 .Λ) code.function) (WpFn-mono 𝓤 H (W .laws) 𝓣 code.function) (self-walks known-0 known-1 known-2 known-3 known-4 known-5 known-6 known-7)
+  self-meets known-0 known-1 known-2 known-3 known-4 known-5 known-6 known-7 = walk-meets 𝓤 H A self.ended stayed W (goes-ref 𝓤 H A W 3 0 tt (plain (λ _. (Array u64 69))), (goes-none-slice 𝓤 H A W 3 (1 ∷ []) tt (plain (λ _. u32)) yes, (goes-none 𝓤 H A W 3 (λ _. u32) yes (λ κs x f. refl), (goes-none-slice 𝓤 H A W 3 (2 ∷ []) tt (plain (λ _. row-Range.the-row)) yes, (goes-none 𝓤 H A W 3 (λ _. row-Registers.the-row) yes (λ κs x f. refl), (goes-none 𝓤 H A W 3 (λ _. u32) yes (λ κs x f. refl), (goes-none 𝓤 H A W 3 (λ _. Boolean) yes (λ κs x f. refl), (goes-none 𝓤 H A W 3 (λ _. u32) yes (λ κs x f. refl), tt)))))))) (self.clauses 𝓤 H A mem run) (WpFn 𝓤 H (𝓣 .C) (𝓣 .Λ) code.function) (WpFn-mono 𝓤 H (W .laws) 𝓣 code.function) (self-walks known-0 known-1 known-2 known-3 known-4 known-5 known-6 known-7)
 
 pub load-lent-spec : {M : Type 1} → stated.statement M
 unfolding code.routine tablesOf

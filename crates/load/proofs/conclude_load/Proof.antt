@@ -3,8 +3,8 @@ use borrow.Author.Needs.{needs}
 use Rattle.load.proofs.conclude_load.Statement.{statement}
 use Rattle.load.proofs.conclude_load.Tie as tie
 
-lengths-030-requires : tie.Need-lengths-030-requires
-lengths-030-requires c κs = search needs
+sized-requires : tie.Need-sized-requires
+sized-requires c κs = search needs
 
 enum-known-plan : tie.Need-enum-known-plan
 enum-known-plan c = search needs
@@ -25,13 +25,13 @@ returns-2 : tie.Need-returns-2
 returns-2 c = law.load-settles _ _ _ _ _ (c .enum-told .given .1) (search needs)
 
 returns-3 : tie.Need-returns-3
-returns-3 c = law.load-walks _ _ _ _ _ _ (c .before .before .before .before .before .enum-told2 .given .1) (c .loaded .ensures)
+returns-3 c = law.load-walks _ _ _ _ _ _ (c .before .before .enum-told2 .given .1) (c .loaded .ensures)
 
 pub conclude-load-spec : {M : Type 1} → statement M
 conclude-load-spec =
     tie.close
     (tie.spec
-    lengths-030-requires
+    sized-requires
     enum-known-plan
     enum-told
     enum-told-2

@@ -19,7 +19,7 @@ conclude-load-requires : tie.Need-conclude-load-requires
 conclude-load-requires c κs = search needs
 
 returns : tie.Need-returns
-returns c = λ k h. law.load-by _ _ _ _ _ _ (c .before .before .before .before .before .before .before .before .before .before .before .before .bad-base .ensures) h (c .before .before .before .before .before .before .before .plan-load .ensures) (c .before .before .before .before .before .before .way-of .ensures) (c .before .before .before .before .before .walk-kept .ensures) (c .conclude-load .ensures)
+returns c = λ k h. law.load-by _ _ _ _ _ _ (c .before .before .before .before .before .before .bad-base .ensures) h (c .before .before .before .before .plan-load .ensures) (c .before .before .before .way-of .ensures) (c .before .before .walk-kept .ensures) (c .conclude-load .ensures)
 
 pub load-in-spec : {M : Type 1} → statement M
 load-in-spec =

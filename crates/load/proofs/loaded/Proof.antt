@@ -19,7 +19,7 @@ returns : tie.Need-returns
 returns c = law.load-idle _ _ _ _ (c .enum-told .given .1) (c .before .before .pre)
 
 returns-2 : tie.Need-returns-2
-returns-2 c = law.load-030 _ _ _ _ _ (c .before .before .before .before .before .before .walks .given .1) (c .end-030 .ensures)
+returns-2 c = law.load-030 _ _ _ _ _ (c .before .before .before .walks .given .1) (c .end-030 .ensures)
 
 returns-3 : tie.Need-returns-3
 returns-3 c = law.load-040 _ _ _ _ (c .enum-told2 .given .1) (c .before .before .pre)

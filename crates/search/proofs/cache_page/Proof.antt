@@ -26,7 +26,7 @@ returns : tie.Need-returns
 returns c = law.cache-none _ _ (c .before .before .page-shift .ensures) _ _ (c .enum-told .given .1) (c .before .before .before .pre .1)
 
 returns-2 : tie.Need-returns-2
-returns-2 c = law.cache-put _ _ (c .before .before .before .before .before .before .before .before .before .page-shift .ensures) _ _ (search needs) (c .before .before .before .before .before .before .before .shift .given .1) (c .before .before .before .before .before .page-base .ensures) (c .insert .ensures)
+returns-2 c = law.cache-put _ _ (c .before .before .before .before .before .before .page-shift .ensures) _ _ (search needs) (c .before .before .before .before .shift .given .1) (c .before .before .page-base .ensures) (c .insert .ensures)
 
 pub cache-page-spec : {M : Type 1} → statement M
 cache-page-spec =

@@ -10,7 +10,7 @@ cache-page-requires : tie.Need-cache-page-requires
 cache-page-requires c κs = search needs
 
 returns-2 : tie.Need-returns-2
-returns-2 c = law.taken _ (c .before .before .before .before .before .if1 .left) (c .cache-page .ensures)
+returns-2 c = law.taken _ (c .before .before .if1 .left) (c .cache-page .ensures)
 
 pub cache-unless-spec : {M : Type 1} → statement M
 cache-unless-spec = tie.close (tie.spec returns cache-page-requires returns-2)

@@ -5,8 +5,8 @@ use borrow.Author.Needs.{needs}
 use Rattle.search.proofs.end_030.Statement.{statement}
 use Rattle.search.proofs.end_030.Tie as tie
 
-lengths-030-requires : tie.Need-lengths-030-requires
-lengths-030-requires c κs = search needs
+sized-requires : tie.Need-sized-requires
+sized-requires c κs = search needs
 
 enum-known-end : tie.Need-enum-known-end
 enum-known-end c = search needs
@@ -45,7 +45,7 @@ configuration-fault-requires-2 : tie.Need-configuration-fault-requires-2
 configuration-fault-requires-2 c κs = search needs
 
 returns : tie.Need-returns
-returns c = law.end-page _ _ _ _ _ _ (c .before .before .before .before .before .before .before .end .given .1) (c .before .before .before .before .before .physical .ensures) (c .page-found .ensures)
+returns c = law.end-page _ _ _ _ _ _ (c .before .before .before .before .end .given .1) (c .before .before .physical .ensures) (c .page-found .ensures)
 
 returns-2 : tie.Need-returns-2
 returns-2 c = law.end-invalid _ _ _ _ _ (c .before .before .before .end2 .given .1) (c .before .missing-cause .ensures) (c .fault .ensures) (search needs)
@@ -63,7 +63,7 @@ pub end-030-spec : {M : Type 1} → statement M
 end-030-spec =
     tie.close
     (tie.spec
-    lengths-030-requires
+    sized-requires
     enum-known-end
     physical-requires
     page-found-requires

@@ -6,8 +6,8 @@ use borrow.Author.Needs.{needs}
 use Rattle.search.proofs.plan_030.Statement.{statement}
 use Rattle.search.proofs.plan_030.Tie as tie
 
-lengths-030-requires : tie.Need-lengths-030-requires
-lengths-030-requires c κs = search needs
+sized-requires : tie.Need-sized-requires
+sized-requires c κs = search needs
 
 page-shift-requires : tie.Need-page-shift-requires
 page-shift-requires c κs = search needs
@@ -31,13 +31,13 @@ returns : tie.Need-returns
 returns c = law.plan-none _ _ (c .before .before .page-shift .ensures) _ _ (c .enum-told .given .1) (search needs)
 
 returns-2 : tie.Need-returns-2
-returns-2 c = law.plan-look _ _ (c .before .before .before .before .before .before .before .page-shift .ensures) _ _ (mod-lt _ (omega arith)) (c .before .before .before .before .before .shift .given .1) (c .before .look .ensures) (c .looked .ensures)
+returns-2 c = law.plan-look _ _ (c .before .before .before .before .before .before .page-shift .ensures) _ _ (mod-lt _ (omega arith)) (c .before .before .before .before .shift .given .1) (c .before .look .ensures) (c .looked .ensures)
 
 pub plan-030-spec : {M : Type 1} → statement M
 plan-030-spec =
     tie.close
     (tie.spec
-    lengths-030-requires
+    sized-requires
     page-shift-requires
     enum-told
     enum-known-shift

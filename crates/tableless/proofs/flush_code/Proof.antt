@@ -7,7 +7,7 @@ flush-code-in-requires : tie.Need-flush-code-in-requires
 flush-code-in-requires c κs = search needs
 
 returns : tie.Need-returns
-returns c = law.flushed-030 (c .flush-code-in .ensures _) (record { keys = search needs; bases = search needs })
+returns c = law.flushed-030 (c .flush-code-in .ensures _) (search needs)
 
 pub flush-code-spec : {M : Type 1} → statement M
 flush-code-spec = tie.close (tie.spec flush-code-in-requires returns)

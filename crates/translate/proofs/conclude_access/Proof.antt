@@ -25,7 +25,7 @@ returns-2 : tie.Need-returns-2
 returns-2 c = law.concluded-settled _ _ _ (c .before .plan2 .given .1) (search needs)
 
 returns-3 : tie.Need-returns-3
-returns-3 c = law.concluded-walk _ _ _ _ (c .before .before .before .before .before .before .before .enum-told .given .1) (c .walked .ensures)
+returns-3 c = law.concluded-walk _ _ _ _ (c .before .before .before .enum-told .given .1) (c .walked .ensures)
 
 pub conclude-access-spec : {M : Type 1} → statement M
 conclude-access-spec =

@@ -22,7 +22,7 @@ bus-fault-requires : tie.Need-bus-fault-requires
 bus-fault-requires c κs = search needs
 
 returns : tie.Need-returns
-returns c = law.end-resident _ _ _ _ _ (c .before .before .before .before .end .given .1) (c .resident .ensures)
+returns c = law.end-resident _ _ _ _ _ (c .before .before .before .end .given .1) (c .resident .ensures)
 
 returns-2 : tie.Need-returns-2
 returns-2 c = law.end-absent _ _ _ _ (c .before .before .end2 .given .1) (c .fault .ensures) (c .before .before .before .before .pre)

@@ -22,16 +22,16 @@ first-refusal-requires : tie.Need-first-refusal-requires
 first-refusal-requires c κs = search needs
 
 returns : tie.Need-returns
-returns c = law.plan-refused _ _ _ _ (law.refusal-is _ _ _ _ _ _ _ _ (c .before .before .before .no-family .ensures) (c .before .before .before .before .before .before .before .bad-override .ensures) (c .before .before .before .before .bad-cache .ensures) (c .before .first-refusal .ensures)) (c .if1 .taken) (search needs)
+returns c = law.plan-refused _ _ _ _ (law.refusal-is _ _ _ _ _ (c .before .before .before .no-family .ensures) (c .before .before .before .before .before .before .bad-override .ensures) (c .before .before .before .before .bad-cache .ensures) (c .before .first-refusal .ensures)) (c .if1 .taken) (search needs)
 
 returns-2 : tie.Need-returns-2
-returns-2 c = law.plan-off _ _ _ _ (law.refusal-is _ _ _ _ _ _ _ _ (c .before .before .before .before .no-family .ensures) (c .before .before .before .before .before .before .before .before .bad-override .ensures) (c .before .before .before .before .before .bad-cache .ensures) (c .before .before .first-refusal .ensures)) (c .before .if1 .left) (c .before .before .before .is-on .ensures) (c .if2 .taken) (search needs)
+returns-2 c = law.plan-off _ _ _ _ (law.refusal-is _ _ _ _ _ (c .before .before .before .before .no-family .ensures) (c .before .before .before .before .before .before .before .bad-override .ensures) (c .before .before .before .before .before .bad-cache .ensures) (c .before .before .first-refusal .ensures)) (c .before .if1 .left) (c .before .before .before .is-on .ensures) (c .if2 .taken) (search needs)
 
 plan-on-requires : tie.Need-plan-on-requires
 plan-on-requires c κs = search needs
 
 returns-3 : tie.Need-returns-3
-returns-3 c = law.plan-goes-on _ _ _ _ _ (law.refusal-is _ _ _ _ _ _ _ _ (c .before .before .before .before .before .before .before .no-family .ensures) (c .before .before .before .before .before .before .before .before .before .before .before .bad-override .ensures) (c .before .before .before .before .before .before .before .before .bad-cache .ensures) (c .before .before .before .before .before .first-refusal .ensures)) (c .before .before .before .before .if1 .left) (c .before .before .before .before .before .before .is-on .ensures) (c .before .before .before .if2 .left) (c .plan-on .ensures)
+returns-3 c = law.plan-goes-on _ _ _ _ _ (law.refusal-is _ _ _ _ _ (c .before .before .before .before .before .before .no-family .ensures) (c .before .before .before .before .before .before .before .before .before .bad-override .ensures) (c .before .before .before .before .before .before .before .bad-cache .ensures) (c .before .before .before .before .first-refusal .ensures)) (c .before .before .before .if1 .left) (c .before .before .before .before .before .is-on .ensures) (c .before .before .if2 .left) (c .plan-on .ensures)
 
 pub plan-access-spec : {M : Type 1} → statement M
 plan-access-spec = tie.close (tie.spec lengths-requires bad-override-requires bad-cache-requires no-family-requires is-on-requires first-refusal-requires returns returns-2 plan-on-requires returns-3)

@@ -22,7 +22,7 @@ plan-030-requires : tie.Need-plan-030-requires
 plan-030-requires c κs = search needs
 
 returns-2 : tie.Need-returns-2
-returns-2 c = law.plan-by-030 _ _ (c .before .before .before .before .before .before .before .before .before .before .pre) (c .before .before .before .before .before .before .before .before .before .compared-code .ensures) (c .before .before .before .before .before .before .before .before .as-instruction .ensures) (c .before .before .before .before .before .before .before .is-transparent .ensures) (c .before .before .before .before .before .before .if1 .left) (c .before .before .before .before .if2 .taken) (c .before .before .before .walk-code .ensures) (c .plan-030 .ensures)
+returns-2 c = law.plan-by-030 _ _ (c .before .before .before .before .before .before .before .before .before .pre) (c .before .before .before .before .before .before .before .before .compared-code .ensures) (c .before .before .before .before .before .before .before .as-instruction .ensures) (c .before .before .before .before .before .before .is-transparent .ensures) (c .before .before .before .before .before .if1 .left) (c .before .before .before .if2 .taken) (c .before .before .walk-code .ensures) (c .plan-030 .ensures)
 
 as-supervisor-requires : tie.Need-as-supervisor-requires
 as-supervisor-requires c κs = search needs

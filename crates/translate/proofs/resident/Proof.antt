@@ -32,7 +32,7 @@ physical-040-requires : tie.Need-physical-040-requires
 physical-040-requires c κs = search needs
 
 returns-3 : tie.Need-returns-3
-returns-3 c = law.resident-in _ _ _ _ _ _ _ (c .before .before .before .before .before .before .before .if1 .left) (c .before .before .before .before .before .before .if2 .left) (c .before .before .before .before .before .page-bits .ensures) (c .before .before .before .before .frame-base .ensures) (c .before .insert-040 .ensures) (c .physical-040 .ensures)
+returns-3 c = law.resident-in _ _ _ _ _ _ _ (c .before .before .before .before .before .before .if1 .left) (c .before .before .before .before .before .if2 .left) (c .before .before .before .before .page-bits .ensures) (c .before .before .before .frame-base .ensures) (c .before .insert-040 .ensures) (c .physical-040 .ensures)
 
 pub resident-spec : {M : Type 1} → statement M
 resident-spec =

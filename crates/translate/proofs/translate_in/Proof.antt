@@ -25,13 +25,13 @@ walked-requires : tie.Need-walked-requires
 walked-requires c κs = search needs
 
 returns : tie.Need-returns
-returns c = λ h. law.in-refused _ _ _ _ (c .before .before .before .before .before .before .before .before .before .before .bad-base .ensures) h (c .before .before .before .plan-access .ensures) (c .before .plan .given .1)
+returns c = λ h. law.in-refused _ _ _ _ (c .before .before .before .before .before .before .bad-base .ensures) h (c .before .before .before .plan-access .ensures) (c .before .plan .given .1)
 
 returns-2 : tie.Need-returns-2
-returns-2 c = λ h. law.in-settled _ _ _ _ (c .before .before .before .before .before .before .before .before .before .before .bad-base .ensures) h (c .before .before .before .plan-access .ensures) (c .before .plan2 .given .1)
+returns-2 c = λ h. law.in-settled _ _ _ _ (c .before .before .before .before .before .before .bad-base .ensures) h (c .before .before .before .plan-access .ensures) (c .before .plan2 .given .1)
 
 returns-3 : tie.Need-returns-3
-returns-3 c = λ h. law.in-walked _ _ _ _ (c .before .before .before .before .before .before .before .before .before .before .before .before .before .before .before .before .before .before .bad-base .ensures) h (c .before .before .before .before .before .before .before .before .before .before .before .plan-access .ensures) (c .before .before .before .before .before .before .before .before .before .plan3 .given .1) (c .before .before .before .before .before .before .before .walk-kept .ensures) (c .walked .ensures)
+returns-3 c = λ h. law.in-walked _ _ _ _ (c .before .before .before .before .before .before .before .before .before .before .bad-base .ensures) h (c .before .before .before .before .before .before .before .plan-access .ensures) (c .before .before .before .before .before .plan3 .given .1) (c .before .before .before .walk-kept .ensures) (c .walked .ensures)
 
 pub translate-in-spec : {M : Type 1} → statement M
 translate-in-spec =

@@ -28,10 +28,10 @@ returns : tie.Need-returns
 returns c = law.walked-idle _ _ (c .before .before .pre) (c .enum-told .given .1)
 
 returns-2 : tie.Need-returns-2
-returns-2 c = law.walked-030 _ _ (c .before .before .before .before .before .before .before .before .before .pre) (c .before .before .before .before .before .before .before .walks .given .1) (c .before .before .before .before .before .walk-code .ensures) (c .end-030 .ensures)
+returns-2 c = law.walked-030 _ _ (c .before .before .before .before .before .before .pre) (c .before .before .before .before .walks .given .1) (c .before .before .walk-code .ensures) (c .end-030 .ensures)
 
 returns-3 : tie.Need-returns-3
-returns-3 c = law.walked-040 _ _ (c .before .before .before .before .before .before .before .pre) (c .before .before .before .before .before .walks2 .given .1) (c .before .before .before .as-supervisor .ensures) (c .end-040 .ensures)
+returns-3 c = law.walked-040 _ _ (c .before .before .before .before .before .before .pre) (c .before .before .before .before .walks2 .given .1) (c .before .before .as-supervisor .ensures) (c .end-040 .ensures)
 
 pub walked-spec : {M : Type 1} → statement M
 walked-spec =

@@ -4,8 +4,8 @@ use Rattle.cache.specs.Atc030.{cacheOf}
 use Rattle.cache.proofs.atc030.bad_cache.Statement.{statement}
 use Rattle.cache.proofs.atc030.bad_cache.Tie as tie
 
-lengths-requires : tie.Need-lengths-requires
-lengths-requires c κs = search needs
+sized-requires : tie.Need-sized-requires
+sized-requires c κs = search needs
 
 element-copy-out-if1 : tie.Need-element-copy-out-if1
 element-copy-out-if1 c = search needs
@@ -24,4 +24,4 @@ returns-2 c = rw (le-ltb _ _ (c .before .if1 .left))
 pub bad-cache-spec : {M : Type 1} → statement M
 bad-cache-spec =
     tie.close
-    (tie.spec lengths-requires element-copy-out-if1 element-copy-out-result returns returns-2)
+    (tie.spec sized-requires element-copy-out-if1 element-copy-out-result returns returns-2)

@@ -1,7 +1,7 @@
 use mathlib.Core.Path.{_∙_}
 use native.Mathlib.Omega.{arith}
 use Rattle.cache.proofs.Laws030.{has-next}
-use Rattle.cache.specs.Atc030.{usedStamps, usedMarks}
+use Rattle.cache.specs.Atc030.{usedStamps}
 use borrow.Author.Needs.{needs}
 use Rattle.cache.proofs.atc030.stamp.Statement.{statement}
 use Rattle.cache.proofs.atc030.stamp.Tie as tie
@@ -13,16 +13,14 @@ word-requires : tie.Need-word-requires
 word-requires c κs = search needs
 
 add-put : tie.Need-add-put
-add-put c = omega (arith, has-next (c .before .before .word .ensures .0) (c .before .before .word .ensures .1) (c .before .before .before .before .pre .3))
+add-put c = omega (arith, has-next (c .before .word .ensures .0) (c .before .word .ensures .1) (c .before .before .before .pre .2))
 
 put-requires : tie.Need-put-requires
 put-requires c κs = search needs
 
 returns : tie.Need-returns
-unfolding usedStamps usedMarks
-returns c =
-    let clock = c .before .before .before .word .ensures .0 in
-    rw (c .before .before .before .before .before .pre .3) (c .put .ensures .0 ∙ rw clock, c .put .ensures .1 ∙ rw clock)
+unfolding usedStamps
+returns c = rw (c .before .before .before .before .pre .2, ← c .before .before .word .ensures .0) (c .put .ensures)
 
 pub stamp-spec : {M : Type 1} → statement M
 stamp-spec = tie.close (tie.spec element-copy-out-word word-requires add-put put-requires returns)

@@ -8,7 +8,7 @@ conclude-load-requires : tie.Need-conclude-load-requires
 conclude-load-requires c κs = search needs
 
 returns : tie.Need-returns
-returns c = (c .conclude-load .ensures, record { keys = refl; bases = refl; sized040 = record { keys = length-unmapped ℕ (c .before .before .before .before .before .before .before .before .before .before .before .before .args .p .caches .keys) _ (c .before .before .before .before .before .before .before .before .before .before .before .before .good .1 .1 .1 .1 .0 .1 .1 .1 .0 .1 .1 .1 .1 .1 .1 .0 .1 .0 .1); bases = length-unmapped ℕ (c .before .before .before .before .before .before .before .before .before .before .before .before .args .p .caches .bases) _ (c .before .before .before .before .before .before .before .before .before .before .before .before .good .1 .1 .1 .1 .0 .1 .1 .1 .0 .1 .1 .1 .1 .1 .1 .1 .0 .1 .0 .1) } })
+returns c = (c .conclude-load .ensures, record { same = refl; sized040 = search needs })
 
 pub concluded-load-spec : {M : Type 1} → statement M
 concluded-load-spec = tie.close (tie.spec conclude-load-requires returns)

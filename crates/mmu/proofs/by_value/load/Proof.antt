@@ -163,8 +163,8 @@ module _ {M : Type 1} (𝓤 : URA M) (H : Heap 𝓤) (A : Atoms 𝓤) (W : Given
   goes-2 a0 v0 a1 v1 a2 v2 a3 v3 a4 v4 a5 v5 i0 i1 i2 i3 i4 i5 =
       qed W ([]) ∵ nothing ! $ owned ! row-CachePair.the-row (Is row-CachePair.the-row) (LL.makes row-CachePair.the-type law-CachePair.the-plain 𝓤 H A) a5 _ i5 $ fjoin ! $ owned ! u32 (Is u32) (uint-makes 𝓤 H A W w32) a4 _ i4 $ fjoin ! $ owned ! u32 (Is u32) (uint-makes 𝓤 H A W w32) a3 _ i3 $ fjoin ! $ owned ! row-Registers.the-row (Is row-Registers.the-row) (LL.makes row-Registers.the-type law-Registers.the-plain 𝓤 H A) a2 _ i2 $ fjoin ! $ owned ! Boolean (Is Boolean) (bool-makes 𝓤 H A W) a1 _ i1 $ fjoin ! $ owned ! Boolean (Is Boolean) (bool-makes 𝓤 H A W) a0 _ i0 $ fjoin ! $ nothing ! $ join ! $ frame ! $ done !
 
-  said-2 : (a0 : Bool) (a1 : Bool) (a2 : Registers) (a3 : ℕ) (a4 : ℕ) (a5 : CachePair) (r : PlannedPair) → ent 𝓤 (ensured 𝓤 H A c2.ended (c2.clauses 𝓤 H A mem run) tt (a0, (a1, (a2, (a3, (a4, (a5, tt)))))) tt r) (fact 𝓤 (PlannedIn030 (planLoad a2 a3 a4 a0 a1 (pairOf a5 .c030)) (r .plan) (r .caches .tags) (r .caches .pages) (r .caches .stamps) (r .caches .marks) × Beside a5 (r .caches)))
-  said-2 a0 a1 a2 a3 a4 a5 r = exE 𝓤 _ (λ ws. snd∗ 𝓤 (sem 𝓤 H A (lasts c2.ended tt (a0, (a1, (a2, (a3, (a4, (a5, tt)))))) ws)) (fact 𝓤 (PlannedIn030 (planLoad a2 a3 a4 a0 a1 (pairOf a5 .c030)) (r .plan) (r .caches .tags) (r .caches .pages) (r .caches .stamps) (r .caches .marks) × Beside a5 (r .caches))))
+  said-2 : (a0 : Bool) (a1 : Bool) (a2 : Registers) (a3 : ℕ) (a4 : ℕ) (a5 : CachePair) (r : PlannedPair) → ent 𝓤 (ensured 𝓤 H A c2.ended (c2.clauses 𝓤 H A mem run) tt (a0, (a1, (a2, (a3, (a4, (a5, tt)))))) tt r) (fact 𝓤 (PlannedIn030 (planLoad a2 a3 a4 a0 a1 (pairOf a5 .c030)) (r .plan) (r .caches .c030) × Beside a5 (r .caches)))
+  said-2 a0 a1 a2 a3 a4 a5 r = exE 𝓤 _ (λ ws. snd∗ 𝓤 (sem 𝓤 H A (lasts c2.ended tt (a0, (a1, (a2, (a3, (a4, (a5, tt)))))) ws)) (fact 𝓤 (PlannedIn030 (planLoad a2 a3 a4 a0 a1 (pairOf a5 .c030)) (r .plan) (r .caches .c030) × Beside a5 (r .caches))))
 
   -- the call of `by_value.wanted`: what it is passed, what it asks, and what is known of its result
   abbrev to-3 : (a0 : PlannedPair) (v0 : Val) → C3 𝓤 H A mem run .Ghost
@@ -196,8 +196,8 @@ module _ {M : Type 1} (𝓤 : URA M) (H : Heap 𝓤) (A : Atoms 𝓤) (W : Given
   goes-5 a0 v0 a1 v1 a2 v2 a3 v3 a4 v4 a5 v5 i0 i1 i2 i3 i4 i5 =
       qed W ([]) ∵ nothing ! $ owned ! row-Walks.the-row (Is row-Walks.the-row) (EL.makes row-Walks.the-type law-Walks.the-plain 𝓤 H A) a5 _ i5 $ fjoin ! $ owned ! row-PlannedPair.the-row (Is row-PlannedPair.the-row) (LL.makes row-PlannedPair.the-type law-PlannedPair.the-plain 𝓤 H A) a4 _ i4 $ fjoin ! $ owned ! u32 (Is u32) (uint-makes 𝓤 H A W w32) a3 _ i3 $ fjoin ! $ owned ! Boolean (Is Boolean) (bool-makes 𝓤 H A W) a2 _ i2 $ fjoin ! $ owned ! u32 (Is u32) (uint-makes 𝓤 H A W w32) a1 _ i1 $ fjoin ! $ owned ! row-Registers.the-row (Is row-Registers.the-row) (LL.makes row-Registers.the-type law-Registers.the-plain 𝓤 H A) a0 _ i0 $ fjoin ! $ nothing ! $ join ! $ frame ! $ done !
 
-  said-5 : (a0 : Registers) (a1 : ℕ) (a2 : Bool) (a3 : ℕ) (a4 : PlannedPair) (a5 : Walks) (r : Loaded) → ent 𝓤 (ensured 𝓤 H A c5.ended (c5.clauses 𝓤 H A mem run) tt (a0, (a1, (a2, (a3, (a4, (a5, tt)))))) tt r) (fact 𝓤 (LoadedIn (concludeLoad (a0 .tc) (a1 % 8) a3 a2 (pairOf (a4 .caches) .c030) (a4 .plan) a5) (r .answer) (r .count) (r .caches .tags) (r .caches .pages) (r .caches .stamps) (r .caches .marks) × Beside (a4 .caches) (r .caches)))
-  said-5 a0 a1 a2 a3 a4 a5 r = exE 𝓤 _ (λ ws. snd∗ 𝓤 (sem 𝓤 H A (lasts c5.ended tt (a0, (a1, (a2, (a3, (a4, (a5, tt)))))) ws)) (fact 𝓤 (LoadedIn (concludeLoad (a0 .tc) (a1 % 8) a3 a2 (pairOf (a4 .caches) .c030) (a4 .plan) a5) (r .answer) (r .count) (r .caches .tags) (r .caches .pages) (r .caches .stamps) (r .caches .marks) × Beside (a4 .caches) (r .caches))))
+  said-5 : (a0 : Registers) (a1 : ℕ) (a2 : Bool) (a3 : ℕ) (a4 : PlannedPair) (a5 : Walks) (r : Loaded) → ent 𝓤 (ensured 𝓤 H A c5.ended (c5.clauses 𝓤 H A mem run) tt (a0, (a1, (a2, (a3, (a4, (a5, tt)))))) tt r) (fact 𝓤 (LoadedIn (concludeLoad (a0 .tc) (a1 % 8) a3 a2 (pairOf (a4 .caches) .c030) (a4 .plan) a5) (r .answer) (r .count) (r .caches .c030) × Beside (a4 .caches) (r .caches)))
+  said-5 a0 a1 a2 a3 a4 a5 r = exE 𝓤 _ (λ ws. snd∗ 𝓤 (sem 𝓤 H A (lasts c5.ended tt (a0, (a1, (a2, (a3, (a4, (a5, tt)))))) ws)) (fact 𝓤 (LoadedIn (concludeLoad (a0 .tc) (a1 % 8) a3 a2 (pairOf (a4 .caches) .c030) (a4 .plan) a5) (r .answer) (r .count) (r .caches .c030) × Beside (a4 .caches) (r .caches))))
 
   module _ (𝓣 : Tables 𝓤 H) (known-0 : Triple 𝓤 (𝓣 .C #plan·checks·bad-longs) (C0 𝓤 H A mem run)) (known-1 : Triple 𝓤 (𝓣 .C #tables·any-crossed) (C1 𝓤 H A mem run)) (known-2 : Triple 𝓤 (𝓣 .C #mmu·by-value·planned-load) (C2 𝓤 H A mem run)) (known-3 : Triple 𝓤 (𝓣 .C #mmu·by-value·wanted) (C3 𝓤 H A mem run)) (known-4 : Triple 𝓤 (𝓣 .C #tables·walk-for) (C4 𝓤 H A mem run)) (known-5 : Triple 𝓤 (𝓣 .C #mmu·by-value·concluded-load) (C5 𝓤 H A mem run)) where
     abbrev C : Calls 𝓤 H
@@ -234,7 +234,7 @@ module _ {M : Type 1} (𝓤 : URA M) (H : Heap 𝓤) (A : Atoms 𝓤) (W : Given
         rewrite ! 10 (λ (u : Val). ‵ (fat fullShare tyBool l10 0 u)) (ap only (bool-tells r6 _ is8)) refl $
         use0 W (raw (C2 𝓤 H A mem run .pre (to-2 r2 (vbool r2) r6 (vbool r6) x4 (LL.val row-Registers.the-type law-Registers.the-laws x4) x5 (vint w32 x5) x7 (vint w32 x7) x8 (LL.val row-CachePair.the-type law-CachePair.the-laws x8)))) (goes-2 r2 (vbool r2) r6 (vbool r6) x4 (LL.val row-Registers.the-type law-Registers.the-laws x4) x5 (vint w32 x5) x7 (vint w32 x7) x8 (LL.val row-CachePair.the-type law-CachePair.the-laws x8) (subst (Is Boolean r2) (bool-tells r2 _ is4) is4) (subst (Is Boolean r6) (bool-tells r6 _ is8) is8) i4 i5 i7 i8) $
         calls-at ! fm (C2 𝓤 H A mem run) known-2 (to-2 r2 (vbool r2) r6 (vbool r6) x4 (LL.val row-Registers.the-type law-Registers.the-laws x4) x5 (vint w32 x5) x7 (vint w32 x7) x8 (LL.val row-CachePair.the-type law-CachePair.the-laws x8)) (and-then ! (load ! (from ! (stop !)) (look ! 13 refl)) (and-then ! (load ! (from ! (stop !)) (look ! 11 refl)) (and-then ! (load ! (from ! (stop !)) (look ! 23 refl)) (and-then ! (load ! (from ! (stop !)) (look ! 21 refl)) (and-then ! (load ! (from ! (stop !)) (look ! 17 refl)) (and-then ! (load ! (from ! (stop !)) (look ! 15 refl)) (no-more !))))))) (λ u9.
-        use1 W (later (some (λ (r : PlannedPair). (‵ ftrue ⊛ ‵ (row-PlannedPair.the-row .own r (u9 ∷ []))) ⊛ raw (ensured 𝓤 H A c2.ended (c2.clauses 𝓤 H A mem run) tt (r2, (r6, (x4, (x5, (x7, (x8, tt)))))) tt r)))) (id⊢ 𝓤 _) $ await ! tt $ choose ! (λ r10. split ! $ move ! (1 ∷ []) $ use1 W (raw (fact 𝓤 (PlannedIn030 (planLoad x4 x5 x7 r2 r6 (pairOf x8 .c030)) (r10 .plan) (r10 .caches .tags) (r10 .caches .pages) (r10 .caches .stamps) (r10 .caches .marks) × Beside x8 (r10 .caches)))) (said-2 r2 r6 x4 x5 x7 x8 r10) $ heard ! (PlannedIn030 (planLoad x4 x5 x7 r2 r6 (pairOf x8 .c030)) (r10 .plan) (r10 .caches .tags) (r10 .caches .pages) (r10 .caches .stamps) (r10 .caches .marks) × Beside x8 (r10 .caches)) (λ e11. split ! $
+        use1 W (later (some (λ (r : PlannedPair). (‵ ftrue ⊛ ‵ (row-PlannedPair.the-row .own r (u9 ∷ []))) ⊛ raw (ensured 𝓤 H A c2.ended (c2.clauses 𝓤 H A mem run) tt (r2, (r6, (x4, (x5, (x7, (x8, tt)))))) tt r)))) (id⊢ 𝓤 _) $ await ! tt $ choose ! (λ r10. split ! $ move ! (1 ∷ []) $ use1 W (raw (fact 𝓤 (PlannedIn030 (planLoad x4 x5 x7 r2 r6 (pairOf x8 .c030)) (r10 .plan) (r10 .caches .c030) × Beside x8 (r10 .caches)))) (said-2 r2 r6 x4 x5 x7 x8 r10) $ heard ! (PlannedIn030 (planLoad x4 x5 x7 r2 r6 (pairOf x8 .c030)) (r10 .plan) (r10 .caches .c030) × Beside x8 (r10 .caches)) (λ e11. split ! $
         drop ! $
         facts ! row-PlannedPair.the-row (Is row-PlannedPair.the-row) (shows 𝓤 H A row-PlannedPair.the-row) r10 (u9 ∷ []) (λ is12. land ! (from ! (stop !)) (init ! 8 refl (LL.lawful row-PlannedPair.the-type law-PlannedPair.the-laws 𝓤 H A W .typed r10 _ is12 .0)) $
         rewrite ! 8 (λ (u : Val). ‵ (fat fullShare law-PlannedPair.mir l11 0 u)) (ap only (LL.tells row-PlannedPair.the-type law-PlannedPair.the-laws r10 _ is12)) refl $
@@ -256,7 +256,7 @@ module _ {M : Type 1} (𝓤 : URA M) (H : Heap 𝓤) (A : Atoms 𝓤) (W : Given
         rewrite ! 4 (λ (u : Val). ‵ (fat fullShare law-Walks.mir l13 0 u)) (ap only (EL.tells row-Walks.the-type law-Walks.the-laws r18 _ is20)) refl $
         use0 W (raw (C5 𝓤 H A mem run .pre (to-5 x4 (LL.val row-Registers.the-type law-Registers.the-laws x4) x5 (vint w32 x5) x6 (vbool x6) x7 (vint w32 x7) r10 (LL.val row-PlannedPair.the-type law-PlannedPair.the-laws r10) r18 (EL.val row-Walks.the-type law-Walks.the-laws r18)))) (goes-5 x4 (LL.val row-Registers.the-type law-Registers.the-laws x4) x5 (vint w32 x5) x6 (vbool x6) x7 (vint w32 x7) r10 (LL.val row-PlannedPair.the-type law-PlannedPair.the-laws r10) r18 (EL.val row-Walks.the-type law-Walks.the-laws r18) i4 i5 i6 i7 (subst (Is row-PlannedPair.the-row r10) (LL.tells row-PlannedPair.the-type law-PlannedPair.the-laws r10 _ is12) is12) (subst (Is row-Walks.the-row r18) (EL.tells row-Walks.the-type law-Walks.the-laws r18 _ is20) is20)) $
         calls-at ! fm (C5 𝓤 H A mem run) known-5 (to-5 x4 (LL.val row-Registers.the-type law-Registers.the-laws x4) x5 (vint w32 x5) x6 (vbool x6) x7 (vint w32 x7) r10 (LL.val row-PlannedPair.the-type law-PlannedPair.the-laws r10) r18 (EL.val row-Walks.the-type law-Walks.the-laws r18)) (and-then ! (load ! (from ! (stop !)) (look ! 23 refl)) (and-then ! (load ! (from ! (stop !)) (look ! 21 refl)) (and-then ! (load ! (from ! (stop !)) (look ! 19 refl)) (and-then ! (load ! (from ! (stop !)) (look ! 17 refl)) (and-then ! (load ! (from ! (stop !)) (look ! 9 refl)) (and-then ! (load ! (from ! (stop !)) (look ! 5 refl)) (no-more !))))))) (λ u21.
-        use1 W (later (some (λ (r : Loaded). (‵ ftrue ⊛ ‵ (row-Loaded.the-row .own r (u21 ∷ []))) ⊛ raw (ensured 𝓤 H A c5.ended (c5.clauses 𝓤 H A mem run) tt (x4, (x5, (x6, (x7, (r10, (r18, tt)))))) tt r)))) (id⊢ 𝓤 _) $ await ! tt $ choose ! (λ r22. split ! $ move ! (1 ∷ []) $ use1 W (raw (fact 𝓤 (LoadedIn (concludeLoad (x4 .tc) (x5 % 8) x7 x6 (pairOf (r10 .caches) .c030) (r10 .plan) r18) (r22 .answer) (r22 .count) (r22 .caches .tags) (r22 .caches .pages) (r22 .caches .stamps) (r22 .caches .marks) × Beside (r10 .caches) (r22 .caches)))) (said-5 x4 x5 x6 x7 r10 r18 r22) $ heard ! (LoadedIn (concludeLoad (x4 .tc) (x5 % 8) x7 x6 (pairOf (r10 .caches) .c030) (r10 .plan) r18) (r22 .answer) (r22 .count) (r22 .caches .tags) (r22 .caches .pages) (r22 .caches .stamps) (r22 .caches .marks) × Beside (r10 .caches) (r22 .caches)) (λ e23. split ! $
+        use1 W (later (some (λ (r : Loaded). (‵ ftrue ⊛ ‵ (row-Loaded.the-row .own r (u21 ∷ []))) ⊛ raw (ensured 𝓤 H A c5.ended (c5.clauses 𝓤 H A mem run) tt (x4, (x5, (x6, (x7, (r10, (r18, tt)))))) tt r)))) (id⊢ 𝓤 _) $ await ! tt $ choose ! (λ r22. split ! $ move ! (1 ∷ []) $ use1 W (raw (fact 𝓤 (LoadedIn (concludeLoad (x4 .tc) (x5 % 8) x7 x6 (pairOf (r10 .caches) .c030) (r10 .plan) r18) (r22 .answer) (r22 .count) (r22 .caches .c030) × Beside (r10 .caches) (r22 .caches)))) (said-5 x4 x5 x6 x7 r10 r18 r22) $ heard ! (LoadedIn (concludeLoad (x4 .tc) (x5 % 8) x7 x6 (pairOf (r10 .caches) .c030) (r10 .plan) r18) (r22 .answer) (r22 .count) (r22 .caches .c030) × Beside (r10 .caches) (r22 .caches)) (λ e23. split ! $
         drop ! $
         facts ! row-Loaded.the-row (Is row-Loaded.the-row) (shows 𝓤 H A row-Loaded.the-row) r22 (u21 ∷ []) (λ is24. land ! (from ! (stop !)) (init ! 30 refl (LL.lawful row-Loaded.the-type law-Loaded.the-laws 𝓤 H A W .typed r22 _ is24 .0)) $
         rewrite ! 30 (λ (u : Val). ‵ (fat fullShare law-Loaded.mir l0 0 u)) (ap only (LL.tells row-Loaded.the-type law-Loaded.the-laws r22 _ is24)) refl $

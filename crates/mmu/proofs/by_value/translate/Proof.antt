@@ -173,8 +173,8 @@ module _ {M : Type 1} (𝓤 : URA M) (H : Heap 𝓤) (A : Atoms 𝓤) (W : Given
   goes-2 a0 v0 a1 v1 a2 v2 a3 v3 a4 v4 i0 i1 i2 i3 i4 =
       qed W ([]) ∵ nothing ! $ owned ! row-CachePair.the-row (Is row-CachePair.the-row) (LL.makes row-CachePair.the-type law-CachePair.the-plain 𝓤 H A) a4 _ i4 $ fjoin ! $ owned ! row-Access.the-row (Is row-Access.the-row) (LL.makes row-Access.the-type law-Access.the-plain 𝓤 H A) a3 _ i3 $ fjoin ! $ owned ! row-Registers.the-row (Is row-Registers.the-row) (LL.makes row-Registers.the-type law-Registers.the-plain 𝓤 H A) a2 _ i2 $ fjoin ! $ owned ! Boolean (Is Boolean) (bool-makes 𝓤 H A W) a1 _ i1 $ fjoin ! $ owned ! Boolean (Is Boolean) (bool-makes 𝓤 H A W) a0 _ i0 $ fjoin ! $ nothing ! $ join ! $ frame ! $ done !
 
-  said-2 : (a0 : Bool) (a1 : Bool) (a2 : Registers) (a3 : Access) (a4 : CachePair) (r : PlannedPair) → ent 𝓤 (ensured 𝓤 H A c2.ended (c2.clauses 𝓤 H A mem run) tt (a0, (a1, (a2, (a3, (a4, tt))))) tt r) (fact 𝓤 (PlannedIn (planAccess a2 a3 a0 a1 (pairOf a4)) (r .plan) (r .caches .tags) (r .caches .pages) (r .caches .stamps) (r .caches .marks) (r .caches .keys) (r .caches .bases)))
-  said-2 a0 a1 a2 a3 a4 r = exE 𝓤 _ (λ ws. snd∗ 𝓤 (sem 𝓤 H A (lasts c2.ended tt (a0, (a1, (a2, (a3, (a4, tt))))) ws)) (fact 𝓤 (PlannedIn (planAccess a2 a3 a0 a1 (pairOf a4)) (r .plan) (r .caches .tags) (r .caches .pages) (r .caches .stamps) (r .caches .marks) (r .caches .keys) (r .caches .bases))))
+  said-2 : (a0 : Bool) (a1 : Bool) (a2 : Registers) (a3 : Access) (a4 : CachePair) (r : PlannedPair) → ent 𝓤 (ensured 𝓤 H A c2.ended (c2.clauses 𝓤 H A mem run) tt (a0, (a1, (a2, (a3, (a4, tt))))) tt r) (fact 𝓤 (PlannedIn (planAccess a2 a3 a0 a1 (pairOf a4)) (r .plan) (r .caches .c030) (r .caches .c040)))
+  said-2 a0 a1 a2 a3 a4 r = exE 𝓤 _ (λ ws. snd∗ 𝓤 (sem 𝓤 H A (lasts c2.ended tt (a0, (a1, (a2, (a3, (a4, tt))))) ws)) (fact 𝓤 (PlannedIn (planAccess a2 a3 a0 a1 (pairOf a4)) (r .plan) (r .caches .c030) (r .caches .c040))))
 
   -- the call of `by_value.address_of`: what it is passed, what it asks, and what is known of its result
   abbrev to-3 : (a0 : Access) (v0 : Val) → C3 𝓤 H A mem run .Ghost
@@ -217,8 +217,8 @@ module _ {M : Type 1} (𝓤 : URA M) (H : Heap 𝓤) (A : Atoms 𝓤) (W : Given
   goes-6 a0 v0 a1 v1 a2 v2 a3 v3 i0 i1 i2 i3 =
       qed W ([]) ∵ nothing ! $ owned ! row-Walks.the-row (Is row-Walks.the-row) (EL.makes row-Walks.the-type law-Walks.the-plain 𝓤 H A) a3 _ i3 $ fjoin ! $ owned ! row-PlannedPair.the-row (Is row-PlannedPair.the-row) (LL.makes row-PlannedPair.the-type law-PlannedPair.the-plain 𝓤 H A) a2 _ i2 $ fjoin ! $ owned ! row-Access.the-row (Is row-Access.the-row) (LL.makes row-Access.the-type law-Access.the-plain 𝓤 H A) a1 _ i1 $ fjoin ! $ owned ! row-Registers.the-row (Is row-Registers.the-row) (LL.makes row-Registers.the-type law-Registers.the-plain 𝓤 H A) a0 _ i0 $ fjoin ! $ nothing ! $ join ! $ frame ! $ done !
 
-  said-6 : (a0 : Registers) (a1 : Access) (a2 : PlannedPair) (a3 : Walks) (r : Translated) → ent 𝓤 (ensured 𝓤 H A c6.ended (c6.clauses 𝓤 H A mem run) tt (a0, (a1, (a2, (a3, tt)))) tt r) (fact 𝓤 (AnsweredIn (concludeAccess a0 a1 (pairOf (a2 .caches)) (a2 .plan) a3) (r .answer) (r .count) (r .caches .tags) (r .caches .pages) (r .caches .stamps) (r .caches .marks) (r .caches .keys) (r .caches .bases)))
-  said-6 a0 a1 a2 a3 r = exE 𝓤 _ (λ ws. snd∗ 𝓤 (sem 𝓤 H A (lasts c6.ended tt (a0, (a1, (a2, (a3, tt)))) ws)) (fact 𝓤 (AnsweredIn (concludeAccess a0 a1 (pairOf (a2 .caches)) (a2 .plan) a3) (r .answer) (r .count) (r .caches .tags) (r .caches .pages) (r .caches .stamps) (r .caches .marks) (r .caches .keys) (r .caches .bases))))
+  said-6 : (a0 : Registers) (a1 : Access) (a2 : PlannedPair) (a3 : Walks) (r : Translated) → ent 𝓤 (ensured 𝓤 H A c6.ended (c6.clauses 𝓤 H A mem run) tt (a0, (a1, (a2, (a3, tt)))) tt r) (fact 𝓤 (AnsweredIn (concludeAccess a0 a1 (pairOf (a2 .caches)) (a2 .plan) a3) (r .answer) (r .count) (r .caches .c030) (r .caches .c040)))
+  said-6 a0 a1 a2 a3 r = exE 𝓤 _ (λ ws. snd∗ 𝓤 (sem 𝓤 H A (lasts c6.ended tt (a0, (a1, (a2, (a3, tt)))) ws)) (fact 𝓤 (AnsweredIn (concludeAccess a0 a1 (pairOf (a2 .caches)) (a2 .plan) a3) (r .answer) (r .count) (r .caches .c030) (r .caches .c040))))
 
   module _ (𝓣 : Tables 𝓤 H) (known-0 : Triple 𝓤 (𝓣 .C #plan·checks·bad-longs) (C0 𝓤 H A mem run)) (known-1 : Triple 𝓤 (𝓣 .C #tables·any-crossed) (C1 𝓤 H A mem run)) (known-2 : Triple 𝓤 (𝓣 .C #mmu·by-value·planned) (C2 𝓤 H A mem run)) (known-3 : Triple 𝓤 (𝓣 .C #mmu·by-value·address-of) (C3 𝓤 H A mem run)) (known-4 : Triple 𝓤 (𝓣 .C #mmu·by-value·wanted) (C4 𝓤 H A mem run)) (known-5 : Triple 𝓤 (𝓣 .C #tables·walk-for) (C5 𝓤 H A mem run)) (known-6 : Triple 𝓤 (𝓣 .C #mmu·by-value·concluded) (C6 𝓤 H A mem run)) where
     abbrev C : Calls 𝓤 H
@@ -255,7 +255,7 @@ module _ {M : Type 1} (𝓤 : URA M) (H : Heap 𝓤) (A : Atoms 𝓤) (W : Given
         rewrite ! 12 (λ (u : Val). ‵ (fat fullShare tyBool l8 0 u)) (ap only (bool-tells r6 _ is8)) refl $
         use0 W (raw (C2 𝓤 H A mem run .pre (to-2 r2 (vbool r2) r6 (vbool r6) x4 (LL.val row-Registers.the-type law-Registers.the-laws x4) x5 (LL.val row-Access.the-type law-Access.the-laws x5) x6 (LL.val row-CachePair.the-type law-CachePair.the-laws x6)))) (goes-2 r2 (vbool r2) r6 (vbool r6) x4 (LL.val row-Registers.the-type law-Registers.the-laws x4) x5 (LL.val row-Access.the-type law-Access.the-laws x5) x6 (LL.val row-CachePair.the-type law-CachePair.the-laws x6) (subst (Is Boolean r2) (bool-tells r2 _ is4) is4) (subst (Is Boolean r6) (bool-tells r6 _ is8) is8) i4 i5 i6) $
         calls-at ! fm (C2 𝓤 H A mem run) known-2 (to-2 r2 (vbool r2) r6 (vbool r6) x4 (LL.val row-Registers.the-type law-Registers.the-laws x4) x5 (LL.val row-Access.the-type law-Access.the-laws x5) x6 (LL.val row-CachePair.the-type law-CachePair.the-laws x6)) (and-then ! (load ! (from ! (stop !)) (look ! 15 refl)) (and-then ! (load ! (from ! (stop !)) (look ! 13 refl)) (and-then ! (load ! (from ! (stop !)) (look ! 21 refl)) (and-then ! (load ! (from ! (stop !)) (look ! 19 refl)) (and-then ! (load ! (from ! (stop !)) (look ! 17 refl)) (no-more !)))))) (λ u9.
-        use1 W (later (some (λ (r : PlannedPair). (‵ ftrue ⊛ ‵ (row-PlannedPair.the-row .own r (u9 ∷ []))) ⊛ raw (ensured 𝓤 H A c2.ended (c2.clauses 𝓤 H A mem run) tt (r2, (r6, (x4, (x5, (x6, tt))))) tt r)))) (id⊢ 𝓤 _) $ await ! tt $ choose ! (λ r10. split ! $ move ! (1 ∷ []) $ use1 W (raw (fact 𝓤 (PlannedIn (planAccess x4 x5 r2 r6 (pairOf x6)) (r10 .plan) (r10 .caches .tags) (r10 .caches .pages) (r10 .caches .stamps) (r10 .caches .marks) (r10 .caches .keys) (r10 .caches .bases)))) (said-2 r2 r6 x4 x5 x6 r10) $ heard ! (PlannedIn (planAccess x4 x5 r2 r6 (pairOf x6)) (r10 .plan) (r10 .caches .tags) (r10 .caches .pages) (r10 .caches .stamps) (r10 .caches .marks) (r10 .caches .keys) (r10 .caches .bases)) (λ e11. split ! $
+        use1 W (later (some (λ (r : PlannedPair). (‵ ftrue ⊛ ‵ (row-PlannedPair.the-row .own r (u9 ∷ []))) ⊛ raw (ensured 𝓤 H A c2.ended (c2.clauses 𝓤 H A mem run) tt (r2, (r6, (x4, (x5, (x6, tt))))) tt r)))) (id⊢ 𝓤 _) $ await ! tt $ choose ! (λ r10. split ! $ move ! (1 ∷ []) $ use1 W (raw (fact 𝓤 (PlannedIn (planAccess x4 x5 r2 r6 (pairOf x6)) (r10 .plan) (r10 .caches .c030) (r10 .caches .c040)))) (said-2 r2 r6 x4 x5 x6 r10) $ heard ! (PlannedIn (planAccess x4 x5 r2 r6 (pairOf x6)) (r10 .plan) (r10 .caches .c030) (r10 .caches .c040)) (λ e11. split ! $
         drop ! $
         facts ! row-PlannedPair.the-row (Is row-PlannedPair.the-row) (shows 𝓤 H A row-PlannedPair.the-row) r10 (u9 ∷ []) (λ is12. land ! (from ! (stop !)) (init ! 10 refl (LL.lawful row-PlannedPair.the-type law-PlannedPair.the-laws 𝓤 H A W .typed r10 _ is12 .0)) $
         rewrite ! 10 (λ (u : Val). ‵ (fat fullShare law-PlannedPair.mir l9 0 u)) (ap only (LL.tells row-PlannedPair.the-type law-PlannedPair.the-laws r10 _ is12)) refl $
@@ -282,7 +282,7 @@ module _ {M : Type 1} (𝓤 : URA M) (H : Heap 𝓤) (A : Atoms 𝓤) (W : Given
         rewrite ! 4 (λ (u : Val). ‵ (fat fullShare law-Walks.mir l12 0 u)) (ap only (EL.tells row-Walks.the-type law-Walks.the-laws r22 _ is24)) refl $
         use0 W (raw (C6 𝓤 H A mem run .pre (to-6 x4 (LL.val row-Registers.the-type law-Registers.the-laws x4) x5 (LL.val row-Access.the-type law-Access.the-laws x5) r10 (LL.val row-PlannedPair.the-type law-PlannedPair.the-laws r10) r22 (EL.val row-Walks.the-type law-Walks.the-laws r22)))) (goes-6 x4 (LL.val row-Registers.the-type law-Registers.the-laws x4) x5 (LL.val row-Access.the-type law-Access.the-laws x5) r10 (LL.val row-PlannedPair.the-type law-PlannedPair.the-laws r10) r22 (EL.val row-Walks.the-type law-Walks.the-laws r22) i4 i5 (subst (Is row-PlannedPair.the-row r10) (LL.tells row-PlannedPair.the-type law-PlannedPair.the-laws r10 _ is12) is12) (subst (Is row-Walks.the-row r22) (EL.tells row-Walks.the-type law-Walks.the-laws r22 _ is24) is24)) $
         calls-at ! fm (C6 𝓤 H A mem run) known-6 (to-6 x4 (LL.val row-Registers.the-type law-Registers.the-laws x4) x5 (LL.val row-Access.the-type law-Access.the-laws x5) r10 (LL.val row-PlannedPair.the-type law-PlannedPair.the-laws r10) r22 (EL.val row-Walks.the-type law-Walks.the-laws r22)) (and-then ! (load ! (from ! (stop !)) (look ! 21 refl)) (and-then ! (load ! (from ! (stop !)) (look ! 19 refl)) (and-then ! (load ! (from ! (stop !)) (look ! 11 refl)) (and-then ! (load ! (from ! (stop !)) (look ! 5 refl)) (no-more !))))) (λ u25.
-        use1 W (later (some (λ (r : Translated). (‵ ftrue ⊛ ‵ (row-Translated.the-row .own r (u25 ∷ []))) ⊛ raw (ensured 𝓤 H A c6.ended (c6.clauses 𝓤 H A mem run) tt (x4, (x5, (r10, (r22, tt)))) tt r)))) (id⊢ 𝓤 _) $ await ! tt $ choose ! (λ r26. split ! $ move ! (1 ∷ []) $ use1 W (raw (fact 𝓤 (AnsweredIn (concludeAccess x4 x5 (pairOf (r10 .caches)) (r10 .plan) r22) (r26 .answer) (r26 .count) (r26 .caches .tags) (r26 .caches .pages) (r26 .caches .stamps) (r26 .caches .marks) (r26 .caches .keys) (r26 .caches .bases)))) (said-6 x4 x5 r10 r22 r26) $ heard ! (AnsweredIn (concludeAccess x4 x5 (pairOf (r10 .caches)) (r10 .plan) r22) (r26 .answer) (r26 .count) (r26 .caches .tags) (r26 .caches .pages) (r26 .caches .stamps) (r26 .caches .marks) (r26 .caches .keys) (r26 .caches .bases)) (λ e27. split ! $
+        use1 W (later (some (λ (r : Translated). (‵ ftrue ⊛ ‵ (row-Translated.the-row .own r (u25 ∷ []))) ⊛ raw (ensured 𝓤 H A c6.ended (c6.clauses 𝓤 H A mem run) tt (x4, (x5, (r10, (r22, tt)))) tt r)))) (id⊢ 𝓤 _) $ await ! tt $ choose ! (λ r26. split ! $ move ! (1 ∷ []) $ use1 W (raw (fact 𝓤 (AnsweredIn (concludeAccess x4 x5 (pairOf (r10 .caches)) (r10 .plan) r22) (r26 .answer) (r26 .count) (r26 .caches .c030) (r26 .caches .c040)))) (said-6 x4 x5 r10 r22 r26) $ heard ! (AnsweredIn (concludeAccess x4 x5 (pairOf (r10 .caches)) (r10 .plan) r22) (r26 .answer) (r26 .count) (r26 .caches .c030) (r26 .caches .c040)) (λ e27. split ! $
         drop ! $
         facts ! row-Translated.the-row (Is row-Translated.the-row) (shows 𝓤 H A row-Translated.the-row) r26 (u25 ∷ []) (λ is28. land ! (from ! (stop !)) (init ! 28 refl (LL.lawful row-Translated.the-type law-Translated.the-laws 𝓤 H A W .typed r26 _ is28 .0)) $
         rewrite ! 28 (λ (u : Val). ‵ (fat fullShare law-Translated.mir l0 0 u)) (ap only (LL.tells row-Translated.the-type law-Translated.the-laws r26 _ is28)) refl $

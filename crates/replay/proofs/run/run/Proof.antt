@@ -14,11 +14,11 @@ use Rattle.replay.proofs.run.run.Statement.{statement}
 use Rattle.replay.proofs.run.run.Tie as tie
 
 abbrev Inv-loop : tie.InvT-loop
-Inv-loop tags₀ pages₀ stamps₀ marks₀ keys₀ bases₀ longs₀ three input out₀ now₀ read₀ wrote₀ tags pages stamps marks keys bases longs out now read wrote =
-    (length longs ≡ length longs₀) × (length out ≡ length out₀) × (read ≤ length input) × (wrote ≤ length out₀) × (anyOf crossed (rangesOf now) ≡ anyOf crossed (rangesOf now₀)) × (three ≡ anyOf crossed (rangesOf now₀) → Going (stateOf now₀ longs₀ tags₀ pages₀ stamps₀ marks₀ keys₀ bases₀) input out₀ (stateOf now longs tags pages stamps marks keys bases) read out wrote)
+Inv-loop c030₀ c040₀ longs₀ three input out₀ now₀ read₀ wrote₀ c030 c040 longs out now read wrote =
+    (length longs ≡ length longs₀) × (length out ≡ length out₀) × (read ≤ length input) × (wrote ≤ length out₀) × (anyOf crossed (rangesOf now) ≡ anyOf crossed (rangesOf now₀)) × (three ≡ anyOf crossed (rangesOf now₀) → Going (stateOf now₀ longs₀ c030₀ c040₀) input out₀ (stateOf now longs c030 c040) read out wrote)
 
 abbrev μ-loop : tie.MeasureT-loop
-μ-loop tags₀ pages₀ stamps₀ marks₀ keys₀ bases₀ longs₀ three input out₀ now₀ read₀ wrote₀ tags pages stamps marks keys bases longs out now read wrote =
+μ-loop c030₀ c040₀ longs₀ three input out₀ now₀ read₀ wrote₀ c030 c040 longs out now read wrote =
     length input - read
 
 loop-holds : tie.Need-loop-holds Inv-loop μ-loop
@@ -126,7 +126,7 @@ loop-again-2 c =
     let held = at .inv in
     let f = law.whole-at _ _ (d .before .before .before .start .given .1) (d .before .before .before .before .before .front .ensures) in
     let w = c .before .before .put-line2 .ensures .room (omega (arith, d .before .before .before .before .before .before .if1 .left, held .1, held .3)) in
-    (held .0, writes.same-length w ∙ held .1, f .within, omega (arith, writes.next-near w, d .before .before .before .before .before .before .if1 .left, held .1, held .3), held .4, λ h. law.goes-on _ _ _ _ (held .5 h) _ f (law.said-call (d .decode .ensures) (c .before .before .before .before .before .before .before .before .before .before .before .before .before .call .given .1)) refl (step.called (at .now) (callIn (c .before .before .before .before .before .before .before .before .before .before .before .before .before .call .given .0 .0)) (at .longs) (at .tags) (at .pages) (at .stamps) (at .marks) (at .keys) (at .bases) (c .before .before .before .before .make .ensures (h ∙ sym (held .4)))) (omega (arith, d .before .before .before .before .before .before .if1 .left, held .1, held .3)) w)
+    (held .0, writes.same-length w ∙ held .1, f .within, omega (arith, writes.next-near w, d .before .before .before .before .before .before .if1 .left, held .1, held .3), held .4, λ h. law.goes-on _ _ _ _ (held .5 h) _ f (law.said-call (d .decode .ensures) (c .before .before .before .before .before .before .before .before .before .before .before .before .before .call .given .1)) refl (step.called (at .now) (callIn (c .before .before .before .before .before .before .before .before .before .before .before .before .before .call .given .0 .0)) (at .longs) (at .c030) (at .c040) (c .before .before .before .before .make .ensures (h ∙ sym (held .4)))) (omega (arith, d .before .before .before .before .before .before .if1 .left, held .1, held .3)) w)
 
 pub run-spec : {M : Type 1} → statement M
 run-spec =
