@@ -5,23 +5,31 @@ pub const ENTRIES: usize = 22;
 /// Slots of the 68040 cache.
 pub const SLOTS: usize = 64;
 
-/// Both caches, as arrays of numbers. They may hold any: a call says what it makes of
-/// them, and refuses with [`Refusal::Cache`](crate::Refusal::Cache) what it can't use. A
-/// host reads them to compare, to save and to restore a state.
+/// The numbers of the 68030 cache.
+pub const NUMBERS_030: usize = 3 * ENTRIES + 3;
+/// The numbers of the 68040 cache.
+pub const NUMBERS_040: usize = 2 * SLOTS;
+
+/// Where the pages, the stamps and the three marks of the 68030 cache stand.
+const PAGES: usize = ENTRIES;
+const STAMPS: usize = 2 * ENTRIES;
+const MARKS: usize = 3 * ENTRIES;
+/// Where the bases of the 68040 cache stand.
+const BASES: usize = SLOTS;
+
+/// Both caches, one array of numbers each. They may hold any: a call says what it makes
+/// of them, and refuses with [`Refusal::Cache`](crate::Refusal::Cache) what it can't use.
+/// A host reads them to compare, to save and to restore a state.
+#[repr(C)]
 #[derive(Clone, Debug, PartialEq, Eq)]
 pub struct Caches {
-    /// Of each 68030 entry: page x 16 + code x 2 + valid.
-    pub tags: [u64; ENTRIES],
-    /// Of each 68030 entry: page base x 2 + write-protected.
-    pub pages: [u64; ENTRIES],
-    /// Of each 68030 entry: its stamp.
-    pub stamps: [u64; ENTRIES],
-    /// The 68030 cache's most recent index, clock and page shift.
-    pub marks: [u64; 3],
-    /// Of each 68040 slot: frame x 4 + supervisor x 2 + valid.
-    pub keys: [u64; SLOTS],
-    /// Of each 68040 slot: page base x 4 + write-protected x 2 + supervisor-only.
-    pub bases: [u64; SLOTS],
+    /// The 68030 cache: of each entry page x 16 + code x 2 + valid; of each entry page
+    /// base x 2 + write-protected; of each entry its stamp; then the most recent index,
+    /// the clock and the page shift.
+    pub c030: [u64; NUMBERS_030],
+    /// The 68040 cache: of each slot frame x 4 + supervisor x 2 + valid; of each slot page
+    /// base x 4 + write-protected x 2 + supervisor-only.
+    pub c040: [u64; NUMBERS_040],
 }
 
 /// An entry of the 68030 cache.
@@ -62,33 +70,33 @@ impl Caches {
     /// The most recent index of the 68030 cache.
     #[must_use]
     pub fn most_recent(&self) -> u64 {
-        self.marks[0]
+        self.c030[MARKS]
     }
 
     /// The clock of the 68030 cache.
     #[must_use]
     pub fn clock(&self) -> u64 {
-        self.marks[1]
+        self.c030[MARKS + 1]
     }
 
     /// The page shift of the 68030 cache; 0 before the first insert.
     #[must_use]
     pub fn page_shift(&self) -> u64 {
-        self.marks[2]
+        self.c030[MARKS + 2]
     }
 
     /// The entries of the 68030 cache.
     #[must_use]
     pub fn entries(&self) -> [Entry; ENTRIES] {
         std::array::from_fn(|i| {
-            let (tag, page) = (self.tags[i], self.pages[i]);
+            let (tag, page) = (self.c030[i], self.c030[PAGES + i]);
             Entry {
                 valid: tag & 1 != 0,
                 code: (tag >> 1 & 7) as u8,
                 page: tag >> 4,
                 base: page >> 1,
                 write_protected: page & 1 != 0,
-                stamp: self.stamps[i],
+                stamp: self.c030[STAMPS + i],
             }
         })
     }
@@ -97,7 +105,7 @@ impl Caches {
     #[must_use]
     pub fn slots(&self) -> [Slot; SLOTS] {
         std::array::from_fn(|i| {
-            let (key, base) = (self.keys[i], self.bases[i]);
+            let (key, base) = (self.c040[i], self.c040[BASES + i]);
             Slot {
                 valid: key & 1 != 0,
                 frame: key >> 2,

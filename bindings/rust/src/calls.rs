@@ -1,7 +1,7 @@
 //! The calls.
 
 use crate::answers::{cause_of, kind_of, Error, Fault, Refusal, Status, Translated};
-use crate::caches::{Caches, ENTRIES, SLOTS};
+use crate::caches::{Caches, NUMBERS_030, NUMBERS_040};
 use crate::door;
 use crate::given::{Access, Registers, Tables};
 
@@ -28,14 +28,7 @@ impl Pmmu {
     /// Both caches empty, every number 0.
     #[must_use]
     pub fn new() -> Self {
-        let mut caches = Caches {
-            tags: [0; ENTRIES],
-            pages: [0; ENTRIES],
-            stamps: [0; ENTRIES],
-            marks: [0; 3],
-            keys: [0; SLOTS],
-            bases: [0; SLOTS],
-        };
+        let mut caches = Caches { c030: [0; NUMBERS_030], c040: [0; NUMBERS_040] };
         door::empty(&mut caches);
         Pmmu { caches }
     }

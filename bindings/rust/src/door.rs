@@ -9,7 +9,7 @@
 //! initialised and alive during the call, and what is lent as `&mut` is lent once. The
 //! numbers have no padding, and any bits are a number.
 
-use crate::caches::{Caches, ENTRIES, SLOTS};
+use crate::caches::{Caches, NUMBERS_030, NUMBERS_040};
 use crate::given::{Access, Range, Registers, Tables};
 
 /// The five numbers of an answer: what it is (0 an address, a status or done, 1 a fault,
@@ -17,24 +17,13 @@ use crate::given::{Access, Range, Registers, Tables};
 pub(crate) type Answer = [u32; 5];
 
 mod library {
-    use super::{Answer, Range, ENTRIES, SLOTS};
+    use super::{Answer, Range, NUMBERS_030, NUMBERS_040};
 
     extern "C" {
-        pub fn mmu_empty(
-            tags: &mut [u64; ENTRIES],
-            pages: &mut [u64; ENTRIES],
-            stamps: &mut [u64; ENTRIES],
-            marks: &mut [u64; 3],
-            keys: &mut [u64; SLOTS],
-            bases: &mut [u64; SLOTS],
-        );
+        pub fn mmu_empty(c030: &mut [u64; NUMBERS_030], c040: &mut [u64; NUMBERS_040]);
         pub fn mmu_translate(
-            tags: &mut [u64; ENTRIES],
-            pages: &mut [u64; ENTRIES],
-            stamps: &mut [u64; ENTRIES],
-            marks: &mut [u64; 3],
-            keys: &mut [u64; SLOTS],
-            bases: &mut [u64; SLOTS],
+            c030: &mut [u64; NUMBERS_030],
+            c040: &mut [u64; NUMBERS_040],
             longs: *const u32,
             longs_len: usize,
             base: u32,
@@ -47,10 +36,7 @@ mod library {
             out: &mut Answer,
         );
         pub fn mmu_load(
-            tags: &mut [u64; ENTRIES],
-            pages: &mut [u64; ENTRIES],
-            stamps: &mut [u64; ENTRIES],
-            marks: &mut [u64; 3],
+            c030: &mut [u64; NUMBERS_030],
             longs: *const u32,
             longs_len: usize,
             base: u32,
@@ -76,66 +62,36 @@ mod library {
             out: &mut Answer,
         );
         pub fn mmu_probe(
-            tags: &[u64; ENTRIES],
-            pages: &[u64; ENTRIES],
-            stamps: &[u64; ENTRIES],
-            marks: &[u64; 3],
-            keys: &[u64; SLOTS],
-            bases: &[u64; SLOTS],
+            c030: &[u64; NUMBERS_030],
+            c040: &[u64; NUMBERS_040],
             registers: &[u32; 13],
             flags: u32,
             address: u32,
             out: &mut Answer,
         );
-        pub fn mmu_flush_all(
-            tags: &mut [u64; ENTRIES],
-            pages: &[u64; ENTRIES],
-            stamps: &[u64; ENTRIES],
-            marks: &[u64; 3],
-            keys: &mut [u64; SLOTS],
-            bases: &[u64; SLOTS],
-        ) -> u32;
-        pub fn mmu_flush_code(
-            tags: &mut [u64; ENTRIES],
-            pages: &[u64; ENTRIES],
-            stamps: &[u64; ENTRIES],
-            marks: &[u64; 3],
-            code: u32,
-            mask: u32,
-        ) -> u32;
-        pub fn mmu_flush_page(
-            tags: &mut [u64; ENTRIES],
-            pages: &[u64; ENTRIES],
-            stamps: &[u64; ENTRIES],
-            marks: &[u64; 3],
-            code: u32,
-            mask: u32,
-            address: u32,
-        ) -> u32;
-        pub fn mmu_flush_frame(keys: &mut [u64; SLOTS], bases: &[u64; SLOTS], frame: u32) -> u32;
+        pub fn mmu_flush_all(c030: &mut [u64; NUMBERS_030], c040: &mut [u64; NUMBERS_040]) -> u32;
+        pub fn mmu_flush_code(c030: &mut [u64; NUMBERS_030], code: u32, mask: u32) -> u32;
+        pub fn mmu_flush_page(c030: &mut [u64; NUMBERS_030], code: u32, mask: u32, address: u32) -> u32;
+        pub fn mmu_flush_frame(c040: &mut [u64; NUMBERS_040], frame: u32) -> u32;
     }
 }
 
 /// Makes both caches empty.
 pub(crate) fn empty(c: &mut Caches) {
-    let Caches { tags, pages, stamps, marks, keys, bases } = c;
-    // SAFETY: six arrays of the sizes that the library names, each lent once.
-    unsafe { library::mmu_empty(tags, pages, stamps, marks, keys, bases) }
+    let Caches { c030, c040 } = c;
+    // SAFETY: two arrays of the sizes that the library names, each lent once.
+    unsafe { library::mmu_empty(c030, c040) }
 }
 
 #[inline]
 pub(crate) fn translate(c: &mut Caches, m: Tables<'_>, registers: &Registers, access: &Access) -> Answer {
-    let Caches { tags, pages, stamps, marks, keys, bases } = c;
+    let Caches { c030, c040 } = c;
     let mut out = [0; 5];
     // SAFETY: arrays of the sizes that the library names, each lent once; each slice's pointer with its own length.
     unsafe {
         library::mmu_translate(
-            tags,
-            pages,
-            stamps,
-            marks,
-            keys,
-            bases,
+            c030,
+            c040,
             m.longs.as_ptr(),
             m.longs.len(),
             m.base,
@@ -159,15 +115,11 @@ pub(crate) fn load(
     write: bool,
     address: u32,
 ) -> Answer {
-    let Caches { tags, pages, stamps, marks, .. } = c;
     let mut out = [0; 5];
     // SAFETY: as for `translate`; a `bool` is 0 or 1 on both sides.
     unsafe {
         library::mmu_load(
-            tags,
-            pages,
-            stamps,
-            marks,
+            &mut c.c030,
             m.longs.as_ptr(),
             m.longs.len(),
             m.base,
@@ -206,35 +158,30 @@ pub(crate) fn test(m: Tables<'_>, registers: &Registers, code: u8, write: bool, 
 
 #[inline]
 pub(crate) fn probe(c: &Caches, registers: &Registers, flags: u32, address: u32) -> Answer {
-    let Caches { tags, pages, stamps, marks, keys, bases } = c;
+    let Caches { c030, c040 } = c;
     let mut out = [0; 5];
     // SAFETY: arrays of the sizes that the library names; it only reads what is lent as `&`.
-    unsafe {
-        library::mmu_probe(tags, pages, stamps, marks, keys, bases, &registers.numbers(), flags, address, &mut out)
-    }
+    unsafe { library::mmu_probe(c030, c040, &registers.numbers(), flags, address, &mut out) }
     out
 }
 
 pub(crate) fn flush_all(c: &mut Caches) -> u32 {
-    let Caches { tags, pages, stamps, marks, keys, bases } = c;
+    let Caches { c030, c040 } = c;
     // SAFETY: arrays of the sizes that the library names, each lent once.
-    unsafe { library::mmu_flush_all(tags, pages, stamps, marks, keys, bases) }
+    unsafe { library::mmu_flush_all(c030, c040) }
 }
 
 pub(crate) fn flush_code(c: &mut Caches, code: u8, mask: u8) -> u32 {
-    let Caches { tags, pages, stamps, marks, .. } = c;
     // SAFETY: as for `flush_all`.
-    unsafe { library::mmu_flush_code(tags, pages, stamps, marks, code.into(), mask.into()) }
+    unsafe { library::mmu_flush_code(&mut c.c030, code.into(), mask.into()) }
 }
 
 pub(crate) fn flush_page(c: &mut Caches, code: u8, mask: u8, address: u32) -> u32 {
-    let Caches { tags, pages, stamps, marks, .. } = c;
     // SAFETY: as for `flush_all`.
-    unsafe { library::mmu_flush_page(tags, pages, stamps, marks, code.into(), mask.into(), address) }
+    unsafe { library::mmu_flush_page(&mut c.c030, code.into(), mask.into(), address) }
 }
 
 pub(crate) fn flush_frame(c: &mut Caches, frame: u32) -> u32 {
-    let Caches { keys, bases, .. } = c;
     // SAFETY: as for `flush_all`.
-    unsafe { library::mmu_flush_frame(keys, bases, frame) }
+    unsafe { library::mmu_flush_frame(&mut c.c040, frame) }
 }

@@ -44,6 +44,6 @@ mod door;
 mod given;
 
 pub use answers::{Error, Fault, FaultCause, FaultKind, Refusal, Status, Translated};
-pub use caches::{Caches, Entry, Slot, ENTRIES, SLOTS};
+pub use caches::{Caches, Entry, Slot, ENTRIES, NUMBERS_030, NUMBERS_040, SLOTS};
 pub use calls::Pmmu;
 pub use given::{Access, Family, Range, Registers, Tables};

@@ -4,7 +4,7 @@
 mod common;
 
 use common::LOGICAL;
-use pmmu::{Access, Caches, Error, Family, Pmmu, Range, Refusal, Registers, Tables};
+use pmmu::{Access, Caches, Error, Family, Pmmu, Range, Refusal, Registers, Tables, ENTRIES};
 
 const NO_FAMILY: Family = Family(50);
 
@@ -26,7 +26,9 @@ fn warm() -> Pmmu {
 
 /// The same with these marks: most recent, clock, shift.
 fn marked(marks: [u64; 3]) -> Pmmu {
-    Pmmu::from(Caches { marks, ..warm().caches().clone() })
+    let mut caches: Caches = warm().caches().clone();
+    caches.c030[3 * ENTRIES..].copy_from_slice(&marks);
+    Pmmu::from(caches)
 }
 
 /// What is wrong with a call.

@@ -18,15 +18,15 @@ ghost use Rattle.cache.specs.Atc030.{tagsOf, pagesOf, stampsOf, recentIn
 pub type Atc030 = [u64; 69];
 
 // Where the pages, the stamps and the three marks stand.
-const PAGES: usize = 22;
+pub const PAGES: usize = 22;
 
-const STAMPS: usize = 44;
+pub const STAMPS: usize = 44;
 
-const RECENT: usize = 66;
+pub const RECENT: usize = 66;
 
-const CLOCK: usize = 67;
+pub const CLOCK: usize = 67;
 
-const SHIFT: usize = 68;
+pub const SHIFT: usize = 68;
 
 // ---- searches
 

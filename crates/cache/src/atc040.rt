@@ -13,7 +13,7 @@ ghost use Rattle.cache.specs.Atc040.{cache040Of, Stepped040, keyOf040};
 pub type Atc040 = [u64; 128];
 
 // Where the bases stand.
-const BASES: usize = 64;
+pub const BASES: usize = 64;
 
 // The slot of a frame: frame mod 64.
 fn slot_of(frame: u32) -> usize

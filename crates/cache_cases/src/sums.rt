@@ -1,4 +1,12 @@
 // The sums of the operations' rows: a number for a whole cache.
+use cache::atc030::Atc030;
+use cache::atc030::CLOCK;
+use cache::atc030::PAGES;
+use cache::atc030::RECENT;
+use cache::atc030::SHIFT;
+use cache::atc030::STAMPS;
+use cache::atc040::Atc040;
+use cache::atc040::BASES;
 
 // One more number: (sum + number mod 2^32) * 16777619 mod 2^32.
 fn mix(sum: u32, number: u64) -> u32 {
@@ -12,11 +20,11 @@ fn with_entry(sum: u32, tag: u64, page: u64, stamp: u64) -> u32 {
 }
 
 // The 68030 cache: most recent index, clock, page shift, then each entry.
-pub fn sum_030(tags: &[u64; 22], pages: &[u64; 22], stamps: &[u64; 22], marks: &[u64; 3]) -> u32 {
-    let mut sum = mix(mix(mix(2166136261, marks[0]), marks[1]), marks[2]);
-    let mut i = 0;
+pub fn sum_030(c030: &Atc030) -> u32 {
+    let mut sum = mix(mix(mix(2166136261, c030[RECENT]), c030[CLOCK]), c030[SHIFT]);
+    let mut i: usize = 0;
     while i < 22 {
-        sum = with_entry(sum, tags[i], pages[i], stamps[i]);
+        sum = with_entry(sum, c030[i], c030[PAGES + i], c030[STAMPS + i]);
         i += 1;
     }
     sum
@@ -29,11 +37,11 @@ fn with_slot(sum: u32, key: u64, base: u64) -> u32 {
 }
 
 // The 68040 cache: each slot.
-pub fn sum_040(keys: &[u64; 64], bases: &[u64; 64]) -> u32 {
+pub fn sum_040(c040: &Atc040) -> u32 {
     let mut sum = 2166136261;
-    let mut i = 0;
+    let mut i: usize = 0;
     while i < 64 {
-        sum = with_slot(sum, keys[i], bases[i]);
+        sum = with_slot(sum, c040[i], c040[BASES + i]);
         i += 1;
     }
     sum

@@ -2,9 +2,16 @@
 // A line has the answer with its count, the most recent index, the clock, the shift, and entries 0, 3 and 7 as tag, page, stamp.
 // A tag is page * 16 + code * 2 + valid, a page base * 2 + WP.
 use crate::setting;
+use cache::atc030::Atc030;
+use cache::atc030::CLOCK;
+use cache::atc030::PAGES;
+use cache::atc030::RECENT;
+use cache::atc030::SHIFT;
+use cache::atc030::STAMPS;
 use definition::Access;
 use definition::Override;
 use definition::Translation;
+ghost use Prim.Native.Nat.{_<_};
 
 // The valid tag of the page of 02041ABC, user data, and that of another page.
 const KEY: u64 = 0x20413;
@@ -24,27 +31,44 @@ fn writing() -> Access {
     setting::access(Override::Plain, true, true)
 }
 
-// Another page's tag everywhere, or the key at 3 and at 7, or at 7 alone.
-fn tags_of(third: u64, seventh: u64) -> [u64; 22] {
-    let mut tags = [OTHER; 22];
-    tags[3] = third;
-    tags[7] = seventh;
-    tags
+// 22 entries of another page, base 11000 with WP or not, and one stamp.
+fn others(wp: u64, stamp: u64) -> Atc030 {
+    let mut c030 = [0u64; 69];
+    let mut i: usize = 0;
+    while i < 22 {
+        c030[i] = OTHER;
+        c030[PAGES + i] = 0x22000 | wp;
+        c030[STAMPS + i] = stamp;
+        i += 1;
+    }
+    c030
 }
 
-// The pages: base 11000, and 77000 at 7, with WP or not.
-fn pages_of(wp: u64) -> [u64; 22] {
-    let mut pages = [0x22000 | wp; 22];
-    pages[7] = 0xEE000 | wp;
-    pages
+// The tags of entries 3 and 7.
+struct Tags {
+    third: u64,
+    seventh: u64,
 }
 
 // The stamps: one number, with two others at 3 and at 7.
-fn stamps_of(all: u64, third: u64, seventh: u64) -> [u64; 22] {
-    let mut stamps = [all; 22];
-    stamps[3] = third;
-    stamps[7] = seventh;
-    stamps
+struct Stamps {
+    all: u64,
+    third: u64,
+    seventh: u64,
+}
+
+// A cache of other pages but at 3 and at 7, where the base is 77000; most recent index, clock and shift.
+fn cache_of(tags: Tags, wp: u64, stamps: Stamps, recent: u64, clock: u64, shift: u64) -> Atc030 {
+    let mut c030 = others(wp, stamps.all);
+    c030[3] = tags.third;
+    c030[STAMPS + 3] = stamps.third;
+    c030[7] = tags.seventh;
+    c030[PAGES + 7] = 0xEE000 | wp;
+    c030[STAMPS + 7] = stamps.seventh;
+    c030[RECENT] = recent;
+    c030[CLOCK] = clock;
+    c030[SHIFT] = shift;
+    c030
 }
 
 // Writes an answer.
@@ -65,131 +89,99 @@ fn show_answer(answer: Translation) {
 }
 
 // Writes entry i.
-fn show_entry(tags: &[u64; 22], pages: &[u64; 22], stamps: &[u64; 22], i: usize) {
+fn show_entry(c030: &Atc030, i: usize)
+    requires { ⌜ i < 22 ⌝ }
+{
     io::write_all(1, b" ");
-    io::print_hex(1, setting::at(tags, i), 1);
+    io::print_hex(1, setting::at(c030, i), 1);
     io::write_all(1, b",");
-    io::print_hex(1, setting::at(pages, i), 1);
+    io::print_hex(1, setting::at(c030, PAGES + i), 1);
     io::write_all(1, b",");
-    io::print_decimal(1, setting::at(stamps, i));
+    io::print_decimal(1, setting::at(c030, STAMPS + i));
 }
 
-// Writes the marks.
-fn show_marks(marks: &[u64; 3]) {
+// Writes the most recent index, the clock and the shift.
+fn show_marks(c030: &Atc030) {
     io::write_all(1, b" m=");
-    io::print_decimal(1, setting::at(marks, 0));
+    io::print_decimal(1, setting::at(c030, RECENT));
     io::write_all(1, b" c=");
-    io::print_decimal(1, setting::at(marks, 1));
+    io::print_decimal(1, setting::at(c030, CLOCK));
     io::write_all(1, b" s=");
-    io::print_decimal(1, setting::at(marks, 2));
+    io::print_decimal(1, setting::at(c030, SHIFT));
 }
 
 // Translates over a cache and writes what it gives and leaves.
-fn tried(
-    tags_then: [u64; 22],
-    pages_then: [u64; 22],
-    stamps_then: [u64; 22],
-    recent: u64,
-    clock: u64,
-    shift: u64,
-    a: Access,
-) {
-    let mut tags = tags_then;
-    let mut pages = pages_then;
-    let mut stamps = stamps_then;
-    let mut marks = [recent, clock, shift];
-    let mut keys = [0u64; 64];
-    let mut bases = [0u64; 64];
+fn tried(then: Atc030, a: Access) {
+    let mut c030 = then;
+    let mut c040 = [0u64; 128];
     let longs = setting::tree();
     let list = setting::ranges(0, 0);
     let g = setting::registers(30, true);
-    let r = translate::translate_in(
-        &mut tags,
-        &mut pages,
-        &mut stamps,
-        &mut marks,
-        &mut keys,
-        &mut bases,
-        &longs,
-        0x1000,
-        list,
-        0,
-        false,
-        g,
-        a,
-    );
+    let r = translate::translate_in(&mut c030, &mut c040, &longs, 0x1000, list, 0, false, g, a);
     let answer = r.answer;
     show_answer(answer);
     io::write_all(1, b" ");
     io::print_decimal(1, r.count as u64);
-    show_marks(&marks);
-    show_entry(&tags, &pages, &stamps, 0);
-    show_entry(&tags, &pages, &stamps, 3);
-    show_entry(&tags, &pages, &stamps, 7);
+    show_marks(&c030);
+    show_entry(&c030, 0);
+    show_entry(&c030, 3);
+    show_entry(&c030, 7);
     io::write_all(1, b"\n");
 }
 
-// Two entries of one key, at 3 and 7.
+// Two entries of one key, at 3 and 7, and all stamps 5.
+fn two_of(wp: u64, recent: u64, shift: u64) -> Atc030 {
+    let tags = Tags {
+        third: KEY,
+        seventh: KEY,
+    };
+    let stamps = Stamps {
+        all: 5,
+        third: 5,
+        seventh: 5,
+    };
+    cache_of(tags, wp, stamps, recent, 9, shift)
+}
+
+// The same at shift 12.
 fn twice(wp: u64, recent: u64, a: Access) {
-    tried(
-        tags_of(KEY, KEY),
-        pages_of(wp),
-        stamps_of(5, 5, 5),
-        recent,
-        9,
-        12,
-        a,
-    );
+    tried(two_of(wp, recent, 12), a);
 }
 
 // No entry of the key, and the stamps 100 but at 7.
 fn full(seventh: u64, shift: u64) {
-    tried(
-        tags_of(OTHER, OTHER),
-        pages_of(0),
-        stamps_of(100, 100, seventh),
-        0,
-        7,
-        shift,
-        reading(true),
-    );
+    let tags = Tags {
+        third: OTHER,
+        seventh: OTHER,
+    };
+    let stamps = Stamps {
+        all: 100,
+        third: 100,
+        seventh,
+    };
+    tried(cache_of(tags, 0, stamps, 0, 7, shift), reading(true));
 }
 
 // The clock at its end, the stamps 100 but 5 at 3 and the clock's own at 7.
 fn at_the_end(seventh: u64, wp: u64, recent: u64, a: Access) {
-    tried(
-        tags_of(OTHER, seventh),
-        pages_of(wp),
-        stamps_of(100, 5, LAST),
-        recent,
-        LAST,
-        12,
-        a,
-    );
+    let tags = Tags {
+        third: OTHER,
+        seventh,
+    };
+    let stamps = Stamps {
+        all: 100,
+        third: 5,
+        seventh: LAST,
+    };
+    tried(cache_of(tags, wp, stamps, recent, LAST, 12), a);
 }
 
 // Caches that no replay reaches.
 pub fn unreached() {
     io::write_all(1, b"unreached\n");
     // Most recent index 200, then shift 77. Number 4, and all stays.
-    tried(
-        tags_of(KEY, KEY),
-        pages_of(0),
-        stamps_of(5, 5, 5),
-        200,
-        9,
-        12,
-        reading(true),
-    );
-    tried(
-        tags_of(KEY, KEY),
-        pages_of(0),
-        stamps_of(5, 5, 5),
-        0,
-        9,
-        77,
-        reading(true),
-    );
+    tried(two_of(0, 200, 12), reading(true));
+    tried(two_of(0, 0, 77), reading(true));
     // Most recent 7: 'Matching tries the most recent entry', base 77000, and a hit on it changes nothing.
     twice(0, 7, reading(true));
     // Most recent 0: 'then the lowest index', base 11000. The clock becomes 10, stamps 3, and 3 is most recent.

@@ -2,6 +2,10 @@
 use crate::setting;
 use crate::setting::Given;
 use crate::setting::Trial;
+use cache::atc030::Atc030;
+use cache::atc030::RECENT;
+use cache::atc030::SHIFT;
+use cache::atc040::Atc040;
 use definition::Flush;
 use definition::Load;
 use definition::Override;
@@ -11,30 +15,24 @@ use definition::Translation;
 
 // ---- What stays.
 
-// Whether the 68030 cache has every number 3, as it had, but the most recent index and the shift.
-fn stays_030(
-    tags: &[u64; 22],
-    pages: &[u64; 22],
-    stamps: &[u64; 22],
-    marks: &[u64; 3],
-    recent: u64,
-    shift: u64,
-) -> bool {
-    let threes = [3u64; 22];
-    let old = [recent, 3, shift];
-    let a = setting::same(tags, &threes);
-    let b = setting::same(pages, &threes);
-    let c = setting::same(stamps, &threes);
-    let d = setting::same(marks, &old);
-    a & b & c & d
+// A 68030 cache with every number 3 but the most recent index and the shift.
+fn threes_030(recent: u64, shift: u64) -> Atc030 {
+    let mut c030 = [3u64; 69];
+    c030[RECENT] = recent;
+    c030[SHIFT] = shift;
+    c030
+}
+
+// Whether the 68030 cache is still that one.
+fn stays_030(c030: &Atc030, recent: u64, shift: u64) -> bool {
+    let old = threes_030(recent, shift);
+    setting::same(c030, &old)
 }
 
 // Whether the 68040 cache has every number 3, as it had.
-fn stays_040(keys: &[u64; 64], bases: &[u64; 64]) -> bool {
-    let threes = [3u64; 64];
-    let a = setting::same(keys, &threes);
-    let b = setting::same(bases, &threes);
-    a & b
+fn stays_040(c040: &Atc040) -> bool {
+    let old = [3u64; 128];
+    setting::same(c040, &old)
 }
 
 // ---- Load: 1, 6, 5, 2, 3, 4.
@@ -49,18 +47,12 @@ fn load_number(answer: Load) -> u32 {
 
 // A load of logical 02041ABC.
 fn load(t: Trial) -> Given {
-    let mut tags = [3u64; 22];
-    let mut pages = [3u64; 22];
-    let mut stamps = [3u64; 22];
-    let mut marks = [t.recent, 3, t.shift];
+    let mut c030 = threes_030(t.recent, t.shift);
     let longs = setting::tree();
     let list = setting::ranges(t.first, t.last);
     let g = setting::registers(t.family, t.enabled);
     let r = load::load_in(
-        &mut tags,
-        &mut pages,
-        &mut stamps,
-        &mut marks,
+        &mut c030,
         &longs,
         t.base,
         list,
@@ -72,7 +64,7 @@ fn load(t: Trial) -> Given {
         0x0204_1ABC,
     );
     let answer = r.answer;
-    let stays = stays_030(&tags, &pages, &stamps, &marks, t.recent, t.shift);
+    let stays = stays_030(&c030, t.recent, t.shift);
     Given {
         number: load_number(answer),
         kept: stays & (r.count == 0),
@@ -92,23 +84,15 @@ fn translation_number(answer: Translation) -> u32 {
 
 // A recorded read of logical 02041ABC under the code as an override.
 fn translate(t: Trial) -> Given {
-    let mut tags = [3u64; 22];
-    let mut pages = [3u64; 22];
-    let mut stamps = [3u64; 22];
-    let mut marks = [t.recent, 3, t.shift];
-    let mut keys = [3u64; 64];
-    let mut bases = [3u64; 64];
+    let mut c030 = threes_030(t.recent, t.shift);
+    let mut c040 = [3u64; 128];
     let longs = setting::tree();
     let list = setting::ranges(t.first, t.last);
     let g = setting::registers(t.family, t.enabled);
     let a = setting::access(Override::Code(t.code), false, true);
     let r = translate::translate_in(
-        &mut tags,
-        &mut pages,
-        &mut stamps,
-        &mut marks,
-        &mut keys,
-        &mut bases,
+        &mut c030,
+        &mut c040,
         &longs,
         t.base,
         list,
@@ -118,8 +102,8 @@ fn translate(t: Trial) -> Given {
         a,
     );
     let answer = r.answer;
-    let stays = stays_030(&tags, &pages, &stamps, &marks, t.recent, t.shift);
-    let beside = stays_040(&keys, &bases);
+    let stays = stays_030(&c030, t.recent, t.shift);
+    let beside = stays_040(&c040);
     Given {
         number: translation_number(answer),
         kept: stays & beside & (r.count == 0),
@@ -173,26 +157,10 @@ fn probe_number(answer: Probe) -> u32 {
 
 // A probe of logical 02041ABC.
 fn probe(t: Trial) -> Given {
-    let tags = [3u64; 22];
-    let pages = [3u64; 22];
-    let stamps = [3u64; 22];
-    let marks = [t.recent, 3, t.shift];
-    let keys = [3u64; 64];
-    let bases = [3u64; 64];
+    let c030 = threes_030(t.recent, t.shift);
+    let c040 = [3u64; 128];
     let g = setting::registers(t.family, t.enabled);
-    let answer = inquiry::probe::probe_in(
-        &tags,
-        &pages,
-        &stamps,
-        &marks,
-        &keys,
-        &bases,
-        g,
-        false,
-        false,
-        false,
-        0x0204_1ABC,
-    );
+    let answer = inquiry::probe::probe_in(&c030, &c040, g, false, false, false, 0x0204_1ABC);
     Given {
         number: probe_number(answer),
         kept: true,
@@ -211,15 +179,11 @@ fn flush_number(answer: Flush) -> u32 {
 
 // The flush of all.
 fn flush_all(t: Trial) -> Given {
-    let mut tags = [3u64; 22];
-    let pages = [3u64; 22];
-    let stamps = [3u64; 22];
-    let marks = [t.recent, 3, t.shift];
-    let mut keys = [3u64; 64];
-    let bases = [3u64; 64];
-    let answer = flush::flush_all_in(&mut tags, &pages, &stamps, &marks, &mut keys, &bases);
-    let stays = stays_030(&tags, &pages, &stamps, &marks, t.recent, t.shift);
-    let beside = stays_040(&keys, &bases);
+    let mut c030 = threes_030(t.recent, t.shift);
+    let mut c040 = [3u64; 128];
+    let answer = flush::flush_all_in(&mut c030, &mut c040);
+    let stays = stays_030(&c030, t.recent, t.shift);
+    let beside = stays_040(&c040);
     Given {
         number: flush_number(answer),
         kept: stays & beside,
@@ -228,12 +192,9 @@ fn flush_all(t: Trial) -> Given {
 
 // The flush by code and mask.
 fn flush_code(t: Trial, mask: u32) -> Given {
-    let mut tags = [3u64; 22];
-    let pages = [3u64; 22];
-    let stamps = [3u64; 22];
-    let marks = [t.recent, 3, t.shift];
-    let answer = flush::flush_code_in(&mut tags, &pages, &stamps, &marks, t.code, mask);
-    let stays = stays_030(&tags, &pages, &stamps, &marks, t.recent, t.shift);
+    let mut c030 = threes_030(t.recent, t.shift);
+    let answer = flush::flush_code_in(&mut c030, t.code, mask);
+    let stays = stays_030(&c030, t.recent, t.shift);
     Given {
         number: flush_number(answer),
         kept: stays,
@@ -242,12 +203,9 @@ fn flush_code(t: Trial, mask: u32) -> Given {
 
 // The flush by code, mask and the page of address 0, which the entries have.
 fn flush_page(t: Trial, mask: u32) -> Given {
-    let mut tags = [3u64; 22];
-    let pages = [3u64; 22];
-    let stamps = [3u64; 22];
-    let marks = [t.recent, 3, t.shift];
-    let answer = flush::flush_page_in(&mut tags, &pages, &stamps, &marks, t.code, mask, 0);
-    let stays = stays_030(&tags, &pages, &stamps, &marks, t.recent, t.shift);
+    let mut c030 = threes_030(t.recent, t.shift);
+    let answer = flush::flush_page_in(&mut c030, t.code, mask, 0);
+    let stays = stays_030(&c030, t.recent, t.shift);
     Given {
         number: flush_number(answer),
         kept: stays,
@@ -256,10 +214,9 @@ fn flush_page(t: Trial, mask: u32) -> Given {
 
 // The flush of a 68040 frame.
 fn flush_frame(frame: u32) -> Given {
-    let mut keys = [3u64; 64];
-    let bases = [3u64; 64];
-    let answer = flush::flush_frame_in(&mut keys, &bases, frame);
-    let stays = stays_040(&keys, &bases);
+    let mut c040 = [3u64; 128];
+    let answer = flush::flush_frame_in(&mut c040, frame);
+    let stays = stays_040(&c040);
     Given {
         number: flush_number(answer),
         kept: stays,

@@ -1,4 +1,4 @@
--- Calls in place, one after the other: each link is what one call's contract promises of the six arrays at its entry and at its exit.
+-- Calls in place, one after the other: each link is what one call's contract promises of the two arrays at its entry and at its exit.
 -- translate_in, load_in and test_in promise it where the caller's `three` is true of the ranges, so a chain speaks of callers that say it rightly.
 use Prim.Native.Nat.{ℕ}
 use mathlib.Core.Path.{_≡_}
@@ -41,22 +41,22 @@ Translates g a m x answer count y =
 -- what each call promises, from x to y: translate_in, load_in, test_in and probe_in (which change no array), the flushes
 pub data Passes (g : Registers) (m : Memory) (x : Arrays) : Call → Arrays → Type 0 where
   translates : {y : Arrays} {answer : Translation} {count : ℕ} (a : Access) → Translates g a m x answer count y → Passes g m x (calls.access a) y
-  loads : {c3 : List ℕ} {answer : Load} {count : ℕ} (code : ℕ) (write : Bool) (address : ℕ)
-      → LoadedIn (shownLoaded (load g code write address m (cachesIn x))) answer count c3
-      → Passes g m x (calls.loading code write address) (record { c030 = c3; c040 = x .c040 })
+  loads : {c030 : List ℕ} {answer : Load} {count : ℕ} (code : ℕ) (write : Bool) (address : ℕ)
+      → LoadedIn (shownLoaded (load g code write address m (cachesIn x))) answer count c030
+      → Passes g m x (calls.loading code write address) (record { c030 = c030; c040 = x .c040 })
   tests : (code : ℕ) (write : Bool) (level address : ℕ) → Passes g m x (calls.testing code write level address) x
   probes : (own instruction write : Bool) (address : ℕ) → Passes g m x (calls.probing own instruction write address) x
   flushesAll : {y : Arrays} {answer : Flush} → FlushedIn (flushAll (cachesIn x)) answer (y .c030) (y .c040)
       → Passes g m x calls.flushingAll y
-  flushesCode : {c3 : List ℕ} {answer : Flush} (code mask : ℕ)
-      → FlushedIn030 (flushCode code mask (cachesIn x)) (cache040Of (x .c040)) answer c3
-      → Passes g m x (calls.flushingCode code mask) (record { c030 = c3; c040 = x .c040 })
-  flushesPage : {c3 : List ℕ} {answer : Flush} (code mask address : ℕ)
-      → FlushedIn030 (flushPage code mask address (cachesIn x)) (cache040Of (x .c040)) answer c3
-      → Passes g m x (calls.flushingPage code mask address) (record { c030 = c3; c040 = x .c040 })
-  flushesFrame : {c4 : List ℕ} {answer : Flush} (frame : ℕ)
-      → FlushedIn040 (flushFrame frame (cachesIn x)) (cacheOf (x .c030)) answer c4
-      → Passes g m x (calls.flushingFrame frame) (record { c030 = x .c030; c040 = c4 })
+  flushesCode : {c030 : List ℕ} {answer : Flush} (code mask : ℕ)
+      → FlushedIn030 (flushCode code mask (cachesIn x)) (cache040Of (x .c040)) answer c030
+      → Passes g m x (calls.flushingCode code mask) (record { c030 = c030; c040 = x .c040 })
+  flushesPage : {c030 : List ℕ} {answer : Flush} (code mask address : ℕ)
+      → FlushedIn030 (flushPage code mask address (cachesIn x)) (cache040Of (x .c040)) answer c030
+      → Passes g m x (calls.flushingPage code mask address) (record { c030 = c030; c040 = x .c040 })
+  flushesFrame : {c040 : List ℕ} {answer : Flush} (frame : ℕ)
+      → FlushedIn040 (flushFrame frame (cachesIn x)) (cacheOf (x .c030)) answer c040
+      → Passes g m x (calls.flushingFrame frame) (record { c030 = x .c030; c040 = c040 })
 
 -- calls in place at these moments, from arrays x to arrays y: the answers that the watched ones gave, in order
 pub data Chain (g : Registers) : Arrays → List Moment → List Translation → Arrays → Type 0 where

@@ -69,17 +69,17 @@ module _ {out : List ℕ} {count : ℕ} where
   test-refused e f = rw e f
 
 -- ---- a flush of one cache
-pub flushed-030 : {f : Flushed} {k : Cache040} {answer : Flush} {c3 : List ℕ} {n : ℕ} → FlushedIn030 f k answer c3 → n ≡ flushNumber answer
-    → FlushedTo f n (pairWith (cacheOf c3) k)
+pub flushed-030 : {f : Flushed} {k : Cache040} {answer : Flush} {c030 : List ℕ} {n : ℕ} → FlushedIn030 f k answer c030 → n ≡ flushNumber answer
+    → FlushedTo f n (pairWith (cacheOf c030) k)
 flushed-030 q e = record { answers = e ∙ ap flushNumber (q .answers); leaves = q .leaves }
 
-pub flushed-040 : {f : Flushed} {c : Cache030} {answer : Flush} {c4 : List ℕ} {n : ℕ} → FlushedIn040 f c answer c4 → n ≡ flushNumber answer
-    → FlushedTo f n (pairWith c (cache040Of c4))
+pub flushed-040 : {f : Flushed} {c : Cache030} {answer : Flush} {c040 : List ℕ} {n : ℕ} → FlushedIn040 f c answer c040 → n ≡ flushNumber answer
+    → FlushedTo f n (pairWith c (cache040Of c040))
 flushed-040 q e = record { answers = e ∙ ap flushNumber (q .answers); leaves = q .leaves }
 
 -- ---- a flush of both
-pub flushed-both : {f : Flushed} {answer : Flush} {c3 c4 : List ℕ} {n : ℕ} → FlushedIn f answer c3 c4 → n ≡ flushNumber answer
-    → FlushedTo f n (cachesOf c3 c4)
+pub flushed-both : {f : Flushed} {answer : Flush} {c030 c040 : List ℕ} {n : ℕ} → FlushedIn f answer c030 c040 → n ≡ flushNumber answer
+    → FlushedTo f n (cachesOf c030 c040)
 flushed-both q e = record { answers = e ∙ ap flushNumber (q .answers); leaves = q .leaves }
 
 -- ---- the host's numbers
@@ -98,14 +98,14 @@ probed ns flags address c t p g o i w = rw (← g, ← o, ← i, ← w, ← p) t
 
 -- ---- the calls over the ranges: the answer's numbers, from the call's promise in place
 module _ (ns : List ℕ) {g : Registers} (is-g : g ≡ registersOf ns) (m : Memory) {out : List ℕ} where
-  pub translates : (flags code address : ℕ) (c : Caches) {a : Access} {t : Translation} {count : ℕ} {c3 c4 : List ℕ} → a ≡ accessOf flags code address
-      → AnsweredIn (shownTranslated (translate g a m c)) t count c3 c4 → out ≡ translationNumbers t count
-      → TranslatedTo (translate (registersOf ns) (accessOf flags code address) m c) out (cachesOf c3 c4)
+  pub translates : (flags code address : ℕ) (c : Caches) {a : Access} {t : Translation} {count : ℕ} {c030 c040 : List ℕ} → a ≡ accessOf flags code address
+      → AnsweredIn (shownTranslated (translate g a m c)) t count c030 c040 → out ≡ translationNumbers t count
+      → TranslatedTo (translate (registersOf ns) (accessOf flags code address) m c) out (cachesOf c030 c040)
   translates flags code address c is-a q e = rw (← is-g, ← is-a) (record { answers = e ∙ rw (q .answers, q .counts); leaves = q .leaves })
 
-  pub loads : (code : ℕ) (write : Bool) (address : ℕ) (c : Cache030) {l : Load} {count : ℕ} {c3 : List ℕ}
-      → ((k : Cache040) → LoadedIn (shownLoaded (load g code write address m (pairWith c k))) l count c3) → out ≡ loadNumbers l count
-      → (k : Cache040) → LoadedTo (load (registersOf ns) code write address m (pairWith c k)) out (cacheOf c3)
+  pub loads : (code : ℕ) (write : Bool) (address : ℕ) (c : Cache030) {l : Load} {count : ℕ} {c030 : List ℕ}
+      → ((k : Cache040) → LoadedIn (shownLoaded (load g code write address m (pairWith c k))) l count c030) → out ≡ loadNumbers l count
+      → (k : Cache040) → LoadedTo (load (registersOf ns) code write address m (pairWith c k)) out (cacheOf c030)
   loads code write address c f e k = let q = f k in rw (← is-g) (record { answers = e ∙ rw (q .answers, q .counts); leaves = q .leaves })
 
   pub tests : (code : ℕ) (write : Bool) (level address : ℕ) {t : Test} {count : ℕ}

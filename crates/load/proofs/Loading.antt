@@ -36,27 +36,27 @@ use Rattle.load.specs.Loaded.{loadPlan, loadRefusal, planLoad, LoadEnded
 
 -- ---- the plan
 module _ (g : Registers) (code : ℕ) (two three : Bool) where
-  pub load-refusal-is : (c3 : List ℕ) {n : ℕ} {one six five four : Bool}
-      → one ≡ noFamily (g .family) → six ≡ not030 (g .family) → five ≡ aboveSeven code → four ≡ badCache (cacheOf c3)
-      → n ≡ refusalOf (checksOf one six five two three four) → n ≡ loadRefusal g code two three (cacheOf c3)
+  pub load-refusal-is : (c030 : List ℕ) {n : ℕ} {one six five four : Bool}
+      → one ≡ noFamily (g .family) → six ≡ not030 (g .family) → five ≡ aboveSeven code → four ≡ badCache (cacheOf c030)
+      → n ≡ refusalOf (checksOf one six five two three four) → n ≡ loadRefusal g code two three (cacheOf c030)
   unfolding loadRefusal
-  load-refusal-is c3 e s f h n = rw (← e, ← s, ← f, ← h) n
+  load-refusal-is c030 e s f h n = rw (← e, ← s, ← f, ← h) n
 
-  module _ (address : ℕ) {c3 : List ℕ} {n : ℕ} (is : n ≡ loadRefusal g code two three (cacheOf c3)) where
-    pub load-refused : (n ≡ 0 → ⊥) → length c3 ≡ 69
-        → PlannedIn030 (planLoad g code address two three (cacheOf c3)) (Plan.Refused n) c3
+  module _ (address : ℕ) {c030 : List ℕ} {n : ℕ} (is : n ≡ loadRefusal g code two three (cacheOf c030)) where
+    pub load-refused : (n ≡ 0 → ⊥) → length c030 ≡ 69
+        → PlannedIn030 (planLoad g code address two three (cacheOf c030)) (Plan.Refused n) c030
     unfolding planLoad
     load-refused h z = rw (← is, ne-eqb n 0 h) (record { plans = refl; leaves = refl; sized = z })
 
-    pub load-off : {x : Bool} → n ≡ 0 → x ≡ on g → not x ≡ true → length c3 ≡ 69
-        → PlannedIn030 (planLoad g code address two three (cacheOf c3)) (Plan.Settled 0) c3
+    pub load-off : {x : Bool} → n ≡ 0 → x ≡ on g → not x ≡ true → length c030 ≡ 69
+        → PlannedIn030 (planLoad g code address two three (cacheOf c030)) (Plan.Settled 0) c030
     unfolding planLoad
     load-off e q h z = rw (sym is ∙ e, ap not (sym q) ∙ h) (record { plans = refl; leaves = refl; sized = z })
 
-    pub load-dropped : {x stop : Bool} {p : Plan} {c3′ : List ℕ} → n ≡ 0 → x ≡ on g → not x ≡ false
-        → Stepped (λ (c : Cache030). flushedPage c code 7 address) c3 c3′
+    pub load-dropped : {x stop : Bool} {p : Plan} {c030′ : List ℕ} → n ≡ 0 → x ≡ on g → not x ≡ false
+        → Stepped (λ (c : Cache030). flushedPage c code 7 address) c030 c030′
         → stop ≡ stopped (shiftOf (g .tc)) (transparent030 g address code) → p ≡ loadPlan stop code
-        → PlannedIn030 (planLoad g code address two three (cacheOf c3)) p c3′
+        → PlannedIn030 (planLoad g code address two three (cacheOf c030)) p c030′
     unfolding planLoad
     load-dropped e q h s t p =
         rw (sym is ∙ e, ap not (sym q) ∙ h, ← t) (record { plans = p; leaves = s .leaves; sized = s .sized })
@@ -98,35 +98,35 @@ conclude-in-three-bits g code address write two three c d w {p} e = go p refl
     go (plan.Settled x) f = refl
     go (plan.Walk way) f = rw (in-three-bits (load-code g code address two three c e f)) refl
 
-module _ (tc code address : ℕ) (write : Bool) {c3 : List ℕ} {w : Walks} where
-  pub load-idle : w ≡ walks.Idle → length c3 ≡ 69 → LoadedIn (loadWalks tc code address write (cacheOf c3) w) Load.Loaded 0 c3
+module _ (tc code address : ℕ) (write : Bool) {c030 : List ℕ} {w : Walks} where
+  pub load-idle : w ≡ walks.Idle → length c030 ≡ 69 → LoadedIn (loadWalks tc code address write (cacheOf c030) w) Load.Loaded 0 c030
   unfolding loadWalks
   load-idle e z = rw e (record { answers = refl; counts = refl; leaves = refl; sized = z })
 
-  pub load-040 : {x : Walked040} → w ≡ walks.By040 x → length c3 ≡ 69
-      → LoadedIn (loadWalks tc code address write (cacheOf c3) w) Load.Loaded 0 c3
+  pub load-040 : {x : Walked040} → w ≡ walks.By040 x → length c030 ≡ 69
+      → LoadedIn (loadWalks tc code address write (cacheOf c030) w) Load.Loaded 0 c030
   unfolding loadWalks
   load-040 e z = rw e (record { answers = refl; counts = refl; leaves = refl; sized = z })
 
-pub load-030 : (tc : ℕ) (c : Cache030) (code address : ℕ) (write : Bool) {w : Walks} {x : Walked} {t : Translation} {c3 : List ℕ}
-    → w ≡ walks.By030 x → Ended (end030 tc c code address write x) t c3
-    → LoadedIn (loadWalks tc code address write c w) Load.Loaded (x .asked) c3
+pub load-030 : (tc : ℕ) (c : Cache030) (code address : ℕ) (write : Bool) {w : Walks} {x : Walked} {t : Translation} {c030 : List ℕ}
+    → w ≡ walks.By030 x → Ended (end030 tc c code address write x) t c030
+    → LoadedIn (loadWalks tc code address write c w) Load.Loaded (x .asked) c030
 unfolding loadWalks
 load-030 tc c code address write e k = rw e (record { answers = refl; counts = refl; leaves = k .leaves; sized = k .sized })
 
 module _ (tc code address : ℕ) (write : Bool) {p : Plan} (w : Walks) where
-  pub load-refuses : {c3 : List ℕ} {n : ℕ} → p ≡ plan.Refused n → length c3 ≡ 69
-      → LoadedIn (concludeLoad tc code address write (cacheOf c3) p w) (Load.Refused n) 0 c3
+  pub load-refuses : {c030 : List ℕ} {n : ℕ} → p ≡ plan.Refused n → length c030 ≡ 69
+      → LoadedIn (concludeLoad tc code address write (cacheOf c030) p w) (Load.Refused n) 0 c030
   unfolding concludeLoad
   load-refuses e z = rw e (record { answers = refl; counts = refl; leaves = refl; sized = z })
 
-  pub load-settles : {c3 : List ℕ} {x : ℕ} → p ≡ plan.Settled x → length c3 ≡ 69
-      → LoadedIn (concludeLoad tc code address write (cacheOf c3) p w) Load.Loaded 0 c3
+  pub load-settles : {c030 : List ℕ} {x : ℕ} → p ≡ plan.Settled x → length c030 ≡ 69
+      → LoadedIn (concludeLoad tc code address write (cacheOf c030) p w) Load.Loaded 0 c030
   unfolding concludeLoad
   load-settles e z = rw e (record { answers = refl; counts = refl; leaves = refl; sized = z })
 
-  pub load-walks : (c : Cache030) {way : Way} {l : Load} {n : ℕ} {c3 : List ℕ} → p ≡ plan.Walk way
-      → LoadedIn (loadWalks tc code address write c w) l n c3 → LoadedIn (concludeLoad tc code address write c p w) l n c3
+  pub load-walks : (c : Cache030) {way : Way} {l : Load} {n : ℕ} {c030 : List ℕ} → p ≡ plan.Walk way
+      → LoadedIn (loadWalks tc code address write c w) l n c030 → LoadedIn (concludeLoad tc code address write c p w) l n c030
   unfolding concludeLoad
   load-walks c e k = rw e k
 
@@ -170,13 +170,13 @@ module _ (g : Registers) (code : ℕ) (write : Bool) (address : ℕ) (m : Memory
 
 -- ---- the call
 module _ (g : Registers) (code : ℕ) (write : Bool) (address : ℕ) (m : Memory) (c : Caches) {two three : Bool}
-    (is-two : two ≡ badBase m) (is-three : three ≡ badRange m) {p : Plan} {c3 : List ℕ}
-    (k : PlannedIn030 (planLoad g code address two three (c .c030)) p c3) where
-  load-planned : PlannedIn030 (planLoad g code address (badBase m) (badRange m) (c .c030)) p c3
+    (is-two : two ≡ badBase m) (is-three : three ≡ badRange m) {p : Plan} {c030 : List ℕ}
+    (k : PlannedIn030 (planLoad g code address two three (c .c030)) p c030) where
+  load-planned : PlannedIn030 (planLoad g code address (badBase m) (badRange m) (c .c030)) p c030
   load-planned = rw (← is-two, ← is-three) k
 
-  pub load-by : {way : Way} {w : Walks} {l : Load} {n : ℕ} {c3′ : List ℕ} → way ≡ wayOf p → w ≡ walksOf m g address way
-      → LoadedIn (concludeLoad (g .tc) (code % 8) address write (cacheOf c3) p w) l n c3′
-      → LoadedIn (shownLoaded (load g code write address m c)) l n c3′
+  pub load-by : {way : Way} {w : Walks} {l : Load} {n : ℕ} {c030′ : List ℕ} → way ≡ wayOf p → w ≡ walksOf m g address way
+      → LoadedIn (concludeLoad (g .tc) (code % 8) address write (cacheOf c030) p w) l n c030′
+      → LoadedIn (shownLoaded (load g code write address m c)) l n c030′
   load-by {way} {w} e f q =
-      rw (← load-staged g code write address m c, ← load-planned .plans, ← load-planned .leaves, ← e, ← f, ← conclude-in-three-bits g code address write two three (c .c030) (cacheOf c3) w (k .plans)) q
+      rw (← load-staged g code write address m c, ← load-planned .plans, ← load-planned .leaves, ← e, ← f, ← conclude-in-three-bits g code address write two three (c .c030) (cacheOf c030) w (k .plans)) q

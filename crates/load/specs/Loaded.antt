@@ -64,8 +64,8 @@ concludeLoad tc code address write c (plan.Settled x) w = loadEnded Load.Loaded 
 concludeLoad tc code address write c (plan.Walk x) w = loadWalks tc code address write c w
 
 -- a load's answer and its count, with the 68030 arrays after them
-pub record LoadedIn (e : LoadEnded) (answer : Load) (count : ℕ) (c3 : List ℕ) : Type 0 where
+pub record LoadedIn (e : LoadEnded) (answer : Load) (count : ℕ) (c030 : List ℕ) : Type 0 where
   pub answers : answer ≡ e .answer
   pub counts : count ≡ e .count
-  pub leaves : cacheOf c3 ≡ e .cache
-  pub sized : length c3 ≡ 69
+  pub leaves : cacheOf c030 ≡ e .cache
+  pub sized : length c030 ≡ 69

@@ -10,6 +10,8 @@ ghost use Rattle.definition.specs.Words.{anyOf};
 ghost use Rattle.definition.specs.Refusal.{crossed};
 ghost use Rattle.replay.specs.Playing.{rangesOf, stateOf};
 ghost use Rattle.playing.specs.Driving.{Went, Waits, Turned};
+use cache::atc030::Atc030;
+use cache::atc040::Atc040;
 use libc::STDERR_FILENO;
 use libc::STDIN_FILENO;
 use replay::Kept;
@@ -80,19 +82,9 @@ fn after(why: Why) -> Next {
 }
 
 // With `states`, both caches after a record that printed its line.
-fn caches_shown(
-    line: &mut [u8],
-    tags: &[u64; 22],
-    pages: &[u64; 22],
-    stamps: &[u64; 22],
-    marks: &[u64; 3],
-    keys: &[u64; 64],
-    bases: &[u64; 64],
-    states: bool,
-    wrote: usize,
-) -> bool {
+fn caches_shown(line: &mut [u8], c030: &Atc030, c040: &Atc040, states: bool, wrote: usize) -> bool {
     if states && 0 < wrote {
-        let n = states::state_line(line, tags, pages, stamps, marks, keys, bases);
+        let n = states::state_line(line, c030, c040);
         return shown(line, n);
     }
     true
@@ -101,12 +93,8 @@ fn caches_shown(
 // One run over waiting bytes, with its lines written. With `states` it plays one record, since `out` has room for one line, and
 // writes both caches after it.
 fn some(
-    tags: &mut [u64; 22],
-    pages: &mut [u64; 22],
-    stamps: &mut [u64; 22],
-    marks: &mut [u64; 3],
-    keys: &mut [u64; 64],
-    bases: &mut [u64; 64],
+    c030: &mut Atc030,
+    c040: &mut Atc040,
     longs: &mut [u32],
     kept: Kept,
     input: &[u8],
@@ -115,21 +103,9 @@ fn some(
     states: bool,
 ) -> Played
     requires { ⌜ anyOf crossed (rangesOf kept) ≡ false ⌝ }
-    ensures { λ r. ⌜ (anyOf crossed (rangesOf (r .kept)) ≡ false) × (r .read ≤ length (now (input .entry))) × Went (r .next) (stateOf kept (now (longs .entry)) (now (tags .entry)) (now (pages .entry)) (now (stamps .entry)) (now (marks .entry)) (now (keys .entry)) (now (bases .entry))) (now (input .entry)) (stateOf (r .kept) (now (longs .exit)) (now (tags .exit)) (now (pages .exit)) (now (stamps .exit)) (now (marks .exit)) (now (keys .exit)) (now (bases .exit))) (r .read) ⌝ }
+    ensures { λ r. ⌜ (anyOf crossed (rangesOf (r .kept)) ≡ false) × (r .read ≤ length (now (input .entry))) × Went (r .next) (stateOf kept (now (longs .entry)) (now (c030 .entry)) (now (c040 .entry))) (now (input .entry)) (stateOf (r .kept) (now (longs .exit)) (now (c030 .exit)) (now (c040 .exit))) (r .read) ⌝ }
 {
-    let ran = replay::run::run(
-        tags,
-        pages,
-        stamps,
-        marks,
-        keys,
-        bases,
-        longs,
-        kept,
-        false,
-        input,
-        out,
-    );
+    let ran = replay::run::run(c030, c040, longs, kept, false, input, out);
     let now = ran.kept;
     let wrote = ran.wrote;
     let why = ran.why;
@@ -141,7 +117,7 @@ fn some(
     if !shown(out, wrote) {
         return over;
     }
-    if !caches_shown(line, tags, pages, stamps, marks, keys, bases, states, wrote) {
+    if !caches_shown(line, c030, c040, states, wrote) {
         return over;
     }
     Played {
@@ -177,12 +153,8 @@ fn resting(buffer: &mut [u8], kept: Kept, at: usize, have: usize) -> Waiting
 
 // Plays the waiting bytes as far as whole records stand there.
 fn drained(
-    tags: &mut [u64; 22],
-    pages: &mut [u64; 22],
-    stamps: &mut [u64; 22],
-    marks: &mut [u64; 3],
-    keys: &mut [u64; 64],
-    bases: &mut [u64; 64],
+    c030: &mut Atc030,
+    c040: &mut Atc040,
     longs: &mut [u32],
     kept: Kept,
     buffer: &mut [u8],
@@ -192,26 +164,13 @@ fn drained(
     states: bool,
 ) -> Waiting
     requires { ⌜ (have ≤ length (now buffer)) × (anyOf crossed (rangesOf kept) ≡ false) ⌝ }
-    ensures { λ r. ⌜ (anyOf crossed (rangesOf (r .kept)) ≡ false) × Waits (r .on) (stateOf kept (now (longs .entry)) (now (tags .entry)) (now (pages .entry)) (now (stamps .entry)) (now (marks .entry)) (now (keys .entry)) (now (bases .entry))) (take have (now (buffer .entry))) (stateOf (r .kept) (now (longs .exit)) (now (tags .exit)) (now (pages .exit)) (now (stamps .exit)) (now (marks .exit)) (now (keys .exit)) (now (bases .exit))) (now (buffer .exit)) (r .have) ⌝ }
+    ensures { λ r. ⌜ (anyOf crossed (rangesOf (r .kept)) ≡ false) × Waits (r .on) (stateOf kept (now (longs .entry)) (now (c030 .entry)) (now (c040 .entry))) (take have (now (buffer .entry))) (stateOf (r .kept) (now (longs .exit)) (now (c030 .exit)) (now (c040 .exit))) (now (buffer .exit)) (r .have) ⌝ }
 {
     let mut now = kept;
     let mut at = 0;
     let mut turns = u64::MAX;
     while turns > 0 {
-        let s = some(
-            tags,
-            pages,
-            stamps,
-            marks,
-            keys,
-            bases,
-            longs,
-            now,
-            &buffer[at..have],
-            out,
-            line,
-            states,
-        );
+        let s = some(c030, c040, longs, now, &buffer[at..have], out, line, states);
         now = s.kept;
         let read = s.read;
         let next = s.next;
@@ -237,12 +196,8 @@ fn unread() {
 
 // Reads once and plays what came. At the end of the input, or where a read fails, it is over.
 fn turn(
-    tags: &mut [u64; 22],
-    pages: &mut [u64; 22],
-    stamps: &mut [u64; 22],
-    marks: &mut [u64; 3],
-    keys: &mut [u64; 64],
-    bases: &mut [u64; 64],
+    c030: &mut Atc030,
+    c040: &mut Atc040,
     longs: &mut [u32],
     w: Waiting,
     buffer: &mut [u8],
@@ -251,7 +206,7 @@ fn turn(
     states: bool,
 ) -> Waiting
     requires { ⌜ anyOf crossed (rangesOf (w .kept)) ≡ false ⌝ }
-    ensures { λ r. ⌜ (anyOf crossed (rangesOf (r .kept)) ≡ false) × Turned (r .on) (stateOf (w .kept) (now (longs .entry)) (now (tags .entry)) (now (pages .entry)) (now (stamps .entry)) (now (marks .entry)) (now (keys .entry)) (now (bases .entry))) (take (w .have) (now (buffer .entry))) (stateOf (r .kept) (now (longs .exit)) (now (tags .exit)) (now (pages .exit)) (now (stamps .exit)) (now (marks .exit)) (now (keys .exit)) (now (bases .exit))) (now (buffer .exit)) (r .have) ⌝ }
+    ensures { λ r. ⌜ (anyOf crossed (rangesOf (r .kept)) ≡ false) × Turned (r .on) (stateOf (w .kept) (now (longs .entry)) (now (c030 .entry)) (now (c040 .entry))) (take (w .have) (now (buffer .entry))) (stateOf (r .kept) (now (longs .exit)) (now (c030 .exit)) (now (c040 .exit))) (now (buffer .exit)) (r .have) ⌝ }
 {
     let kept = w.kept;
     let have = w.have;
@@ -264,21 +219,7 @@ fn turn(
             finish(have);
             over(kept)
         }
-        Got::Waiting(n) => drained(
-            tags,
-            pages,
-            stamps,
-            marks,
-            keys,
-            bases,
-            longs,
-            kept,
-            buffer,
-            n,
-            out,
-            line,
-            states,
-        ),
+        Got::Waiting(n) => drained(c030, c040, longs, kept, buffer, n, out, line, states),
     }
 }
 
@@ -312,12 +253,8 @@ pub fn play(states: bool) {
     if !begins() {
         return;
     }
-    let mut tags = [0u64; 22];
-    let mut pages = [0u64; 22];
-    let mut stamps = [0u64; 22];
-    let mut marks = [0u64; 3];
-    let mut keys = [0u64; 64];
-    let mut bases = [0u64; 64];
+    let mut c030 = [0u64; 69];
+    let mut c040 = [0u64; 128];
     let mut longs = [0u32; 8192];
     let mut buffer = [0u8; 131072];
     let mut out = [0u8; 65536];
@@ -331,12 +268,8 @@ pub fn play(states: bool) {
     let mut turns = u64::MAX;
     while turns > 0 && w.on {
         w = turn(
-            &mut tags,
-            &mut pages,
-            &mut stamps,
-            &mut marks,
-            &mut keys,
-            &mut bases,
+            &mut c030,
+            &mut c040,
             &mut longs,
             w,
             &mut buffer,

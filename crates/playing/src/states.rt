@@ -1,4 +1,12 @@
 // The state line: S m=MRU c=CLOCK s=SHIFT eI=V,FC,PAGE,PHYS,WP,STAMP .. dI=V,TAG,PHYS,WP,SUP .., entries of zeros left out.
+use cache::atc030::Atc030;
+use cache::atc030::CLOCK;
+use cache::atc030::PAGES;
+use cache::atc030::RECENT;
+use cache::atc030::SHIFT;
+use cache::atc030::STAMPS;
+use cache::atc040::Atc040;
+use cache::atc040::BASES;
 use streams::put;
 use streams::put_decimal;
 use streams::put_text;
@@ -70,52 +78,41 @@ fn put_slot(out: &mut [u8], at: usize, i: usize, key: u64, base: u64) -> usize {
 }
 
 // The 22 entries.
-fn put_entries(out: &mut [u8], at: usize, tags: &[u64], pages: &[u64], stamps: &[u64]) -> usize {
+fn put_entries(out: &mut [u8], at: usize, c030: &Atc030) -> usize {
     let mut to = at;
-    let mut i = 0;
-    while i < tags.len() && i < pages.len() && i < stamps.len() {
-        to = put_entry(out, to, i, tags[i], pages[i], stamps[i]);
+    let mut i: usize = 0;
+    while i < 22 {
+        to = put_entry(out, to, i, c030[i], c030[PAGES + i], c030[STAMPS + i]);
         i += 1;
     }
     to
 }
 
 // The 64 slots.
-fn put_slots(out: &mut [u8], at: usize, keys: &[u64], bases: &[u64]) -> usize {
+fn put_slots(out: &mut [u8], at: usize, c040: &Atc040) -> usize {
     let mut to = at;
-    let mut i = 0;
-    while i < keys.len() && i < bases.len() {
-        to = put_slot(out, to, i, keys[i], bases[i]);
+    let mut i: usize = 0;
+    while i < 64 {
+        to = put_slot(out, to, i, c040[i], c040[BASES + i]);
         i += 1;
     }
     to
 }
 
 // The most recent index, the clock and the shift.
-fn put_marks(out: &mut [u8], at: usize, marks: &[u64]) -> usize {
-    if marks.len() < 3 {
-        return at;
-    }
+fn put_marks(out: &mut [u8], at: usize, c030: &Atc030) -> usize {
     let mut to = put_text(out, at, b"S m=");
-    to = put_decimal(out, to, marks[0]);
+    to = put_decimal(out, to, c030[RECENT]);
     to = put_text(out, to, b" c=");
-    to = put_decimal(out, to, marks[1]);
+    to = put_decimal(out, to, c030[CLOCK]);
     to = put_text(out, to, b" s=");
-    put_decimal(out, to, marks[2])
+    put_decimal(out, to, c030[SHIFT])
 }
 
 // The whole line, from the start of `out`: how many bytes it has.
-pub fn state_line(
-    out: &mut [u8],
-    tags: &[u64],
-    pages: &[u64],
-    stamps: &[u64],
-    marks: &[u64],
-    keys: &[u64],
-    bases: &[u64],
-) -> usize {
-    let mut to = put_marks(out, 0, marks);
-    to = put_entries(out, to, tags, pages, stamps);
-    to = put_slots(out, to, keys, bases);
+pub fn state_line(out: &mut [u8], c030: &Atc030, c040: &Atc040) -> usize {
+    let mut to = put_marks(out, 0, c030);
+    to = put_entries(out, to, c030);
+    to = put_slots(out, to, c040);
     put(out, to, b'\n')
 }

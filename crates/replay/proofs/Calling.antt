@@ -37,17 +37,17 @@ use Rattle.plan.proofs.Pairs.{beside}
 use Rattle.replay.specs.Playing.{CalledIn, Tests}
 
 module _ (g : Registers) (m : Memory) {l : Line} where
-  pub of-translate : (a : Access) (c : Caches) {t : Translation} {n : ℕ} {c3 c4 : List ℕ}
-      → AnsweredIn (shownTranslated (translate g a m c)) t n c3 c4 → lineIn l ≡ translationLine n t
-      → CalledIn (calling g m c (calls.access a)) l c3 c4
+  pub of-translate : (a : Access) (c : Caches) {t : Translation} {n : ℕ} {c030 c040 : List ℕ}
+      → AnsweredIn (shownTranslated (translate g a m c)) t n c030 c040 → lineIn l ≡ translationLine n t
+      → CalledIn (calling g m c (calls.access a)) l c030 c040
   unfolding calling
   of-translate a c k e = record { prints = e ∙ rw (k .answers, k .counts) refl; leaves = k .leaves }
 
-  pub of-load : (code : ℕ) (write : Bool) (address : ℕ) (c : Cache030) (k : Cache040) {t : Load} {n : ℕ} {c3 c4 : List ℕ} → k ≡ cache040Of c4
-      → LoadedIn (shownLoaded (load g code write address m (pairWith c k))) t n c3 → lineIn l ≡ loadLine n t
-      → CalledIn (calling g m (pairWith c k) (calls.loading code write address)) l c3 c4
+  pub of-load : (code : ℕ) (write : Bool) (address : ℕ) (c : Cache030) (k : Cache040) {t : Load} {n : ℕ} {c030 c040 : List ℕ} → k ≡ cache040Of c040
+      → LoadedIn (shownLoaded (load g code write address m (pairWith c k))) t n c030 → lineIn l ≡ loadLine n t
+      → CalledIn (calling g m (pairWith c k) (calls.loading code write address)) l c030 c040
   unfolding calling
-  of-load code write address c k {ks = ks} {bs = bs} e q f =
+  of-load code write address c k e q f =
       record {
         prints = f ∙ rw (q .answers, q .counts) refl;
         leaves = beside (load g code write address m (pairWith c k) .caches) (q .leaves) (sym e ∙ sym (load-beside g code write address m (pairWith c k)));
@@ -58,42 +58,42 @@ module _ (g : Registers) (m : Memory) {l : Line} where
   unfolding calling
   of-test code write level address k e = record { prints = λ c. e ∙ rw (k .answers, k .counts) refl; leaves = λ c. refl }
 
-  pub of-probe : (own instruction write : Bool) (address : ℕ) (c3 c4 : List ℕ) {p : Probe}
-      → p ≡ probe g own instruction write address (cachesOf c3 c4) → lineIn l ≡ probeLine p
-      → CalledIn (calling g m (cachesOf c3 c4) (calls.probing own instruction write address)) l c3 c4
+  pub of-probe : (own instruction write : Bool) (address : ℕ) (c030 c040 : List ℕ) {p : Probe}
+      → p ≡ probe g own instruction write address (cachesOf c030 c040) → lineIn l ≡ probeLine p
+      → CalledIn (calling g m (cachesOf c030 c040) (calls.probing own instruction write address)) l c030 c040
   unfolding calling
-  of-probe own instruction write address c3 c4 k e = record { prints = e ∙ ap probeLine k; leaves = refl }
+  of-probe own instruction write address c030 c040 k e = record { prints = e ∙ ap probeLine k; leaves = refl }
 
   -- ---- the flushes
-  pub of-flush-all : (c : Caches) {f : Flush} {c3 c4 : List ℕ} → FlushedIn (flushAll c) f c3 c4 → lineIn l ≡ flushLine f
-      → CalledIn (calling g m c calls.flushingAll) l c3 c4
+  pub of-flush-all : (c : Caches) {f : Flush} {c030 c040 : List ℕ} → FlushedIn (flushAll c) f c030 c040 → lineIn l ≡ flushLine f
+      → CalledIn (calling g m c calls.flushingAll) l c030 c040
   unfolding calling
   of-flush-all c k e = record { prints = e ∙ ap flushLine (k .answers); leaves = k .leaves }
 
-  pub of-flush-code : (code mask : ℕ) (c : Cache030) {f : Flush} {c3 c4 : List ℕ}
-      → FlushedIn030 (flushCode code mask (pairWith c (cache040Of c4))) (cache040Of c4) f c3 → lineIn l ≡ flushLine f
-      → CalledIn (calling g m (pairWith c (cache040Of c4)) (calls.flushingCode code mask)) l c3 c4
+  pub of-flush-code : (code mask : ℕ) (c : Cache030) {f : Flush} {c030 c040 : List ℕ}
+      → FlushedIn030 (flushCode code mask (pairWith c (cache040Of c040))) (cache040Of c040) f c030 → lineIn l ≡ flushLine f
+      → CalledIn (calling g m (pairWith c (cache040Of c040)) (calls.flushingCode code mask)) l c030 c040
   unfolding calling
   of-flush-code code mask c k e = record { prints = e ∙ ap flushLine (k .answers); leaves = k .leaves }
 
-  pub of-flush-page : (code mask address : ℕ) (c : Cache030) {f : Flush} {c3 c4 : List ℕ}
-      → FlushedIn030 (flushPage code mask address (pairWith c (cache040Of c4))) (cache040Of c4) f c3 → lineIn l ≡ flushLine f
-      → CalledIn (calling g m (pairWith c (cache040Of c4)) (calls.flushingPage code mask address)) l c3 c4
+  pub of-flush-page : (code mask address : ℕ) (c : Cache030) {f : Flush} {c030 c040 : List ℕ}
+      → FlushedIn030 (flushPage code mask address (pairWith c (cache040Of c040))) (cache040Of c040) f c030 → lineIn l ≡ flushLine f
+      → CalledIn (calling g m (pairWith c (cache040Of c040)) (calls.flushingPage code mask address)) l c030 c040
   unfolding calling
   of-flush-page code mask address c k e = record { prints = e ∙ ap flushLine (k .answers); leaves = k .leaves }
 
-  pub of-flush-frame : (frame : ℕ) (k : Cache040) {f : Flush} {c3 c4 : List ℕ}
-      → FlushedIn040 (flushFrame frame (pairWith (cacheOf c3) k)) (cacheOf c3) f c4 → lineIn l ≡ flushLine f
-      → CalledIn (calling g m (pairWith (cacheOf c3) k) (calls.flushingFrame frame)) l c3 c4
+  pub of-flush-frame : (frame : ℕ) (k : Cache040) {f : Flush} {c030 c040 : List ℕ}
+      → FlushedIn040 (flushFrame frame (pairWith (cacheOf c030) k)) (cacheOf c030) f c040 → lineIn l ≡ flushLine f
+      → CalledIn (calling g m (pairWith (cacheOf c030) k) (calls.flushingFrame frame)) l c030 c040
   unfolding calling
   of-flush-frame frame k q e = record { prints = e ∙ ap flushLine (q .answers); leaves = q .leaves }
 
 -- a PTEST: the caches stay
-pub tested : (g : Registers) (m : Memory) (c3 c4 : List ℕ) {code level address : ℕ} {write : Bool} {l : Line} → Tests g m code write level address l
-    → CalledIn (calling g m (cachesOf c3 c4) (calls.testing code write level address)) l c3 c4
-tested g m c3 c4 t = record { prints = t .prints (cachesOf c3 c4); leaves = t .leaves (cachesOf c3 c4) }
+pub tested : (g : Registers) (m : Memory) (c030 c040 : List ℕ) {code level address : ℕ} {write : Bool} {l : Line} → Tests g m code write level address l
+    → CalledIn (calling g m (cachesOf c030 c040) (calls.testing code write level address)) l c030 c040
+tested g m c030 c040 t = record { prints = t .prints (cachesOf c030 c040); leaves = t .leaves (cachesOf c030 c040) }
 
 -- a call that was told apart
-pub by-call : (g : Registers) (m : Memory) (c : Caches) {x y : Made} {l : Line} {c3 c4 : List ℕ} → x ≡ y
-    → CalledIn (calling g m c (callIn y)) l c3 c4 → CalledIn (calling g m c (callIn x)) l c3 c4
+pub by-call : (g : Registers) (m : Memory) (c : Caches) {x y : Made} {l : Line} {c030 c040 : List ℕ} → x ≡ y
+    → CalledIn (calling g m c (callIn y)) l c030 c040 → CalledIn (calling g m c (callIn x)) l c030 c040
 by-call g m c e p = rw e p

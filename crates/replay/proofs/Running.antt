@@ -102,10 +102,10 @@ begins s b out = record { printed = []; most = 0; runs = none; writes = nothing 
 
 module _ (s : State) (b out : List ℕ) (s′ : State) {read wrote : ℕ} {out′ : List ℕ} (g : Going s b out s′ read out′ wrote) where
   -- one record more
-  pub goes-on : (said : Record) {start end next : ℕ} {l : Line} {k : Kept} {longs c3 c4 out″ : List ℕ}
+  pub goes-on : (said : Record) {start end next : ℕ} {l : Line} {k : Kept} {longs c030 c040 out″ : List ℕ}
       → Stands b read start end → said ≡ recordOf (take (end - start) (drop start b)) → isMalformed said ≡ false
-      → PlayedIn (stepOf s′ said) l k longs c3 c4 → wrote + 44 ≤ length out′ → Wrote 44 out′ wrote (text (lineIn l)) out″ next
-      → Going s b out (stateOf k longs c3 c4) end out″ next
+      → PlayedIn (stepOf s′ said) l k longs c030 c040 → wrote + 44 ≤ length out′ → Wrote 44 out′ wrote (text (lineIn l)) out″ next
+      → Going s b out (stateOf k longs c030 c040) end out″ next
   goes-on said {start} {end} {next} {l} f e m p room w =
       record {
         printed = g .printed ++ text (lineIn l);

@@ -24,13 +24,13 @@ use Rattle.replay.specs.declared.Kept.{Kept}
 use Rattle.replay.specs.Playing.{rangesOf, stateOf, CalledIn, StoredIn, PlayedIn}
 
 -- ---- registers
-module _ (k : Kept) (g : Registers) {x : Bool} (is : x ≡ noFamily (g .family)) {longs c3 c4 : List ℕ} where
-  pub set-none : x ≡ true → PlayedIn (stepOf (stateOf k longs c3 c4) (Loads g)) (Line.R 1) k longs c3 c4
+module _ (k : Kept) (g : Registers) {x : Bool} (is : x ≡ noFamily (g .family)) {longs c030 c040 : List ℕ} where
+  pub set-none : x ≡ true → PlayedIn (stepOf (stateOf k longs c030 c040) (Loads g)) (Line.R 1) k longs c030 c040
   unfolding stepOf refusalOf
   set-none e = rw (sym is ∙ e) (record { prints = refl; leaves = refl })
 
   pub set-some : x ≡ false
-      → PlayedIn (stepOf (stateOf k longs c3 c4) (Loads g)) Line.K (record { registers = g; list = k .list; n = k .n }) longs c3 c4
+      → PlayedIn (stepOf (stateOf k longs c030 c040) (Loads g)) Line.K (record { registers = g; list = k .list; n = k .n }) longs c030 c040
   unfolding stepOf refusalOf
   set-some e = rw (sym is ∙ e) (record { prints = refl; leaves = refl })
 
@@ -50,12 +50,12 @@ module _ (longs : List ℕ) (address value : ℕ) where
       record { prints = rw (eq-eqb (address % 4) 0 e, b); leaves = rw (eq-eqb (address % 4) 0 e, b) }
 
 -- a store is refused or done, as the definition's record is
-pub stored : (k : Kept) (address value : ℕ) (longs : List ℕ) {l : Line} {longs′ c3 c4 : List ℕ} → StoredIn longs address value l longs′
-    → PlayedIn (stepOf (stateOf k longs c3 c4) (Stores address value)) l k longs′ c3 c4
+pub stored : (k : Kept) (address value : ℕ) (longs : List ℕ) {l : Line} {longs′ c030 c040 : List ℕ} → StoredIn longs address value l longs′
+    → PlayedIn (stepOf (stateOf k longs c030 c040) (Stores address value)) l k longs′ c030 c040
 unfolding stepOf refusalOf
-stored k address value longs {l} {longs′} {c3} {c4} s = go (badStore longs address) refl
+stored k address value longs {l} {longs′} {c030} {c040} s = go (badStore longs address) refl
   where
-    go : (b : Bool) → badStore longs address ≡ b → PlayedIn (stepOf (stateOf k longs c3 c4) (Stores address value)) l k longs′ c3 c4
+    go : (b : Bool) → badStore longs address ≡ b → PlayedIn (stepOf (stateOf k longs c030 c040) (Stores address value)) l k longs′ c030 c040
     go true e = rw e (record { prints = rw e at (s .prints); leaves = rw (rw e at (s .leaves)) refl })
     go false e = rw e (record { prints = rw e at (s .prints); leaves = rw (rw e at (s .leaves)) refl })
 
@@ -65,22 +65,22 @@ unfolding anyOf
 any-more [] r e = rw e
 any-more (x ∷ l) r e = ap (λ (b : Bool). crossed x || b) (any-more l r e)
 
-module _ (k : Kept) (range : Range) {longs c3 c4 : List ℕ} where
+module _ (k : Kept) (range : Range) {longs c030 c040 : List ℕ} where
   pub add-crossed : range .last < range .first
-      → PlayedIn (stepOf (stateOf k longs c3 c4) (Adds range)) (Line.R 3) k longs c3 c4
+      → PlayedIn (stepOf (stateOf k longs c030 c040) (Adds range)) (Line.R 3) k longs c030 c040
   unfolding stepOf refusalOf
   add-crossed h = rw (lt-ltb (range .last) (range .first) h) (record { prints = refl; leaves = refl })
 
   module _ (size : length (k .list) ≡ 16) (h : range .first ≤ range .last) where
-    pub add-full : 16 ≤ k .n → PlayedIn (stepOf (stateOf k longs c3 c4) (Adds range)) (Line.R 8) k longs c3 c4
+    pub add-full : 16 ≤ k .n → PlayedIn (stepOf (stateOf k longs c030 c040) (Adds range)) (Line.R 8) k longs c030 c040
     unfolding stepOf refusalOf
     add-full f =
         rw (le-ltb (range .last) (range .first) h, le-leb 16 (length (take (k .n) (k .list))) (omega (arith, length-take (k .n) (k .list))))
         (record { prints = refl; leaves = refl })
 
     pub add-in : k .n < 16
-        → PlayedIn (stepOf (stateOf k longs c3 c4) (Adds range)) Line.K
-        (record { registers = k .registers; list = set (k .list) (k .n) range; n = k .n + 1 }) longs c3 c4
+        → PlayedIn (stepOf (stateOf k longs c030 c040) (Adds range)) Line.K
+        (record { registers = k .registers; list = set (k .list) (k .n) range; n = k .n + 1 }) longs c030 c040
     unfolding stepOf refusalOf
     add-in f =
         rw (le-ltb (range .last) (range .first) h, lt-leb 16 (length (take (k .n) (k .list))) (omega (arith, length-take-le (k .n) (k .list) (omega arith))))
@@ -92,13 +92,13 @@ added-crossed k range size h f =
     rw (add-one, take-suc-set (k .list) (k .n) range (omega arith)) (any-more (take (k .n) (k .list)) range (le-ltb (range .last) (range .first) h))
 
 -- ---- a call
-pub called : (k : Kept) (call : Call) (longs : List ℕ) (c3 c4 : List ℕ) {l : Line} {c3′ c4′ : List ℕ}
-    → CalledIn (calling (k .registers) (memoryOf (stateOf k longs c3 c4)) (stateOf k longs c3 c4 .caches) call) l c3′ c4′
-    → PlayedIn (stepOf (stateOf k longs c3 c4) (Calls call)) l k longs c3′ c4′
+pub called : (k : Kept) (call : Call) (longs : List ℕ) (c030 c040 : List ℕ) {l : Line} {c030′ c040′ : List ℕ}
+    → CalledIn (calling (k .registers) (memoryOf (stateOf k longs c030 c040)) (stateOf k longs c030 c040 .caches) call) l c030′ c040′
+    → PlayedIn (stepOf (stateOf k longs c030 c040) (Calls call)) l k longs c030′ c040′
 unfolding stepOf
-called k call longs c3 c4 c = record { prints = c .prints; leaves = rw (c .leaves) refl }
+called k call longs c030 c040 c = record { prints = c .prints; leaves = rw (c .leaves) refl }
 
 -- a setting that was told apart
-pub by-setting : (s : State) {x y : Setting} {l : Line} {k : Kept} {longs c3 c4 : List ℕ} → x ≡ y
-    → PlayedIn (stepOf s (settingIn y)) l k longs c3 c4 → PlayedIn (stepOf s (settingIn x)) l k longs c3 c4
+pub by-setting : (s : State) {x y : Setting} {l : Line} {k : Kept} {longs c030 c040 : List ℕ} → x ≡ y
+    → PlayedIn (stepOf s (settingIn y)) l k longs c030 c040 → PlayedIn (stepOf s (settingIn x)) l k longs c030 c040
 by-setting s e p = rw e p

@@ -26,14 +26,14 @@ use Rattle.replay.specs.declared.run.Why.the-variants as why
 abbrev pub rangesOf : Kept → List Range
 rangesOf k = take (k .n) (k .list)
 
-abbrev pub stateOf : Kept → List ℕ → List ℕ → List ℕ → List ℕ → List ℕ → List ℕ → List ℕ → State
-stateOf k longs c3 c4 =
-    record { registers = k .registers; longs = longs; ranges = rangesOf k; caches = cachesOf c3 c4 }
+abbrev pub stateOf : Kept → List ℕ → List ℕ → List ℕ → State
+stateOf k longs c030 c040 =
+    record { registers = k .registers; longs = longs; ranges = rangesOf k; caches = cachesOf c030 c040 }
 
 -- a call's line, with the arrays after it
-pub record CalledIn (c : calls.Called) (l : Line) (c3 c4 : List ℕ) : Type 0 where
+pub record CalledIn (c : calls.Called) (l : Line) (c030 c040 : List ℕ) : Type 0 where
   pub prints : lineIn l ≡ c .line
-  pub leaves : cachesOf c3 c4 ≡ c .caches
+  pub leaves : cachesOf c030 c040 ≡ c .caches
 
 -- a PTEST's line, whatever the caches are, which stay
 pub record Tests (g : Registers) (m : Memory) (code : ℕ) (write : Bool) (level address : ℕ) (l : Line) : Type 0 where
@@ -46,9 +46,9 @@ pub record StoredIn (longs : List ℕ) (address value : ℕ) (l : Line) (longs�
   pub leaves : longs′ ≡ (if badStore longs address then longs else set longs (address / 4) value)
 
 -- a record's line, with what is kept after it
-pub record PlayedIn (p : Played) (l : Line) (k : Kept) (longs c3 c4 : List ℕ) : Type 0 where
+pub record PlayedIn (p : Played) (l : Line) (k : Kept) (longs c030 c040 : List ℕ) : Type 0 where
   pub prints : lineIn l ≡ p .line
-  pub leaves : stateOf k longs c3 c4 ≡ p .state
+  pub leaves : stateOf k longs c030 c040 ≡ p .state
 
 -- records of b, one after the other from state s: they print t and leave state s′ and the bytes r
 pub data Runs (s : State) (b : List ℕ) : List ℕ → State → List ℕ → Type 0 where

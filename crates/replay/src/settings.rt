@@ -22,7 +22,7 @@ pub struct Step {
 
 // Kind 01: the registers are kept, unless the family is none.
 fn set_registers(kept: Kept, g: Registers) -> Step
-    ensures { λ r. ⌜ ((longs c3 c4 : List ℕ) → PlayedIn (stepOf (stateOf kept longs c3 c4) (Loads g)) (r .line) (r .kept) longs c3 c4) × (rangesOf (r .kept) ≡ rangesOf kept) ⌝ }
+    ensures { λ r. ⌜ ((longs c030 c040 : List ℕ) → PlayedIn (stepOf (stateOf kept longs c030 c040) (Loads g)) (r .line) (r .kept) longs c030 c040) × (rangesOf (r .kept) ≡ rangesOf kept) ⌝ }
 {
     if plan::checks::no_family(g.family) {
         return Step {
@@ -65,7 +65,7 @@ fn room(list: [Range; 16]) -> usize
 
 // Kind 0A: a range is kept, unless it is crossed or there are sixteen.
 fn add_range(kept: Kept, range: Range) -> Step
-    ensures { λ r. ⌜ ((longs c3 c4 : List ℕ) → PlayedIn (stepOf (stateOf kept longs c3 c4) (Adds range)) (r .line) (r .kept) longs c3 c4) × (anyOf crossed (rangesOf (r .kept)) ≡ anyOf crossed (rangesOf kept)) ⌝ }
+    ensures { λ r. ⌜ ((longs c030 c040 : List ℕ) → PlayedIn (stepOf (stateOf kept longs c030 c040) (Adds range)) (r .line) (r .kept) longs c030 c040) × (anyOf crossed (rangesOf (r .kept)) ≡ anyOf crossed (rangesOf kept)) ⌝ }
 {
     if range.last < range.first {
         return Step {
@@ -95,7 +95,7 @@ fn add_range(kept: Kept, range: Range) -> Step
 
 // What a record that sets something prints, and what is kept after it. No setting makes a crossed range one that is kept.
 pub fn set(longs: &mut [u32], kept: Kept, setting: Setting) -> Step
-    ensures { λ r. ⌜ ((c3 c4 : List ℕ) → PlayedIn (stepOf (stateOf kept (now (longs .entry)) c3 c4) (settingIn setting)) (r .line) (r .kept) (now (longs .exit)) c3 c4) × (anyOf crossed (rangesOf (r .kept)) ≡ anyOf crossed (rangesOf kept)) ⌝ }
+    ensures { λ r. ⌜ ((c030 c040 : List ℕ) → PlayedIn (stepOf (stateOf kept (now (longs .entry)) c030 c040) (settingIn setting)) (r .line) (r .kept) (now (longs .exit)) c030 c040) × (anyOf crossed (rangesOf (r .kept)) ≡ anyOf crossed (rangesOf kept)) ⌝ }
 {
     match setting {
         Setting::Registers(g) => set_registers(kept, g),

@@ -13,11 +13,11 @@ use Rattle.tableless.specs.ByValue.{flushedWith, FlushedBy}
 
 -- a pair of arrays
 abbrev pub arrays : List ℕ → List ℕ → CachePair
-arrays c3 c4 = record { c030 = c3; c040 = c4 }
+arrays c030 c040 = record { c030 = c030; c040 = c040 }
 
-module _ {f : FlushedOf} {answer : Flush} {c3 c4 : List ℕ} where
-  pub flushed-030 : FlushedIn030 f (cache040Of c4) answer c3 → length c4 ≡ 128 → FlushedBy f (flushedWith answer (arrays c3 c4))
+module _ {f : FlushedOf} {answer : Flush} {c030 c040 : List ℕ} where
+  pub flushed-030 : FlushedIn030 f (cache040Of c040) answer c030 → length c040 ≡ 128 → FlushedBy f (flushedWith answer (arrays c030 c040))
   flushed-030 k z = record { answers = k .answers; leaves = k .leaves; whole = record { sized = k .sized; sized040 = z } }
 
-  pub flushed-040 : FlushedIn040 f (cacheOf c3) answer c4 → length c3 ≡ 69 → FlushedBy f (flushedWith answer (arrays c3 c4))
+  pub flushed-040 : FlushedIn040 f (cacheOf c030) answer c040 → length c030 ≡ 69 → FlushedBy f (flushedWith answer (arrays c030 c040))
   flushed-040 k z = record { answers = k .answers; leaves = k .leaves; whole = record { sized = z; sized040 = k .sized } }

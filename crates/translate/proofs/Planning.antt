@@ -27,51 +27,51 @@ use Rattle.translate.specs.InPlace.{PlannedIn}
 pub walk-small : (a : Access) {code : ℕ} → code ≡ walkCode a → code < 8
 walk-small a e = rw e (code-small (asSupervisor a) (asInstruction a))
 
-module _ (g : Registers) (a : Access) {c3 c4 : List ℕ} (z : SizedAll c3 c4) {code : ℕ} {i t : Bool}
+module _ (g : Registers) (a : Access) {c030 c040 : List ℕ} (z : SizedAll c030 c040) {code : ℕ} {i t : Bool}
     (compared : code ≡ comparedCode a) (instruction : i ≡ asInstruction a) (is-tt : t ≡ transparent g (a .address) code i) where
   -- whether a transparent register matches
   matched : {b : Bool} → t ≡ b → transparent g (a .address) (comparedCode a) (asInstruction a) ≡ b
   matched e = rw (← compared, ← instruction) (sym is-tt ∙ e)
 
-  pub plan-transparent : t ≡ true → PlannedIn (planOn g a (cachesOf c3 c4)) (Plan.Settled (a .address)) c3 c4
+  pub plan-transparent : t ≡ true → PlannedIn (planOn g a (cachesOf c030 c040)) (Plan.Settled (a .address)) c030 c040
   unfolding planOn
   plan-transparent k = rw (matched k) (record { plans = refl; leaves = refl; whole = z })
 
-  pub plan-by-030 : {own : ℕ} {r : Plan} {c3′ : List ℕ} → t ≡ false → g .family ≡ 30 → own ≡ walkCode a
-      → PlannedIn030 (plan030 (cacheOf c3) (a .recorded) (own % 8) (a .address) (a .write) (shiftOf (g .tc))) r c3′
-      → PlannedIn (planOn g a (cachesOf c3 c4)) r c3′ c4
+  pub plan-by-030 : {own : ℕ} {r : Plan} {c030′ : List ℕ} → t ≡ false → g .family ≡ 30 → own ≡ walkCode a
+      → PlannedIn030 (plan030 (cacheOf c030) (a .recorded) (own % 8) (a .address) (a .write) (shiftOf (g .tc))) r c030′
+      → PlannedIn (planOn g a (cachesOf c030 c040)) r c030′ c040
   unfolding planOn
-  plan-by-030 {own} {r} {c3′} k f w p =
-      let q : PlannedIn030 (plan030 (cacheOf c3) (a .recorded) own (a .address) (a .write) (shiftOf (g .tc))) r c3′ = rw (← in-three-bits (walk-small a w)) p in
+  plan-by-030 {own} {r} {c030′} k f w p =
+      let q : PlannedIn030 (plan030 (cacheOf c030) (a .recorded) own (a .address) (a .write) (shiftOf (g .tc))) r c030′ = rw (← in-three-bits (walk-small a w)) p in
       rw (matched k, eq-eqb (g .family) 30 f, ← w)
       (record { plans = q .plans; leaves = rw (q .leaves) refl; whole = record { sized = q .sized; sized040 = z .sized040 } })
 
   pub plan-by-040 : {s : Bool} {r : Plan} → t ≡ false → (g .family ≡ 30 → ⊥) → s ≡ asSupervisor a
-      → r ≡ lookPlan040 (g .tc) (a .address) s (hit040 (cache040Of c4) (a .address / 2 ^ pageBits (g .tc)) s (a .write))
-      → PlannedIn (planOn g a (cachesOf c3 c4)) r c3 c4
+      → r ≡ lookPlan040 (g .tc) (a .address) s (hit040 (cache040Of c040) (a .address / 2 ^ pageBits (g .tc)) s (a .write))
+      → PlannedIn (planOn g a (cachesOf c030 c040)) r c030 c040
   unfolding planOn
   plan-by-040 k f w p =
       rw (matched k, ne-eqb (g .family) 30 f, ← w) (record { plans = p; leaves = refl; whole = z })
 
 -- ---- the refusals
-pub refusal-is : (g : Registers) (a : Access) (two three : Bool) (c3 : List ℕ) {n : ℕ} {one five four : Bool}
-    → one ≡ noFamily (g .family) → five ≡ badOverride (a .code) → four ≡ badCache (cacheOf c3)
-    → n ≡ refusalOf (checksOf one false five two three four) → n ≡ accessRefusal g a two three (cacheOf c3)
+pub refusal-is : (g : Registers) (a : Access) (two three : Bool) (c030 : List ℕ) {n : ℕ} {one five four : Bool}
+    → one ≡ noFamily (g .family) → five ≡ badOverride (a .code) → four ≡ badCache (cacheOf c030)
+    → n ≡ refusalOf (checksOf one false five two three four) → n ≡ accessRefusal g a two three (cacheOf c030)
 unfolding accessRefusal
-refusal-is g a two three c3 e f h n = rw (← e, ← f, ← h) n
+refusal-is g a two three c030 e f h n = rw (← e, ← f, ← h) n
 
 module _ (g : Registers) (a : Access) (two three : Bool) {n : ℕ} where
-  pub plan-refused : {c3 c4 : List ℕ} → n ≡ accessRefusal g a two three (cacheOf c3) → (n ≡ 0 → ⊥) → SizedAll c3 c4
-      → PlannedIn (planAccess g a two three (cachesOf c3 c4)) (Plan.Refused n) c3 c4
+  pub plan-refused : {c030 c040 : List ℕ} → n ≡ accessRefusal g a two three (cacheOf c030) → (n ≡ 0 → ⊥) → SizedAll c030 c040
+      → PlannedIn (planAccess g a two three (cachesOf c030 c040)) (Plan.Refused n) c030 c040
   unfolding planAccess
   plan-refused is h z = rw (← is, ne-eqb n 0 h) (record { plans = refl; leaves = refl; whole = z })
 
-  pub plan-off : {x : Bool} {c3 c4 : List ℕ} → n ≡ accessRefusal g a two three (cacheOf c3) → n ≡ 0 → x ≡ on g → not x ≡ true
-      → SizedAll c3 c4 → PlannedIn (planAccess g a two three (cachesOf c3 c4)) (Plan.Settled (a .address)) c3 c4
+  pub plan-off : {x : Bool} {c030 c040 : List ℕ} → n ≡ accessRefusal g a two three (cacheOf c030) → n ≡ 0 → x ≡ on g → not x ≡ true
+      → SizedAll c030 c040 → PlannedIn (planAccess g a two three (cachesOf c030 c040)) (Plan.Settled (a .address)) c030 c040
   unfolding planAccess
   plan-off is e is-on h z = rw (sym is ∙ e, ap not (sym is-on) ∙ h) (record { plans = refl; leaves = refl; whole = z })
 
-  pub plan-goes-on : (c : Caches) {x : Bool} {r : Plan} {c3 c4 : List ℕ} → n ≡ accessRefusal g a two three (c .c030) → n ≡ 0 → x ≡ on g → not x ≡ false
-      → PlannedIn (planOn g a c) r c3 c4 → PlannedIn (planAccess g a two three c) r c3 c4
+  pub plan-goes-on : (c : Caches) {x : Bool} {r : Plan} {c030 c040 : List ℕ} → n ≡ accessRefusal g a two three (c .c030) → n ≡ 0 → x ≡ on g → not x ≡ false
+      → PlannedIn (planOn g a c) r c030 c040 → PlannedIn (planAccess g a two three c) r c030 c040
   unfolding planAccess
   plan-goes-on c is e is-on h p = rw (sym is ∙ e, ap not (sym is-on) ∙ h) p

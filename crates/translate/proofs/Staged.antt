@@ -104,8 +104,8 @@ module _ (g : Registers) (a : Access) (m : Memory) where
       refl
 
   -- the law for the code: from a plan and its walk to the call
-  pub translated-by : (c : Caches) {d : Caches} {p : Plan} {t : Translation} {n : ℕ} {c3 c4 : List ℕ}
+  pub translated-by : (c : Caches) {d : Caches} {p : Plan} {t : Translation} {n : ℕ} {c030 c040 : List ℕ}
       → p ≡ planAccess g a (badBase m) (badRange m) c .plan → d ≡ planAccess g a (badBase m) (badRange m) c .caches
-      → AnsweredIn (concludeAccess g a d p (walksOf m g (a .address) (wayOf p))) t n c3 c4
-      → AnsweredIn (shownTranslated (translate g a m c)) t n c3 c4
+      → AnsweredIn (concludeAccess g a d p (walksOf m g (a .address) (wayOf p))) t n c030 c040
+      → AnsweredIn (shownTranslated (translate g a m c)) t n c030 c040
   translated-by c e f k = rw (← translate-staged c, ← e, ← f) k

@@ -22,20 +22,20 @@ use Rattle.translate.proofs.Staged.{translated-by}
 use Rattle.translate.proofs.Concluding.{concluded-refused, concluded-settled, concluded-walk}
 
 module _ (g : Registers) (a : Access) (m : Memory) (c : Caches) {two three : Bool} (is-two : two ≡ badBase m) (is-three : three ≡ badRange m)
-    {p : Plan} {c3 c4 : List ℕ} (k : PlannedIn (planAccess g a two three c) p c3 c4) where
+    {p : Plan} {c030 c040 : List ℕ} (k : PlannedIn (planAccess g a two three c) p c030 c040) where
   -- the plan is the one of the memory's own checks
-  planned : PlannedIn (planAccess g a (badBase m) (badRange m) c) p c3 c4
+  planned : PlannedIn (planAccess g a (badBase m) (badRange m) c) p c030 c040
   planned = rw (← is-two, ← is-three) k
 
-  pub in-refused : {n : ℕ} → p ≡ plan.Refused n → AnsweredIn (shownTranslated (translate g a m c)) (Translation.Refused n) 0 c3 c4
+  pub in-refused : {n : ℕ} → p ≡ plan.Refused n → AnsweredIn (shownTranslated (translate g a m c)) (Translation.Refused n) 0 c030 c040
   in-refused e = translated-by g a m c (planned .plans) (planned .leaves) (concluded-refused g a _ e (k .whole))
 
-  pub in-settled : {x : ℕ} → p ≡ plan.Settled x → AnsweredIn (shownTranslated (translate g a m c)) (Translation.Address x) 0 c3 c4
+  pub in-settled : {x : ℕ} → p ≡ plan.Settled x → AnsweredIn (shownTranslated (translate g a m c)) (Translation.Address x) 0 c030 c040
   in-settled e = translated-by g a m c (planned .plans) (planned .leaves) (concluded-settled g a _ e (k .whole))
 
-  pub in-walked : {way : Way} {w : Walks} {t : Translation} {n : ℕ} {c3′ c4′ : List ℕ} → p ≡ plan.Walk way
-      → w ≡ walksOf m g (a .address) way → AnsweredIn (onWalks g a (cachesOf c3 c4) w) t n c3′ c4′
-      → AnsweredIn (shownTranslated (translate g a m c)) t n c3′ c4′
+  pub in-walked : {way : Way} {w : Walks} {t : Translation} {n : ℕ} {c030′ c040′ : List ℕ} → p ≡ plan.Walk way
+      → w ≡ walksOf m g (a .address) way → AnsweredIn (onWalks g a (cachesOf c030 c040) w) t n c030′ c040′
+      → AnsweredIn (shownTranslated (translate g a m c)) t n c030′ c040′
   in-walked {way} {w} e f q =
       translated-by g a m c (planned .plans) (planned .leaves)
-      (concluded-walk g a (walksOf m g (a .address) (wayOf p)) (cachesOf c3 c4) e (rw (e, ← f) q))
+      (concluded-walk g a (walksOf m g (a .address) (wayOf p)) (cachesOf c030 c040) e (rw (e, ← f) q))

@@ -10,20 +10,20 @@ use Rattle.translate.specs.Stages.{Planned, Searched040, Answered}
 use Rattle.plan.specs.declared.Plan.{Plan}
 
 -- a plan r, with the arrays after it
-pub record PlannedIn (p : Planned) (r : Plan) (c3 c4 : List ℕ) : Type 0 where
+pub record PlannedIn (p : Planned) (r : Plan) (c030 c040 : List ℕ) : Type 0 where
   pub plans : r ≡ p .plan
-  pub leaves : cachesOf c3 c4 ≡ p .caches
-  pub whole : SizedAll c3 c4
+  pub leaves : cachesOf c030 c040 ≡ p .caches
+  pub whole : SizedAll c030 c040
 
 -- a 68040 search's answer r, with the arrays after it
-pub record Ended040 (s : Searched040) (r : Translation) (c4 : List ℕ) : Type 0 where
+pub record Ended040 (s : Searched040) (r : Translation) (c040 : List ℕ) : Type 0 where
   pub answers : r ≡ s .answer
-  pub leaves : cache040Of c4 ≡ s .cache
-  pub sized : length c4 ≡ 128
+  pub leaves : cache040Of c040 ≡ s .cache
+  pub sized : length c040 ≡ 128
 
 -- an answer and its count, with the arrays after them
-pub record AnsweredIn (a : Answered) (answer : Translation) (count : ℕ) (c3 c4 : List ℕ) : Type 0 where
+pub record AnsweredIn (a : Answered) (answer : Translation) (count : ℕ) (c030 c040 : List ℕ) : Type 0 where
   pub answers : answer ≡ a .answer
   pub counts : count ≡ a .count
-  pub leaves : cachesOf c3 c4 ≡ a .caches
-  pub whole : SizedAll c3 c4
+  pub leaves : cachesOf c030 c040 ≡ a .caches
+  pub whole : SizedAll c030 c040

@@ -16,6 +16,7 @@ use Rattle.definition.specs.Refusal.{crossed}
 use Rattle.definition.specs.Trace.{State, Body, Short, Ended, frontOf, firstRegisters, firstState, newline, playFrom, play}
 use Rattle.trace.specs.Lines.{Wrote, Put}
 use Rattle.trace.proofs.Writes.{next-near, same-length, front}
+use Rattle.cache.specs.Packed.{part}
 use Rattle.cache.specs.Atc030.{entriesOf, cacheOf}
 use Rattle.cache.specs.Atc040.{slotsOf, cache040Of}
 use Rattle.replay.specs.Playing.{rangesOf, stateOf, Bad, RanIn}
@@ -79,12 +80,12 @@ closed why.Room {b} out″ {s′ = s′} {read = read} r e p h =
 
 -- what is kept at the start, with arrays of zeros, is the state that a replay starts from
 started : (k : Kept) → k .registers ≡ firstRegisters → k .n ≡ 0
-    → stateOf k (replicate 8192 0) (replicate 22 0) (replicate 22 0) (replicate 22 0) (replicate 3 0) (replicate 64 0) (replicate 64 0) ≡ firstState
-unfolding entriesOf cacheOf slotsOf cache040Of
+    → stateOf k (replicate 8192 0) (replicate 69 0) (replicate 128 0) ≡ firstState
+unfolding part entriesOf cacheOf slotsOf cache040Of
 started k e f = rw (e, f)
 
 pub from-start : (k : Kept) → (k .registers ≡ firstRegisters) × (k .n ≡ 0) → {b out out′ : List ℕ} {s′ : State} {read wrote : ℕ} {w : Why}
-    → (false ≡ anyOf crossed (rangesOf k) → RanIn (stateOf k (replicate 8192 0) (replicate 22 0) (replicate 22 0) (replicate 22 0) (replicate 3 0) (replicate 64 0) (replicate 64 0)) b out s′ read out′ wrote w)
+    → (false ≡ anyOf crossed (rangesOf k) → RanIn (stateOf k (replicate 8192 0) (replicate 69 0) (replicate 128 0)) b out s′ read out′ wrote w)
     → RanIn firstState b out s′ read out′ wrote w
 unfolding anyOf
 from-start k (e, f) {b} {out} {out′} {s′} {read} {wrote} {w} h =

@@ -51,20 +51,12 @@ fn last_line(out: &mut [u8], at: usize, why: Why, left: usize) -> Played
 fn play_records(bytes: &[u8], out: &mut [u8]) -> Played
     ensures { λ r. ⌜ Shows (playFrom (suc (length (now (bytes .entry)))) firstState (now (bytes .entry))) (now (out .exit)) r ⌝ }
 {
-    let mut tags = [0u64; 22];
-    let mut pages = [0u64; 22];
-    let mut stamps = [0u64; 22];
-    let mut marks = [0u64; 3];
-    let mut keys = [0u64; 64];
-    let mut bases = [0u64; 64];
+    let mut c030 = [0u64; 69];
+    let mut c040 = [0u64; 128];
     let mut longs = [0u32; 8192];
     let ran = replay::run::run(
-        &mut tags,
-        &mut pages,
-        &mut stamps,
-        &mut marks,
-        &mut keys,
-        &mut bases,
+        &mut c030,
+        &mut c040,
         &mut longs,
         replay::first(),
         false,

@@ -3,10 +3,10 @@ use Rattle.cache_cases.proofs.every_row.Statement.{statement}
 use Rattle.cache_cases.proofs.every_row.Tie as tie
 
 abbrev Inv-loop : tie.InvT-loop
-Inv-loop buf₀ row₀ tags₀ pages₀ stamps₀ marks₀ keys₀ bases₀ p₀ turns₀ buf row tags pages stamps marks keys bases p turns = Unit {0}
+Inv-loop buf₀ row₀ c030₀ c040₀ p₀ turns₀ buf row c030 c040 p turns = Unit {0}
 
 abbrev μ-loop : tie.MeasureT-loop
-μ-loop buf₀ row₀ tags₀ pages₀ stamps₀ marks₀ keys₀ bases₀ p₀ turns₀ buf row tags pages stamps marks keys bases p turns = turns
+μ-loop buf₀ row₀ c030₀ c040₀ p₀ turns₀ buf row c030 c040 p turns = turns
 
 large-buffer-requires : tie.Need-large-buffer-requires Inv-loop μ-loop
 large-buffer-requires c κs = search needs

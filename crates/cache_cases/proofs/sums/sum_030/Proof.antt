@@ -4,10 +4,10 @@ use Rattle.cache_cases.proofs.sums.sum_030.Statement.{statement}
 use Rattle.cache_cases.proofs.sums.sum_030.Tie as tie
 
 abbrev Inv-loop : tie.InvT-loop
-Inv-loop tags pages stamps marks sum₀ i₀ sum i = i ≤ 22
+Inv-loop c030 sum₀ i₀ sum i = i ≤ 22
 
 abbrev μ-loop : tie.MeasureT-loop
-μ-loop tags pages stamps marks sum₀ i₀ sum i = 22 - i
+μ-loop c030 sum₀ i₀ sum i = 22 - i
 
 element-copy-out-mix : tie.Need-element-copy-out-mix Inv-loop μ-loop
 element-copy-out-mix c = search needs
@@ -36,11 +36,17 @@ mul-with-entry c = search needs
 element-copy-out-with-entry : tie.Need-element-copy-out-with-entry Inv-loop μ-loop
 element-copy-out-with-entry c = search needs
 
+add-with-entry : tie.Need-add-with-entry Inv-loop μ-loop
+add-with-entry c = search needs
+
 mul-with-entry-2 : tie.Need-mul-with-entry-2 Inv-loop μ-loop
 mul-with-entry-2 c = search needs
 
 element-copy-out-with-entry-2 : tie.Need-element-copy-out-with-entry-2 Inv-loop μ-loop
 element-copy-out-with-entry-2 c = search needs
+
+add-with-entry-2 : tie.Need-add-with-entry-2 Inv-loop μ-loop
+add-with-entry-2 c = search needs
 
 mul-with-entry-3 : tie.Need-mul-with-entry-3 Inv-loop μ-loop
 mul-with-entry-3 c = search needs
@@ -78,8 +84,10 @@ sum-030-spec =
     loop-holds
     mul-with-entry
     element-copy-out-with-entry
+    add-with-entry
     mul-with-entry-2
     element-copy-out-with-entry-2
+    add-with-entry-2
     mul-with-entry-3
     element-copy-out-with-entry-3
     with-entry-requires

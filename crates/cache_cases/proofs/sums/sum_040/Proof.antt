@@ -4,10 +4,10 @@ use Rattle.cache_cases.proofs.sums.sum_040.Statement.{statement}
 use Rattle.cache_cases.proofs.sums.sum_040.Tie as tie
 
 abbrev Inv-loop : tie.InvT-loop
-Inv-loop keys bases sum₀ i₀ sum i = i ≤ 64
+Inv-loop c040 sum₀ i₀ sum i = i ≤ 64
 
 abbrev μ-loop : tie.MeasureT-loop
-μ-loop keys bases sum₀ i₀ sum i = 64 - i
+μ-loop c040 sum₀ i₀ sum i = 64 - i
 
 loop-holds : tie.Need-loop-holds Inv-loop μ-loop
 loop-holds c = search needs
@@ -17,6 +17,9 @@ mul-with-slot c = search needs
 
 element-copy-out-with-slot : tie.Need-element-copy-out-with-slot Inv-loop μ-loop
 element-copy-out-with-slot c = search needs
+
+add-with-slot : tie.Need-add-with-slot Inv-loop μ-loop
+add-with-slot c = search needs
 
 mul-with-slot-2 : tie.Need-mul-with-slot-2 Inv-loop μ-loop
 mul-with-slot-2 c = search needs
@@ -48,6 +51,7 @@ sum-040-spec =
     loop-holds
     mul-with-slot
     element-copy-out-with-slot
+    add-with-slot
     mul-with-slot-2
     element-copy-out-with-slot-2
     with-slot-requires

@@ -6,10 +6,10 @@ use Rattle.playing.proofs.states.put_entries.Statement.{statement}
 use Rattle.playing.proofs.states.put_entries.Tie as tie
 
 abbrev Inv-loop : tie.InvT-loop
-Inv-loop out₀ at tags pages stamps to₀ i₀ out to i = (i ≤ length tags) × (length out ≡ length out₀)
+Inv-loop out₀ at c030 to₀ i₀ out to i = (i ≤ 22) × (length out ≡ length out₀)
 
 abbrev μ-loop : tie.MeasureT-loop
-μ-loop out₀ at tags pages stamps to₀ i₀ out to i = length tags - i
+μ-loop out₀ at c030 to₀ i₀ out to i = 22 - i
 
 loop-holds : tie.Need-loop-holds Inv-loop μ-loop
 loop-holds c = search needs
@@ -17,20 +17,26 @@ loop-holds c = search needs
 mul-put-entry : tie.Need-mul-put-entry Inv-loop μ-loop
 mul-put-entry c = search needs
 
-shared-slice-read-put-entry : tie.Need-shared-slice-read-put-entry Inv-loop μ-loop
-shared-slice-read-put-entry c = search needs
+element-copy-out-put-entry : tie.Need-element-copy-out-put-entry Inv-loop μ-loop
+element-copy-out-put-entry c = search needs
+
+add-put-entry : tie.Need-add-put-entry Inv-loop μ-loop
+add-put-entry c = search needs
 
 mul-put-entry-2 : tie.Need-mul-put-entry-2 Inv-loop μ-loop
 mul-put-entry-2 c = search needs
 
-shared-slice-read-put-entry-2 : tie.Need-shared-slice-read-put-entry-2 Inv-loop μ-loop
-shared-slice-read-put-entry-2 c = search needs
+element-copy-out-put-entry-2 : tie.Need-element-copy-out-put-entry-2 Inv-loop μ-loop
+element-copy-out-put-entry-2 c = search needs
+
+add-put-entry-2 : tie.Need-add-put-entry-2 Inv-loop μ-loop
+add-put-entry-2 c = search needs
 
 mul-put-entry-3 : tie.Need-mul-put-entry-3 Inv-loop μ-loop
 mul-put-entry-3 c = search needs
 
-shared-slice-read-put-entry-3 : tie.Need-shared-slice-read-put-entry-3 Inv-loop μ-loop
-shared-slice-read-put-entry-3 c = search needs
+element-copy-out-put-entry-3 : tie.Need-element-copy-out-put-entry-3 Inv-loop μ-loop
+element-copy-out-put-entry-3 c = search needs
 
 put-entry-requires : tie.Need-put-entry-requires Inv-loop μ-loop
 put-entry-requires c κs = search needs
@@ -50,18 +56,6 @@ same-length c = search needs
 returns : tie.Need-returns Inv-loop μ-loop
 returns c = search needs
 
-same-length-2 : tie.Need-same-length-2 Inv-loop μ-loop
-same-length-2 c = search needs
-
-returns-2 : tie.Need-returns-2 Inv-loop μ-loop
-returns-2 c = search needs
-
-same-length-3 : tie.Need-same-length-3 Inv-loop μ-loop
-same-length-3 c = search needs
-
-returns-3 : tie.Need-returns-3 Inv-loop μ-loop
-returns-3 c = search needs
-
 pub put-entries-spec : {M : Type 1} → statement M
 put-entries-spec =
     tie.close
@@ -70,18 +64,16 @@ put-entries-spec =
     μ-loop
     loop-holds
     mul-put-entry
-    shared-slice-read-put-entry
+    element-copy-out-put-entry
+    add-put-entry
     mul-put-entry-2
-    shared-slice-read-put-entry-2
+    element-copy-out-put-entry-2
+    add-put-entry-2
     mul-put-entry-3
-    shared-slice-read-put-entry-3
+    element-copy-out-put-entry-3
     put-entry-requires
     add-i
     loop-less
     loop-again
     same-length
-    returns
-    same-length-2
-    returns-2
-    same-length-3
-    returns-3)
+    returns)

@@ -6,10 +6,10 @@ use Rattle.playing.proofs.states.put_slots.Statement.{statement}
 use Rattle.playing.proofs.states.put_slots.Tie as tie
 
 abbrev Inv-loop : tie.InvT-loop
-Inv-loop out₀ at keys bases to₀ i₀ out to i = (i ≤ length keys) × (length out ≡ length out₀)
+Inv-loop out₀ at c040 to₀ i₀ out to i = (i ≤ 64) × (length out ≡ length out₀)
 
 abbrev μ-loop : tie.MeasureT-loop
-μ-loop out₀ at keys bases to₀ i₀ out to i = length keys - i
+μ-loop out₀ at c040 to₀ i₀ out to i = 64 - i
 
 loop-holds : tie.Need-loop-holds Inv-loop μ-loop
 loop-holds c = search needs
@@ -17,14 +17,17 @@ loop-holds c = search needs
 mul-put-slot : tie.Need-mul-put-slot Inv-loop μ-loop
 mul-put-slot c = search needs
 
-shared-slice-read-put-slot : tie.Need-shared-slice-read-put-slot Inv-loop μ-loop
-shared-slice-read-put-slot c = search needs
+element-copy-out-put-slot : tie.Need-element-copy-out-put-slot Inv-loop μ-loop
+element-copy-out-put-slot c = search needs
+
+add-put-slot : tie.Need-add-put-slot Inv-loop μ-loop
+add-put-slot c = search needs
 
 mul-put-slot-2 : tie.Need-mul-put-slot-2 Inv-loop μ-loop
 mul-put-slot-2 c = search needs
 
-shared-slice-read-put-slot-2 : tie.Need-shared-slice-read-put-slot-2 Inv-loop μ-loop
-shared-slice-read-put-slot-2 c = search needs
+element-copy-out-put-slot-2 : tie.Need-element-copy-out-put-slot-2 Inv-loop μ-loop
+element-copy-out-put-slot-2 c = search needs
 
 put-slot-requires : tie.Need-put-slot-requires Inv-loop μ-loop
 put-slot-requires c κs = search needs
@@ -44,12 +47,6 @@ same-length c = search needs
 returns : tie.Need-returns Inv-loop μ-loop
 returns c = search needs
 
-same-length-2 : tie.Need-same-length-2 Inv-loop μ-loop
-same-length-2 c = search needs
-
-returns-2 : tie.Need-returns-2 Inv-loop μ-loop
-returns-2 c = search needs
-
 pub put-slots-spec : {M : Type 1} → statement M
 put-slots-spec =
     tie.close
@@ -58,14 +55,13 @@ put-slots-spec =
     μ-loop
     loop-holds
     mul-put-slot
-    shared-slice-read-put-slot
+    element-copy-out-put-slot
+    add-put-slot
     mul-put-slot-2
-    shared-slice-read-put-slot-2
+    element-copy-out-put-slot-2
     put-slot-requires
     add-i
     loop-less
     loop-again
     same-length
-    returns
-    same-length-2
-    returns-2)
+    returns)

@@ -67,28 +67,28 @@ probe-line-requires : tie.Need-probe-line-requires
 probe-line-requires c κs = search needs
 
 returns : tie.Need-returns
-returns c = λ h. law.by-call _ _ _ (c .before .before .before .before .before .before .before .before .call .given .1) (c .access-line .ensures h)
+returns c = λ h. law.by-call _ _ _ (c .before .before .before .before .call .given .1) (c .access-line .ensures h)
 
 returns-2 : tie.Need-returns-2
-returns-2 c = λ h. law.by-call _ _ _ (c .before .before .before .before .before .before .before .before .call2 .given .1) (c .load-call .ensures h)
+returns-2 c = λ h. law.by-call _ _ _ (c .before .before .before .before .call2 .given .1) (c .load-call .ensures h)
 
 returns-3 : tie.Need-returns-3
-returns-3 c = λ h. law.by-call _ _ _ (c .before .before .call3 .given .1) (law.tested _ _ _ _ _ _ _ _ (c .test-call .ensures h))
+returns-3 c = λ h. law.by-call _ _ _ (c .before .before .call3 .given .1) (law.tested _ _ _ _ (c .test-call .ensures h))
 
 returns-4 : tie.Need-returns-4
-returns-4 c = λ h. law.by-call _ _ _ (c .before .before .before .before .before .before .before .before .enum-told .given .1) (law.of-flush-all _ _ _ (c .before .flush-all-in .ensures) (c .flush-line .ensures))
+returns-4 c = λ h. law.by-call _ _ _ (c .before .before .before .before .enum-told .given .1) (law.of-flush-all _ _ _ (c .before .flush-all-in .ensures) (c .flush-line .ensures))
 
 returns-5 : tie.Need-returns-5
-returns-5 c = λ h. law.by-call _ _ _ (c .before .before .before .before .before .before .before .call4 .given .1) (law.of-flush-code _ _ _ _ _ (c .before .flush-code-in .ensures _) (c .flush-line2 .ensures))
+returns-5 c = λ h. law.by-call _ _ _ (c .before .before .before .before .call4 .given .1) (law.of-flush-code _ _ _ _ _ (c .before .flush-code-in .ensures _) (c .flush-line2 .ensures))
 
 returns-6 : tie.Need-returns-6
-returns-6 c = λ h. law.by-call _ _ _ (c .before .before .before .before .before .before .before .call5 .given .1) (law.of-flush-page _ _ _ _ _ _ (c .before .flush-page-in .ensures _) (c .flush-line3 .ensures))
+returns-6 c = λ h. law.by-call _ _ _ (c .before .before .before .before .call5 .given .1) (law.of-flush-page _ _ _ _ _ _ (c .before .flush-page-in .ensures _) (c .flush-line3 .ensures))
 
 returns-7 : tie.Need-returns-7
-returns-7 c = λ h. law.by-call _ _ _ (c .before .before .before .before .before .call6 .given .1) (law.of-flush-frame _ _ _ _ (c .before .flush-frame-in .ensures _) (c .flush-line4 .ensures))
+returns-7 c = λ h. law.by-call _ _ _ (c .before .before .before .before .call6 .given .1) (law.of-flush-frame _ _ _ _ (c .before .flush-frame-in .ensures _) (c .flush-line4 .ensures))
 
 returns-8 : tie.Need-returns-8
-returns-8 c = λ h. law.by-call _ _ _ (c .before .before .before .before .before .before .before .before .before .call7 .given .1) (law.of-probe _ _ _ _ _ _ _ _ _ _ _ _ (c .before .probe-in .ensures) (c .probe-line .ensures))
+returns-8 c = λ h. law.by-call _ _ _ (c .before .before .before .before .before .call7 .given .1) (law.of-probe _ _ _ _ _ _ _ _ (c .before .probe-in .ensures) (c .probe-line .ensures))
 
 pub make-spec : {M : Type 1} → statement M
 make-spec =

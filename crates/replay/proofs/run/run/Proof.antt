@@ -111,22 +111,22 @@ loop-again c =
     let held = at .inv in
     let f = law.whole-at _ _ (d .before .before .before .start .given .1) (d .before .before .before .before .before .front .ensures) in
     let w = c .before .before .put-line .ensures .room (omega (arith, d .before .before .before .before .before .before .if1 .left, held .1, held .3)) in
-    (c .before .before .before .before .before .before .before .set .kept .0 ∙ held .0, writes.same-length w ∙ held .1, f .within, omega (arith, writes.next-near w, d .before .before .before .before .before .before .if1 .left, held .1, held .3), c .before .before .before .before .before .before .before .set .ensures .1 ∙ held .4, λ h. law.goes-on _ _ _ _ (held .5 h) _ f (law.said-setting (d .decode .ensures) (c .before .before .before .before .before .before .before .before .before .before .setting .given .1)) (law.setting-is-good (c .before .before .before .before .before .before .before .before .before .before .setting .given .0 .0)) (c .before .before .before .before .before .before .before .set .ensures .0 _ _ _ _ _ _) (omega (arith, d .before .before .before .before .before .before .if1 .left, held .1, held .3)) w)
+    (c .before .before .before .before .before .before .before .set .kept .0 ∙ held .0, writes.same-length w ∙ held .1, f .within, omega (arith, writes.next-near w, d .before .before .before .before .before .before .if1 .left, held .1, held .3), c .before .before .before .before .before .before .before .set .ensures .1 ∙ held .4, λ h. law.goes-on _ _ _ _ (held .5 h) _ f (law.said-setting (d .decode .ensures) (c .before .before .before .before .before .before .before .before .before .before .setting .given .1)) (law.setting-is-good (c .before .before .before .before .before .before .before .before .before .before .setting .given .0 .0)) (c .before .before .before .before .before .before .before .set .ensures .0 _ _) (omega (arith, d .before .before .before .before .before .before .if1 .left, held .1, held .3)) w)
 
 loop-less-2 : tie.Need-loop-less-2 Inv-loop μ-loop
 loop-less-2 c =
-    let d = c .before .before .before .before .before .before .before .before .before .before .before .before .before .before .before in
+    let d = c .before .before .before .before .before .before .before .before .before .before .before in
     let f = law.whole-at _ _ (d .before .before .before .start .given .1) (d .before .before .before .before .before .front .ensures) in
     omega arith
 
 loop-again-2 : tie.Need-loop-again-2 Inv-loop μ-loop
 loop-again-2 c =
-    let d = c .before .before .before .before .before .before .before .before .before .before .before .before .before .before .before in
+    let d = c .before .before .before .before .before .before .before .before .before .before .before in
     let at = d .before .before .before .before .before .before .before .loop in
     let held = at .inv in
     let f = law.whole-at _ _ (d .before .before .before .start .given .1) (d .before .before .before .before .before .front .ensures) in
     let w = c .before .before .put-line2 .ensures .room (omega (arith, d .before .before .before .before .before .before .if1 .left, held .1, held .3)) in
-    (held .0, writes.same-length w ∙ held .1, f .within, omega (arith, writes.next-near w, d .before .before .before .before .before .before .if1 .left, held .1, held .3), held .4, λ h. law.goes-on _ _ _ _ (held .5 h) _ f (law.said-call (d .decode .ensures) (c .before .before .before .before .before .before .before .before .before .before .before .before .before .call .given .1)) refl (step.called (at .now) (callIn (c .before .before .before .before .before .before .before .before .before .before .before .before .before .call .given .0 .0)) (at .longs) (at .c030) (at .c040) (c .before .before .before .before .make .ensures (h ∙ sym (held .4)))) (omega (arith, d .before .before .before .before .before .before .if1 .left, held .1, held .3)) w)
+    (held .0, writes.same-length w ∙ held .1, f .within, omega (arith, writes.next-near w, d .before .before .before .before .before .before .if1 .left, held .1, held .3), held .4, λ h. law.goes-on _ _ _ _ (held .5 h) _ f (law.said-call (d .decode .ensures) (c .before .before .before .before .before .before .before .before .before .call .given .1)) refl (step.called (at .now) (callIn (c .before .before .before .before .before .before .before .before .before .call .given .0 .0)) (at .longs) (at .c030) (at .c040) (c .before .before .before .before .make .ensures (h ∙ sym (held .4)))) (omega (arith, d .before .before .before .before .before .before .if1 .left, held .1, held .3)) w)
 
 pub run-spec : {M : Type 1} → statement M
 run-spec =

@@ -8,10 +8,10 @@ no-family-requires : tie.Need-no-family-requires
 no-family-requires c κs = search needs
 
 returns : tie.Need-returns
-returns c = (λ longs c3 c4. law.set-none _ _ (c .before .no-family .ensures) (c .if1 .taken), refl)
+returns c = (λ longs c030 c040. law.set-none _ _ (c .before .no-family .ensures) (c .if1 .taken), refl)
 
 returns-2 : tie.Need-returns-2
-returns-2 c = (λ longs c3 c4. law.set-some _ _ (c .before .before .no-family .ensures) (c .before .if1 .left), refl)
+returns-2 c = (λ longs c030 c040. law.set-some _ _ (c .before .before .no-family .ensures) (c .before .if1 .left), refl)
 
 pub set-registers-spec : {M : Type 1} → statement M
 set-registers-spec = tie.close (tie.spec no-family-requires returns returns-2)
