@@ -1,6 +1,10 @@
 # shellcheck shell=bash disable=SC2154
-# For ./trace, ./play and what else takes a trace: where the converter stands, and the bytes of a trace, whether it is kept as
-# text or binary. Sourced with `root` set to the project's folder. What can't be read is told on standard error, by its name.
+# For ./trace, ./play, ./play-all and what else takes a trace: the converter and the player, built where they aren't, and the bytes
+# of a trace, whether it is kept as text or binary. Sourced with `root` set to the project's folder. What can't be read is told on
+# standard error, by its name.
+
+# shellcheck source=../differential/players.sh
+. "$root/differential/players.sh"
 
 converter=$root/target/tools/release/trace
 
@@ -15,6 +19,14 @@ converter_built() {
         return 1
     fi
     cargo build --release --offline --quiet --manifest-path "$package/Cargo.toml" --target-dir "$root/target/tools" >&2
+}
+
+# player_built: proves and builds the player where it isn't built.
+player_built() {
+    [ -x "$player" ] || (cd "$root" && rt check player >&2) || {
+        echo "there is no player: \`rt check player\` proves and builds it" >&2
+        return 1
+    }
 }
 
 # kind_by FIRST: text or bytes, by the first byte in octal. A text begins with `#`, `v` or space; all else is for the player.
