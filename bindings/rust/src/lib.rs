@@ -42,6 +42,7 @@ mod caches;
 mod calls;
 mod door;
 mod given;
+pub mod trace;
 
 pub use answers::{Error, Fault, FaultCause, FaultKind, Refusal, Status, Translated};
 pub use caches::{Caches, Entry, Slot, ENTRIES, NUMBERS_030, NUMBERS_040, SLOTS};
