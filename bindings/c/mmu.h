@@ -115,7 +115,7 @@ void mmu_test(const uint32_t *longs, size_t longs_len, uint32_t base, const mmu_
               uint32_t answer[MMU_ANSWER]);
 
 /* Answers from a transparent register or from the caches alone, and records no use; MMU_OWN is the privilege. DONE: NUMBER is the
- * physical address. NOTHING: translate would have to walk, or the PMMU is off. Refusals: 1, 4. */
+ * physical address. NOTHING: neither answers this access, or the PMMU is off. Refusals: 1, 4. */
 void mmu_probe(const uint64_t c030[MMU_030], const uint64_t c040[MMU_040], const uint32_t registers[MMU_REGISTERS],
                uint32_t flags, uint32_t address, uint32_t answer[MMU_ANSWER]);
 
