@@ -76,15 +76,15 @@ opened_pipe() {
 
 # opened [FILE]: from now on standard input is the bytes of this trace, text or binary, or of the one on standard input.
 opened() {
-    local file=${1:-/dev/stdin}
+    local file=${1:-/dev/stdin} name=${1:-standard input}
     if [ -d "$file" ]; then
-        echo "${1:-standard input}: it is a folder" >&2
+        echo "$name: it is a folder" >&2
         return 1
     elif [ ! -e "$file" ]; then
-        echo "$1: there is no such file" >&2
+        echo "$name: there is no such file" >&2
         return 1
     elif [ ! -r "$file" ]; then
-        echo "$1: it can't be read" >&2
+        echo "$name: it can't be read" >&2
         return 1
     elif [ ! -f "$file" ]; then
         [ $# = 0 ] || exec < "$1"
