@@ -13,5 +13,6 @@ pub mod Entries
 pub mod Hits030
 pub mod Hits040
 pub mod Independence
+pub mod Narrow
 pub mod Records
 pub mod Witness

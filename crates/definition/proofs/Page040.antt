@@ -19,7 +19,7 @@ use Rattle.definition.proofs.Choice.{if-both, if-alike}
 use Rattle.definition.proofs.Page030.{above}
 
 -- a long that is asked for, before two continuations that do the same
-long-next : (at : ℕ) (before : List ℕ) (next next′ : ℕ → List ℕ → Outcome040) → ((x : ℕ) (asked : List ℕ) → next x asked ≡ next′ x asked)
+pub long-next : (at : ℕ) (before : List ℕ) (next next′ : ℕ → List ℕ → Outcome040) → ((x : ℕ) (asked : List ℕ) → next x asked ≡ next′ x asked)
     → (r : Fetched) → onLong at before next r ≡ onLong at before next′ r
 long-next at before next next′ h (Long x) = h x _
 long-next at before next next′ h Failed = refl

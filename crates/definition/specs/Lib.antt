@@ -13,6 +13,7 @@ pub mod Load
 pub mod Test
 pub mod Probe
 pub mod Flush
+pub mod Audit
 pub mod Calls
 pub mod Trace
 pub mod Replay

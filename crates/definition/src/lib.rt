@@ -148,6 +148,25 @@ pub enum Flush {
     Refused(u32),
 }
 
+// What an audit of the caches says: every entry gives what the tables give, or the index of the first that doesn't, in the one cache or the other.
+pub enum Audit {
+    Clean,
+    Stale030(u32),
+    Stale040(u32),
+    Refused(u32),
+}
+
+// What is said of one entry, for a read or a write: its page's first address and its code, what the cache gives, and what the tables give.
+pub enum Finding {
+    Says {
+        address: u32,
+        code: u32,
+        cached: Hit,
+        tables: Translation,
+    },
+    Refused(u32),
+}
+
 // A fault kind's number.
 pub fn kind_number(k: FaultKind) -> u32
     ensures { λ r. ⌜ r ≡ kindNumber k ⌝ }
