@@ -6,7 +6,6 @@ use mathlib.Core.Bool.{Bool}
 use Rattle.definition.specs.Words.{if_then_else_}
 use Rattle.definition.specs.Memory.{Memory, fetchOf}
 use Rattle.definition.specs.Replay.{In}
-use Rattle.definition.specs.declared.Registers.{Registers}
 use Rattle.definition.proofs.Choice.{if-given}
 
 -- the two memories give the same, value or bus error, at each address of l
@@ -16,18 +15,6 @@ Agree m m′ l = (a : ℕ) → In a l → fetchOf m a ≡ fetchOf m′ a
 -- each memory of P gives the same as m there
 abbrev pub Throughout : (Memory → Type 0) → Memory → List ℕ → Type 0
 Throughout P m l = (m′ : Memory) → P m′ → Agree m m′ l
-
--- these registers alone, with the memories of P
-abbrev pub Only : Registers → (Memory → Type 0) → Registers → Memory → Type 0
-Only g P g′ m = (g′ ≡ g) × P m
-
--- any registers and memory
-abbrev pub Any : Registers → Memory → Type 0
-Any g m = Unit {0}
-
--- no memory
-abbrev pub None : Memory → Type 0
-None m = ⊥
 
 -- a choice ends alike where the side that is taken does
 pub if-same : {O : Type 0} (asked : O → List ℕ) (m m′ : Memory) (b : Bool) (x y x′ y′ : O) → (Agree m m′ (asked x) → x ≡ x′)

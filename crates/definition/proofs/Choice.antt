@@ -19,10 +19,14 @@ if-alike f true x y x′ y′ h k = h refl
 if-alike f false x y x′ y′ h k = k refl
 
 -- the same, given what the side that is taken gives
+pub if-given-by : {A B : Type 0} (Q : A → Type 0) (f : A → B) (b : Bool) (x y x′ y′ : A) → (b ≡ true → Q x → f x ≡ f x′) → (b ≡ false → Q y → f y ≡ f y′)
+    → Q (if b then x else y) → f (if b then x else y) ≡ f (if b then x′ else y′)
+if-given-by Q f true x y x′ y′ h k q = h refl q
+if-given-by Q f false x y x′ y′ h k q = k refl q
+
 pub if-given : {A B : Type 0} (Q : A → Type 0) (f : A → B) (b : Bool) (x y x′ y′ : A) → (Q x → f x ≡ f x′) → (Q y → f y ≡ f y′)
     → Q (if b then x else y) → f (if b then x else y) ≡ f (if b then x′ else y′)
-if-given Q f true x y x′ y′ h k q = h q
-if-given Q f false x y x′ y′ h k q = k q
+if-given Q f b x y x′ y′ h k = if-given-by Q f b x y x′ y′ (λ _. h) (λ _. k)
 
 -- ---- tests
 pub and-left : (a b : Bool) → (a && b) ≡ true → a ≡ true

@@ -1,17 +1,18 @@
--- The 68030 cache's valid entries: nothing adds one but a walk of its key; and the cache keeps its 22 places and passes check 4. Assumes nothing.
+-- The 68030 cache's entries: nothing changes one but to drop it or stamp it again, and nothing adds one but a walk of its key; and the cache keeps its
+-- 22 places and passes check 4. So what these keep of one entry is kept of all. Assumes nothing.
 use Prim.Native.Nat.{ℕ, _+_, _-_, _/_, _^_, _≤_, _<_}
 use mathlib.Core.Path.{_≡_, refl, _∙_}
 use mathlib.Core.List.{List, [], _∷_, map}
-use mathlib.Core.Bool.{Bool, true, false, not, _&&_, false≢true}
+use mathlib.Core.Bool.{Bool, true, false, not, _&&_, _||_}
 use native.Mathlib.Omega.{arith}
 use native.Mathlib.Nat.{not-suc-le-zero}
-use borrow.Author.Tests.{ltb-true, le-leb, le-ltb, eqb-true}
+use borrow.Author.Tests.{ltb-true, ltb-false, le-leb, le-ltb, eqb-true}
 use lib.Dec.{eqb, ltb, leb}
 use lib.ListN.{length, getD, length-map, length-set}
 use Rattle.definition.specs.Words.{bitOf, firstOf, allOf, agrees}
 use Rattle.definition.specs.Memory.{Memory}
 use Rattle.definition.specs.Walk030.{walk030, everyLevel, physicalOf, shiftOf}
-use Rattle.definition.specs.Cache030.{Entry, Cache030, noEntry, empty030, matches, matching, stamped, rested, putAt, touched, found, hitOf, afterHit, dropped, shifted, oldest, victim, inserted, dropIf, flushedAll, flushedCode, flushedPage}
+use Rattle.definition.specs.Cache030.{Entry, Cache030, noEntry, empty030, matches, matching, stamped, rested, putAt, touched, found, hitOf, afterHit, dropped, shifted, oldest, victim, inserted, dropIf, flushedPage}
 use Rattle.definition.specs.Translate.{baseOf, cached, Searched, onEnd030, search030, onHit030, with030}
 use Rattle.definition.specs.Refusal.{badCache}
 use Rattle.definition.specs.declared.End.{End}
@@ -21,34 +22,82 @@ use Rattle.definition.specs.declared.Hit.the-variants.{At, Miss}
 use Rattle.definition.specs.declared.Registers.{Registers}
 use Rattle.definition.specs.declared.Shift.{Shift}
 use Rattle.definition.specs.declared.Shift.the-variants.{Bits, NoPage}
-use Rattle.definition.proofs.Choice.{if-by, if-both, and-right}
+use Rattle.definition.proofs.Choice.{if-by, if-both, and-right, or-left, or-right}
 use Rattle.definition.proofs.Lists.{All, all-set, all-get, all-replicate, all-map, first-within, all-pass, Least, least-of}
 use Rattle.definition.proofs.Page030.{shift-cut}
 
--- a walk of this code and page, over a memory of P, found the page with this base and WP, and S let it be cached
-pub record Walked030 (g : Registers) (P : Memory → Type 0) (s code page base : ℕ) (wp : Bool) : Type 0 where
-  pub over : Memory
-  pub seen : P over
+-- ---- what a call does to the cache
+-- a walk of this code and page under g and over m found the page with this base and WP, and S let it be cached
+pub record Walked030 (g : Registers) (m : Memory) (s code page base : ℕ) (wp : Bool) : Type 0 where
   pub shift : shiftOf (g .tc) ≡ Bits s
   pub address : ℕ
   pub at : address / 2 ^ s ≡ page
   pub field : ℕ
   pub consumed : ℕ
-  pub end : walk030 over g address code everyLevel .end ≡ Page field consumed
-  pub protect : walk030 over g address code everyLevel .found .wp ≡ wp
-  pub allowed : (walk030 over g address code everyLevel .found .sup && not (bitOf code 2)) ≡ false
+  pub end : walk030 m g address code everyLevel .end ≡ Page field consumed
+  pub protect : walk030 m g address code everyLevel .found .wp ≡ wp
+  pub allowed : (walk030 m g address code everyLevel .found .sup && not (bitOf code 2)) ≡ false
   pub based : baseOf (physicalOf field consumed address) address s ≡ base
 
--- a valid entry has its walk, under registers and over a memory of P
-abbrev pub Backed030 : (Registers → Memory → Type 0) → ℕ → Entry → Type 0
-Backed030 P s e = e .valid ≡ true → (g : Registers) × Walked030 g (P g) s (e .code) (e .page) (e .base) (e .wp)
+-- the calls under g and over m keep I: a look into the cache does, a flush does, and an insert of what a walk found does
+pub record Keeps030 (g : Registers) (m : Memory) (I : Cache030 → Type 0) : Type 0 where
+  pub look : (c : Cache030) (recorded : Bool) (code page s : ℕ) → I c → I (afterHit c recorded code page s)
+  pub drop : (p : Entry → Bool) (c : Cache030) → I c → I (dropIf p c)
+  pub insert : (c : Cache030) (code page s base : ℕ) (wp : Bool) → s ≤ 31 → Walked030 g m s code page base wp → I c → I (inserted c code page s base wp)
 
--- a cache as it can be: check 4 passes, and each valid entry has its walk
-pub record Sound030 (P : Registers → Memory → Type 0) (c : Cache030) : Type 0 where
-  pub size : length (c .entries) ≡ 22
-  pub recent : c .recent ≤ 21
-  pub shift : c .shift ≤ 31
-  pub backed : All (Backed030 P (c .shift)) (c .entries)
+module _ (g : Registers) (m : Memory) (I : Cache030 → Type 0) (k : Keeps030 g m I) where
+  pub flushed-page-keeps : (c : Cache030) (code mask address : ℕ) → I c → I (flushedPage c code mask address)
+  unfolding flushedPage
+  flushed-page-keeps c code mask address h =
+      if-both I (eqb (c .shift) 0) _ _ h
+      (k .drop (λ (e : Entry). agrees (e .code) code mask && eqb (e .page) (address / 2 ^ (c .shift))) c h)
+
+  module _ (code address : ℕ) (write : Bool) where
+    cached-keeps : (c : Cache030) → I c → (field consumed : ℕ) (sh : Shift) → shiftOf (g .tc) ≡ sh
+        → walk030 m g address code everyLevel .end ≡ Page field consumed
+        → (walk030 m g address code everyLevel .found .sup && not (bitOf code 2)) ≡ false
+        → I (cached sh c code address (physicalOf field consumed address) (walk030 m g address code everyLevel .found .wp))
+    cached-keeps c h field consumed NoPage e f a = h
+    cached-keeps c h field consumed (Bits s) e f a =
+        k .insert c code (address / 2 ^ s) s _ _ (shift-cut (g .tc) s e .most)
+        (record {
+          shift = e;
+          address = address;
+          at = refl;
+          field = field;
+          consumed = consumed;
+          end = f;
+          protect = refl;
+          allowed = a;
+          based = refl;
+        }) h
+
+    end-keeps : (c : Cache030) → I c → (e : End) → walk030 m g address code everyLevel .end ≡ e
+        → I (onEnd030 (g .tc) c code address write (walk030 m g address code everyLevel .found .wp)
+        (walk030 m g address code everyLevel .found .sup) (walk030 m g address code everyLevel .found .asked) e .cache)
+    end-keeps c h (Page field consumed) f =
+        if-by (λ (s : Searched). I (s .cache)) (walk030 m g address code everyLevel .found .sup && not (bitOf code 2)) _ _ (λ t. h)
+        (λ a. cached-keeps c h field consumed (shiftOf (g .tc)) refl f a)
+    end-keeps c h (Invalid indirect) f = h
+    end-keeps c h LevelStop f = h
+    end-keeps c h (BusError at) f = h
+    end-keeps c h Config f = h
+
+    -- a search adds nothing but the entry that its walk found
+    pub search-keeps : (c : Cache030) → I c → I (search030 g m c code address write .cache)
+    unfolding search030
+    search-keeps c h = end-keeps c h (walk030 m g address code everyLevel .end) refl
+
+    on-hit-keeps : (c : Cache030) (s : ℕ) (hit : Hit) → I c → I (onHit030 g m c code address write s hit .cache)
+    on-hit-keeps c s (At base) h = h
+    on-hit-keeps c s Miss h = search-keeps c h
+
+    -- nor does a translation
+    pub with-keeps : (c : Cache030) (recorded : Bool) (sh : Shift) → I c → I (with030 g m c recorded code address write sh .cache)
+    with-keeps c recorded NoPage h = search-keeps c h
+    with-keeps c recorded (Bits s) h =
+        on-hit-keeps (afterHit c recorded code (address / 2 ^ s) s) s (hitOf c code (address / 2 ^ s) s write)
+        (k .look c recorded code (address / 2 ^ s) s h)
 
 -- ---- where an insert goes
 oldest-within : (l : List Entry) → 0 < length l → oldest l < length l
@@ -81,153 +130,102 @@ shifted-shift : (c : Cache030) (s : ℕ) → shifted c s .shift ≡ s
 unfolding shifted
 shifted-shift c s = if-by (λ (d : Cache030). d .shift ≡ s) (eqb (c .shift) s) _ _ (λ t. eqb-true (c .shift) s t) (λ f. refl)
 
--- ---- each entry changed in its place
--- no valid entry is added where each valid one had its walk before; also between registers and memories
-mapped-sound : (P P′ : Registers → Memory → Type 0) (c : Cache030) (f : Entry → Entry) (clock s : ℕ) → s ≤ 31
-    → ((e : Entry) → Backed030 P (c .shift) e → Backed030 P′ s (f e)) → Sound030 P c
-    → Sound030 P′ (record { entries = map f (c .entries); recent = c .recent; clock = clock; shift = s })
-mapped-sound P P′ c f clock s l k h =
-    record {
-      size = length-map (c .entries) f ∙ h .size;
-      recent = h .recent;
-      shift = l;
-      backed = all-map (Backed030 P (c .shift)) (Backed030 P′ s) f k (c .entries) (h .backed);
-    }
+-- ---- what is kept of one entry is kept of all
+-- B speaks of an entry that was made under a shift: of one that is not valid it says nothing, and it does not read the stamp
+pub record OfEntries (B : ℕ → Entry → Type 0) : Type 0 where
+  pub invalid : (s : ℕ) (e : Entry) → e .valid ≡ false → B s e
+  pub again : (s n : ℕ) (e : Entry) → B s e → B s (stamped n e)
 
-dropped-backed : (P : Registers → Memory → Type 0) (s : ℕ) (e : Entry) → Backed030 P s (dropped e)
-dropped-backed P s e v = absurd (false≢true v)
+-- it holds of what a walk under g and over m finds
+abbrev pub New030 : (ℕ → Entry → Type 0) → Registers → Memory → Type 0
+New030 B g m =
+    (s n code page base : ℕ) (wp : Bool) → Walked030 g m s code page base wp
+    → B s (record { valid = true; code = code; page = page; base = base; wp = wp; stamp = n })
 
--- no valid entry is left, so the cache is as it can be under any registers and memories
-pub flushed-all-sound : (P P′ : Registers → Memory → Type 0) (c : Cache030) → Sound030 P c → Sound030 P′ (flushedAll c)
-unfolding flushedAll
-flushed-all-sound P P′ c h = mapped-sound P P′ c dropped (c .clock) (c .shift) (h .shift) (λ e k. dropped-backed P′ (c .shift) e) h
+-- a cache as it can be: 22 entries, check 4 passes, and B holds of each entry
+pub record Sound030 (B : ℕ → Entry → Type 0) (c : Cache030) : Type 0 where
+  pub size : length (c .entries) ≡ 22
+  pub four : badCache c ≡ false
+  pub held : All (B (c .shift)) (c .entries)
 
--- ---- each change of the cache
-module _ (P : Registers → Memory → Type 0) where
-  pub no-entry : (s : ℕ) → Backed030 P s noEntry
-  no-entry s e = absurd (false≢true e)
+pub recent-low : (c : Cache030) → badCache c ≡ false → c .recent ≤ 21
+recent-low c f = ltb-false 21 (c .recent) (or-left (ltb 21 (c .recent)) _ f)
 
-  pub empty-sound : Sound030 P empty030
-  empty-sound =
-      record { size = refl; recent = omega arith; shift = omega arith; backed = all-replicate (Backed030 P 0) 22 noEntry (no-entry 0) }
+pub shift-low : (c : Cache030) → badCache c ≡ false → c .shift ≤ 31
+shift-low c f = ltb-false 31 (c .shift) (or-right (ltb 21 (c .recent)) _ f)
 
-  pub passes-four : (c : Cache030) → Sound030 P c → badCache c ≡ false
-  passes-four c h = rw (le-ltb 21 (c .recent) (h .recent), le-ltb 31 (c .shift) (h .shift))
+pub passes-by : (recent shift : ℕ) → recent ≤ 21 → shift ≤ 31 → (ltb 21 recent || ltb 31 shift) ≡ false
+passes-by recent shift l h = rw (le-ltb 21 recent l, le-ltb 31 shift h)
 
-  rested-sound : (c : Cache030) → Sound030 P c → Sound030 P (rested c)
+module _ (B : ℕ → Entry → Type 0) (o : OfEntries B) where
+  pub empty-sound : Sound030 B empty030
+  empty-sound = record { size = refl; four = refl; held = all-replicate (B 0) 22 noEntry (o .invalid 0 noEntry refl) }
+
+  -- each entry changed in its place
+  mapped-sound : (c : Cache030) (f : Entry → Entry) (clock s : ℕ) → s ≤ 31 → ((e : Entry) → B (c .shift) e → B s (f e)) → Sound030 B c
+      → Sound030 B (record { entries = map f (c .entries); recent = c .recent; clock = clock; shift = s })
+  mapped-sound c f clock s l k h =
+      record {
+        size = length-map (c .entries) f ∙ h .size;
+        four = passes-by (c .recent) s (recent-low c (h .four)) l;
+        held = all-map (B (c .shift)) (B s) f k (c .entries) (h .held);
+      }
+
+  rested-sound : (c : Cache030) → Sound030 B c → Sound030 B (rested c)
   unfolding rested
   rested-sound c h =
-      if-both (Sound030 P) (eqb (c .clock) (2 ^ 64 - 1)) _ _
-      (mapped-sound P P c _ 22 (c .shift) (h .shift) (λ e k. k) h) h
+      if-both (Sound030 B) (eqb (c .clock) (2 ^ 64 - 1)) _ _
+      (mapped-sound c _ 22 (c .shift) (shift-low c (h .four)) (λ e k. o .again (c .shift) _ e k) h) h
 
-  put-sound : (c : Cache030) (i : ℕ) (f : ℕ → Entry) → Sound030 P c → i < 22 → Backed030 P (c .shift) (f (c .clock + 1)) → Sound030 P (putAt c i f)
+  put-sound : (c : Cache030) (i : ℕ) (f : ℕ → Entry) → Sound030 B c → i < 22 → B (c .shift) (f (c .clock + 1)) → Sound030 B (putAt c i f)
   put-sound c i f h l k =
       record {
         size = length-set (c .entries) i (f (c .clock + 1)) ∙ h .size;
-        recent = omega arith;
-        shift = h .shift;
-        backed = all-set (Backed030 P (c .shift)) (c .entries) i (f (c .clock + 1)) k (h .backed);
+        four = passes-by i (c .shift) (omega arith) (shift-low c (h .four));
+        held = all-set (B (c .shift)) (c .entries) i (f (c .clock + 1)) k (h .held);
       }
 
-  touched-sound : (c : Cache030) (i : ℕ) → i < 22 → Sound030 P c → Sound030 P (touched c i)
+  touched-sound : (c : Cache030) (i : ℕ) → i < 22 → Sound030 B c → Sound030 B (touched c i)
   unfolding touched
   touched-sound c i l h =
       let r = rested-sound c h in
-      if-both (Sound030 P) (eqb i (c .recent)) _ _ h
+      let s = rested c .shift in
+      if-both (Sound030 B) (eqb i (c .recent)) _ _ h
       (put-sound (rested c) i (λ (n : ℕ). stamped n (getD (rested c .entries) i noEntry)) r l
-      (all-get (Backed030 P (rested c .shift)) (rested c .entries) i noEntry (no-entry (rested c .shift)) (r .backed)))
+      (o .again s _ _ (all-get (B s) (rested c .entries) i noEntry (o .invalid s noEntry refl) (r .held))))
 
-  -- a look into the cache adds nothing
-  pub after-hit-sound : (c : Cache030) (recorded : Bool) (code page s : ℕ) → Sound030 P c → Sound030 P (afterHit c recorded code page s)
+  look-sound : (c : Cache030) (recorded : Bool) (code page s : ℕ) → Sound030 B c → Sound030 B (afterHit c recorded code page s)
   unfolding afterHit
-  after-hit-sound c recorded code page s h =
-      if-by (Sound030 P) (recorded && found c code page s) _ _
+  look-sound c recorded code page s h =
+      if-by (Sound030 B) (recorded && found c code page s) _ _
       (λ t.
       let there = and-right (eqb (c .shift) s) _ (and-right recorded (found c code page s) t) in
       let l = ltb-true (matching c code page) (length (c .entries)) there in
       touched-sound c (matching c code page) (rw (h .size) at l) h)
       (λ f. h)
 
-  shifted-sound : (c : Cache030) (s : ℕ) → s ≤ 31 → Sound030 P c → Sound030 P (shifted c s)
+  shifted-sound : (c : Cache030) (s : ℕ) → s ≤ 31 → Sound030 B c → Sound030 B (shifted c s)
   unfolding shifted
   shifted-sound c s l h =
-      if-both (Sound030 P) (eqb (c .shift) s) _ _ h
-      (mapped-sound P P c dropped (c .clock) s l (λ e k. dropped-backed P s e) h)
+      if-both (Sound030 B) (eqb (c .shift) s) _ _ h
+      (mapped-sound c dropped (c .clock) s l (λ e k. o .invalid s (dropped e) refl) h)
 
-  -- an insert adds the one entry that its walk found
-  pub inserted-sound : (g : Registers) (c : Cache030) (code page s base : ℕ) (wp : Bool) → s ≤ 31 → Walked030 g (P g) s code page base wp → Sound030 P c
-      → Sound030 P (inserted c code page s base wp)
+  insert-sound : (g : Registers) (m : Memory) → New030 B g m → (c : Cache030) (code page s base : ℕ) (wp : Bool) → s ≤ 31
+      → Walked030 g m s code page base wp → Sound030 B c → Sound030 B (inserted c code page s base wp)
   unfolding inserted
-  inserted-sound g c code page s base wp l w h =
+  insert-sound g m new c code page s base wp l w h =
       let k = shifted-sound c s l h in
       let r = rested-sound (shifted c s) k in
       let v = victim-within (shifted c s .entries) code page (rw (k .size) (omega arith)) in
       put-sound (rested (shifted c s)) (victim (shifted c s .entries) code page)
       (λ (n : ℕ). record { valid = true; code = code; page = page; base = base; wp = wp; stamp = n }) r (rw (k .size) at v)
-      (λ _. (g, rw (rested-shift (shifted c s) ∙ shifted-shift c s) w))
+      (rw (rested-shift (shifted c s) ∙ shifted-shift c s) (new s _ code page base wp w))
 
-  -- a flush adds nothing
-  drop-sound : (p : Entry → Bool) (c : Cache030) → Sound030 P c → Sound030 P (dropIf p c)
+  drop-sound : (p : Entry → Bool) (c : Cache030) → Sound030 B c → Sound030 B (dropIf p c)
   drop-sound p c h =
-      mapped-sound P P c _ (c .clock) (c .shift) (h .shift)
-      (λ e k. if-both (Backed030 P (c .shift)) (p e) (dropped e) e (dropped-backed P (c .shift) e) k) h
+      mapped-sound c _ (c .clock) (c .shift) (shift-low c (h .four))
+      (λ e k. if-both (B (c .shift)) (p e) (dropped e) e (o .invalid (c .shift) (dropped e) refl) k) h
 
-  pub flushed-code-sound : (c : Cache030) (code mask : ℕ) → Sound030 P c → Sound030 P (flushedCode c code mask)
-  unfolding flushedCode
-  flushed-code-sound c code mask h = drop-sound (λ (e : Entry). agrees (e .code) code mask) c h
-
-  pub flushed-page-sound : (c : Cache030) (code mask address : ℕ) → Sound030 P c → Sound030 P (flushedPage c code mask address)
-  unfolding flushedPage
-  flushed-page-sound c code mask address h =
-      if-both (Sound030 P) (eqb (c .shift) 0) _ _ h
-      (drop-sound (λ (e : Entry). agrees (e .code) code mask && eqb (e .page) (address / 2 ^ (c .shift))) c h)
-
-  -- ---- a search
-  module _ (g : Registers) (m : Memory) (seen : P g m) (c : Cache030) (h : Sound030 P c) (code address : ℕ) (write : Bool) where
-    cached-sound : (field consumed : ℕ) (sh : Shift) → shiftOf (g .tc) ≡ sh → walk030 m g address code everyLevel .end ≡ Page field consumed
-        → (walk030 m g address code everyLevel .found .sup && not (bitOf code 2)) ≡ false
-        → Sound030 P (cached sh c code address (physicalOf field consumed address) (walk030 m g address code everyLevel .found .wp))
-    cached-sound field consumed NoPage e f a = h
-    cached-sound field consumed (Bits s) e f a =
-        inserted-sound g c code (address / 2 ^ s) s _ _ (shift-cut (g .tc) s e .most)
-        (record {
-          over = m;
-          seen = seen;
-          shift = e;
-          address = address;
-          at = refl;
-          field = field;
-          consumed = consumed;
-          end = f;
-          protect = refl;
-          allowed = a;
-          based = refl;
-        }) h
-
-    end-sound : (e : End) → walk030 m g address code everyLevel .end ≡ e
-        → Sound030 P (onEnd030 (g .tc) c code address write (walk030 m g address code everyLevel .found .wp)
-        (walk030 m g address code everyLevel .found .sup) (walk030 m g address code everyLevel .found .asked) e .cache)
-    end-sound (Page field consumed) f =
-        if-by (λ (s : Searched). Sound030 P (s .cache)) (walk030 m g address code everyLevel .found .sup && not (bitOf code 2)) _ _ (λ t. h)
-        (λ a. cached-sound field consumed (shiftOf (g .tc)) refl f a)
-    end-sound (Invalid indirect) f = h
-    end-sound LevelStop f = h
-    end-sound (BusError at) f = h
-    end-sound Config f = h
-
-    -- a search adds nothing but the entry that its walk found
-    pub search-sound : Sound030 P (search030 g m c code address write .cache)
-    unfolding search030
-    search-sound = end-sound (walk030 m g address code everyLevel .end) refl
-
-  module _ (g : Registers) (m : Memory) (seen : P g m) (code address : ℕ) (write : Bool) where
-    on-hit-sound : (c : Cache030) (s : ℕ) (hit : Hit) → Sound030 P c → Sound030 P (onHit030 g m c code address write s hit .cache)
-    on-hit-sound c s (At base) h = h
-    on-hit-sound c s Miss h = search-sound g m seen c h code address write
-
-    -- a translation adds nothing but the entry that its walk found
-    pub with-sound : (c : Cache030) (recorded : Bool) (sh : Shift) → Sound030 P c → Sound030 P (with030 g m c recorded code address write sh .cache)
-    with-sound c recorded NoPage h = search-sound g m seen c h code address write
-    with-sound c recorded (Bits s) h =
-        on-hit-sound (afterHit c recorded code (address / 2 ^ s) s) s (hitOf c code (address / 2 ^ s) s write)
-        (after-hit-sound c recorded code (address / 2 ^ s) s h)
+  -- the law: every call keeps it
+  pub sound-keeps : (g : Registers) (m : Memory) → New030 B g m → Keeps030 g m (Sound030 B)
+  sound-keeps g m new = record { look = look-sound; drop = drop-sound; insert = insert-sound g m new }

@@ -1,57 +1,96 @@
--- The 68040 cache's valid slots: nothing adds one but a walk of its key. Assumes nothing.
-use Prim.Native.Nat.{ℕ, _/_, _%_, _^_}
-use mathlib.Core.Path.{_≡_}
-use mathlib.Core.Bool.{Bool, true, false≢true}
+-- The 68040 cache's slots: nothing changes one but to empty it, and nothing adds one but a walk of its key, in its own place. So what these keep of one
+-- slot is kept of all. Assumes nothing.
+use Prim.Native.Nat.{ℕ, zero, suc, _+_, _/_, _%_, _^_}
+use mathlib.Core.Path.{_≡_, refl}
+use mathlib.Core.List.{List, [], _∷_, map}
+use mathlib.Core.Bool.{Bool, true, false, not, _&&_}
 use lib.Dec.{eqb}
+use lib.ListN.{getD, set, replicate}
+use Rattle.definition.specs.Registers.{asSupervisor}
 use Rattle.definition.specs.Memory.{Memory}
 use Rattle.definition.specs.Walk040.{walk040, pageBits, frameOf}
 use Rattle.definition.specs.Cache040.{Slot, Cache040, noSlot, empty040, slotAt, inserted040, emptied, flushedAll040, flushedFrame}
 use Rattle.definition.specs.declared.End040.the-variants.{Resident}
 use Rattle.definition.specs.declared.Registers.{Registers}
 use Rattle.definition.proofs.Choice.{if-both}
-use Rattle.definition.proofs.Lists.{All, all-set, all-replicate, all-map}
 
--- a walk of this frame and privilege, over a memory of P, found the page with this base, W and S
-pub record Walked040 (g : Registers) (P : Memory → Type 0) (frame : ℕ) (supervisor : Bool) (base : ℕ) (wp sup : Bool) : Type 0 where
-  pub over : Memory
-  pub seen : P over
+-- ---- what a call does to the cache
+-- a walk of this frame and privilege under g and over m found the page with this base, W and S
+pub record Walked040 (g : Registers) (m : Memory) (frame : ℕ) (supervisor : Bool) (base : ℕ) (wp sup : Bool) : Type 0 where
   pub address : ℕ
   pub at : address / 2 ^ pageBits (g .tc) ≡ frame
   pub field : ℕ
-  pub end : walk040 over g address supervisor .end ≡ Resident field wp sup
+  pub end : walk040 m g address supervisor .end ≡ Resident field wp sup
+  pub allowed : (not supervisor && sup) ≡ false
   pub based : frameOf (g .tc) field ≡ base
 
--- a valid slot has its walk, under registers and over a memory of P
-abbrev pub Backed040 : (Registers → Memory → Type 0) → Slot → Type 0
-Backed040 P s = s .valid ≡ true → (g : Registers) × Walked040 g (P g) (s .frame) (s .supervisor) (s .base) (s .wp) (s .sup)
+-- the calls under g and over m keep I: a flush does, and an insert of what a walk found does
+pub record Keeps040 (g : Registers) (m : Memory) (I : Cache040 → Type 0) : Type 0 where
+  pub dropAll : (c : Cache040) → I c → I (flushedAll040 c)
+  pub drop : (c : Cache040) (frame : ℕ) → I c → I (flushedFrame c frame)
+  pub insert : (c : Cache040) (frame : ℕ) (supervisor : Bool) (base : ℕ) (wp sup : Bool) → Walked040 g m frame supervisor base wp sup → I c
+      → I (inserted040 c frame supervisor base wp sup)
 
-abbrev pub Sound040 : (Registers → Memory → Type 0) → Cache040 → Type 0
-Sound040 P c = All (Backed040 P) (c .slots)
+-- ---- what is kept of one slot is kept of all
+-- B speaks of the slot at an index, and says nothing of one that is not valid
+pub record OfSlots (B : ℕ → Slot → Type 0) : Type 0 where
+  pub invalid : (i : ℕ) (s : Slot) → s .valid ≡ false → B i s
 
-emptied-backed : (P : Registers → Memory → Type 0) (s : Slot) → Backed040 P (emptied s)
-emptied-backed P s v = absurd (false≢true v)
+-- it holds of what a walk under g and over m finds, in its own place
+abbrev pub New040 : (ℕ → Slot → Type 0) → Registers → Memory → Type 0
+New040 B g m =
+    (frame : ℕ) (supervisor : Bool) (base : ℕ) (wp sup : Bool) → Walked040 g m frame supervisor base wp sup
+    → B (frame % 64) (record { valid = true; frame = frame; supervisor = supervisor; base = base; wp = wp; sup = sup })
 
--- no valid slot is left, so the cache is as it can be under any registers and memories
-pub flushed-all-sound : (P P′ : Registers → Memory → Type 0) (c : Cache040) → Sound040 P c → Sound040 P′ (flushedAll040 c)
-unfolding flushedAll040
-flushed-all-sound P P′ c h = all-map (Backed040 P) (Backed040 P′) emptied (λ s k. emptied-backed P′ s) (c .slots) h
+-- B holds of each slot of a list, by its index
+abbrev pub Each : (ℕ → Slot → Type 0) → List Slot → Type 0
+Each B l = (i : ℕ) → B i (getD l i noSlot)
 
-module _ (P : Registers → Memory → Type 0) where
-  pub no-slot : Backed040 P noSlot
-  no-slot v = absurd (false≢true v)
+abbrev pub Sound040 : (ℕ → Slot → Type 0) → Cache040 → Type 0
+Sound040 B c = Each B (c .slots)
 
-  pub empty-sound : Sound040 P empty040
-  empty-sound = all-replicate (Backed040 P) 64 noSlot no-slot
+module _ (B : ℕ → Slot → Type 0) (o : OfSlots B) where
+  -- no slot is valid
+  each-invalid : (l : List Slot) → ((i : ℕ) → getD l i noSlot .valid ≡ false) → Each B l
+  each-invalid l h i = o .invalid i (getD l i noSlot) (h i)
 
-  -- an insert adds the one slot that its walk found
-  pub inserted-sound : (g : Registers) (c : Cache040) (frame : ℕ) (supervisor : Bool) (base : ℕ) (wp sup : Bool) → Walked040 g (P g) frame supervisor base wp sup
-      → Sound040 P c → Sound040 P (inserted040 c frame supervisor base wp sup)
-  unfolding inserted040
-  inserted-sound g c frame supervisor base wp sup w h = all-set (Backed040 P) (c .slots) (frame % 64) _ (λ _. (g, w)) h
+  pub empty-sound : Sound040 B empty040
+  empty-sound = each-invalid (replicate 64 noSlot) (go 64)
+    where
+      go : (n i : ℕ) → getD (replicate n noSlot) i noSlot .valid ≡ false
+      go zero i = refl
+      go (suc n) zero = refl
+      go (suc n) (suc i) = go n i
 
-  -- a flush adds nothing
-  pub flushed-frame-sound : (c : Cache040) (frame : ℕ) → Sound040 P c → Sound040 P (flushedFrame c frame)
+  drop-all-sound : (c : Cache040) → Sound040 B c → Sound040 B (flushedAll040 c)
+  unfolding flushedAll040
+  drop-all-sound c h = each-invalid (map emptied (c .slots)) (go (c .slots))
+    where
+      go : (l : List Slot) (i : ℕ) → getD (map emptied l) i noSlot .valid ≡ false
+      go [] i = refl
+      go (x ∷ l) zero = refl
+      go (x ∷ l) (suc i) = go l i
+
+set-each : (B : ℕ → Slot → Type 0) (l : List Slot) (v : ℕ) (x : Slot) → B v x → Each B l → Each B (set l v x)
+set-each B [] v x b h i = h i
+set-each B (y ∷ l) zero x b h zero = b
+set-each B (y ∷ l) zero x b h (suc i) = h (suc i)
+set-each B (y ∷ l) (suc v) x b h zero = h 0
+set-each B (y ∷ l) (suc v) x b h (suc i) = set-each (λ (i : ℕ). B (suc i)) l v x b (λ i. h (suc i)) i
+
+module _ (B : ℕ → Slot → Type 0) (o : OfSlots B) where
+  drop-frame-sound : (c : Cache040) (frame : ℕ) → Sound040 B c → Sound040 B (flushedFrame c frame)
   unfolding flushedFrame
-  flushed-frame-sound c frame h =
-      if-both (Sound040 P) (eqb (slotAt c frame .frame) frame) _ c
-      (all-set (Backed040 P) (c .slots) (frame % 64) (emptied (slotAt c frame)) (emptied-backed P (slotAt c frame)) h) h
+  drop-frame-sound c frame h =
+      if-both (Sound040 B) (eqb (slotAt c frame .frame) frame) _ c
+      (set-each B (c .slots) (frame % 64) (emptied (slotAt c frame)) (o .invalid (frame % 64) (emptied (slotAt c frame)) refl) h) h
+
+  -- the law: every call keeps it
+  pub sound-keeps : (g : Registers) (m : Memory) → New040 B g m → Keeps040 g m (Sound040 B)
+  unfolding inserted040
+  sound-keeps g m new =
+      record {
+        dropAll = drop-all-sound B o;
+        drop = drop-frame-sound;
+        insert = λ c frame supervisor base wp sup w h. set-each B (c .slots) (frame % 64) _ (new frame supervisor base wp sup w) h;
+      }

@@ -3,12 +3,13 @@
 use Prim.Native.Nat.{ℕ}
 use mathlib.Core.Path.{_≡_, refl, ap, sym, subst, _∙_}
 use mathlib.Core.List.{List, [], _∷_, _++_, map}
-use mathlib.Core.Bool.{false, not}
+use mathlib.Core.Bool.{Bool, true, false, not}
 use mathlib.Core.Logic.{inl, inr}
 use native.Mathlib.Omega.{arith}
 use borrow.Author.Tests.{eq-eqb}
 use lib.Dec.{eqb}
-use Rattle.definition.specs.Registers.{on, asSupervisor, asInstruction, walkCode, comparedCode}
+use lib.ListN.{length}
+use Rattle.definition.specs.Registers.{on, codeOf, asSupervisor, asInstruction, walkCode, comparedCode}
 use Rattle.definition.specs.Memory.{Memory, fetchOf}
 use Rattle.definition.specs.Transparent.{transparent}
 use Rattle.definition.specs.Walk030.{Outcome, everyLevel, shiftOf}
@@ -16,18 +17,24 @@ use Rattle.definition.specs.Walk040.{Outcome040}
 use Rattle.definition.specs.Cache030.{empty030}
 use Rattle.definition.specs.Refusal.{refusalOf, badCache}
 use Rattle.definition.specs.Translate.{Caches, emptyCaches, Translated, concluded030, search030, translate030, concluded040, translate040, inOrder, translateChecks, translate, cacheless}
+use Rattle.definition.specs.Audit.{isAccessCode}
 use Rattle.definition.specs.Replay.{Moment, watched, other, memoryAt, after, afterAll, answersFrom, answers, watchedOf, walksOf, In, Steady, Accepted}
 use Rattle.definition.specs.declared.Registers.{Registers}
 use Rattle.definition.specs.declared.Access.{Access}
 use Rattle.definition.specs.declared.Translation.{Translation}
-use Rattle.definition.proofs.Choice.{if-given}
-use Rattle.definition.proofs.Lists.{in-left, in-right, map-alike}
-use Rattle.definition.proofs.Agree.{Agree, Throughout, Only, Any}
+use Rattle.definition.proofs.Choice.{if-given, if-given-by}
+use Rattle.definition.proofs.Lists.{All, in-left, in-right, map-alike}
+use Rattle.definition.proofs.Agree.{Agree, Throughout}
 use Rattle.definition.proofs.Asked030.{asked-030}
 use Rattle.definition.proofs.Asked040.{asked-040}
-use Rattle.definition.proofs.Entries030.{passes-four}
-use Rattle.definition.proofs.Entries.{Sound, empty-sound, after-sound}
+use Rattle.definition.proofs.Entries030.{Sound030}
+use Rattle.definition.proofs.Entries030 as of030
+use Rattle.definition.proofs.Entries040.{Sound040}
+use Rattle.definition.proofs.Entries040 as of040
+use Rattle.definition.proofs.Entries.{Both, Keeps, after-keeps, run-keeps}
+use Rattle.definition.proofs.Hits030.{Good030}
 use Rattle.definition.proofs.Hits030 as hits030
+use Rattle.definition.proofs.Hits040.{Good040}
 use Rattle.definition.proofs.Hits040 as hits040
 
 -- ---- one access
@@ -36,40 +43,54 @@ answerOf t = t .answer
 
 -- two translations that differ only past the tests for an enabled PMMU, a transparent match and the family, given what holds of the first
 order-alike : (g : Registers) (a : Access) (m m′ : Memory) (c c′ : Caches) (Q : Translated → Type 0)
-    → (Q (translate030 g a m c) → translate030 g a m c .answer ≡ translate030 g a m′ c′ .answer)
-    → (Q (translate040 g a m c) → translate040 g a m c .answer ≡ translate040 g a m′ c′ .answer)
+    → (eqb (g .family) 30 ≡ true → Q (translate030 g a m c) → translate030 g a m c .answer ≡ translate030 g a m′ c′ .answer)
+    → (eqb (g .family) 30 ≡ false → Q (translate040 g a m c) → translate040 g a m c .answer ≡ translate040 g a m′ c′ .answer)
     → Q (inOrder g a m c) → inOrder g a m c .answer ≡ inOrder g a m′ c′ .answer
 unfolding inOrder
 order-alike g a m m′ c c′ Q h k =
     if-given Q answerOf (not (on g)) _ _ _ _ (λ _. refl)
     (if-given Q answerOf (transparent g (a .address) (comparedCode a) (asInstruction a)) _ _ _ _ (λ _. refl)
-    (if-given Q answerOf (eqb (g .family) 30) _ _ _ _ h k))
+    (if-given-by Q answerOf (eqb (g .family) 30) _ _ _ _ h k))
 
-module _ (g : Registers) (P : Memory → Type 0) (a : Access) (m : Memory) (c : Caches) (h : Sound (Only g P) c) where
-  same-030 : Throughout P m (translate030 g a m emptyCaches .asked) → translate030 g a m c .answer ≡ translate030 g a m emptyCaches .answer
+-- both caches are right for accesses under g: check 4 passes, and each entry and slot that they can meet has its walk over a memory of P
+pub record Right (g : Registers) (P : Memory → Type 0) (c : Caches) : Type 0 where
+  pub four : badCache (c .c030) ≡ false
+  pub in030 : All (Good030 g P (c .c030 .shift)) (c .c030 .entries)
+  pub in040 : Sound040 (Good040 g P) (c .c040)
+
+access-code : (supervisor instruction : Bool) → isAccessCode (codeOf supervisor instruction) ≡ true
+access-code false false = refl
+access-code false true = refl
+access-code true false = refl
+access-code true true = refl
+
+module _ (g : Registers) (P : Memory → Type 0) (a : Access) (m : Memory) (c : Caches) (h : Right g P c) where
+  same-030 : eqb (g .family) 30 ≡ true → Throughout P m (translate030 g a m emptyCaches .asked)
+      → translate030 g a m c .answer ≡ translate030 g a m emptyCaches .answer
   unfolding translate030
-  same-030 t =
+  same-030 f t =
       hits030.with-answer g P m (walkCode a) (a .address) (a .write)
       (rw (hits030.empty-asked g m (walkCode a) (a .address) (a .write) (a .recorded) (shiftOf (g .tc))) at t)
-      (c .c030) (a .recorded) (shiftOf (g .tc)) (h .in030)
+      (c .c030) (a .recorded) (shiftOf (g .tc)) f refl (access-code (asSupervisor a) (asInstruction a)) (h .in030)
       ∙ sym (hits030.empty-answer g m (walkCode a) (a .address) (a .write) (a .recorded) (shiftOf (g .tc)))
 
-  same-040 : Throughout P m (translate040 g a m emptyCaches .asked) → translate040 g a m c .answer ≡ translate040 g a m emptyCaches .answer
-  same-040 t =
-      hits040.with-answer g P m a (rw (hits040.empty-asked g m a) at t) c (h .in040) ∙ sym (hits040.empty-answer g m a)
+  same-040 : eqb (g .family) 30 ≡ false → Throughout P m (translate040 g a m emptyCaches .asked)
+      → translate040 g a m c .answer ≡ translate040 g a m emptyCaches .answer
+  same-040 f t =
+      hits040.with-answer g P m a (rw (hits040.empty-asked g m a) at t) c f (h .in040) ∙ sym (hits040.empty-answer g m a)
 
   -- its longs read the same throughout P
   abbrev Still : Translated → Type 0
   Still t = Throughout P m (t .asked)
 
   same-order : Still (inOrder g a m emptyCaches) → inOrder g a m emptyCaches .answer ≡ inOrder g a m c .answer
-  same-order = order-alike g a m m emptyCaches c Still (λ t. sym (same-030 t)) (λ t. sym (same-040 t))
+  same-order = order-alike g a m m emptyCaches c Still (λ f t. sym (same-030 f t)) (λ f t. sym (same-040 f t))
 
   -- check 4 passes, so the refusal is the cacheless walk's
   same-checks : translateChecks g a m c ≡ translateChecks g a m emptyCaches
-  same-checks = rw (passes-four (Only g P) (c .c030) (h .in030))
+  same-checks = rw (h .four)
 
-  -- the law of one access: caches that were filled over memories where its walk's longs read the same change nothing
+  -- the law of one access: caches that are right for it over memories where its walk's longs read the same change nothing
   pub translate-answer : Throughout P m (cacheless g a m .asked) → translate g a m c .answer ≡ cacheless g a m .answer
   unfolding translate
   translate-answer t =
@@ -107,7 +128,7 @@ module _ (g : Registers) (a : Access) (m m′ : Memory) where
       → Agree m m′ (cacheless g a m .asked) → cacheless g a m .answer ≡ cacheless g a m′ .answer
   cacheless-answer e e′ t =
       ap answerOf (accepted g a m e)
-      ∙ order-alike g a m m′ emptyCaches emptyCaches Kept two-030 two-040 (subst Kept (accepted g a m e) t)
+      ∙ order-alike g a m m′ emptyCaches emptyCaches Kept (λ _. two-030) (λ _. two-040) (subst Kept (accepted g a m e) t)
       ∙ ap answerOf (sym (accepted g a m′ e′))
 
 -- ---- a replay
@@ -117,32 +138,56 @@ pub record Of (l : List Moment) (m : Memory) : Type 0 where
   pub one : In now l
   pub is : memoryAt now ≡ m
 
-module _ (g : Registers) (P : Registers → Memory → Type 0) where
-  pub run-sound : (l : List Moment) → ((now : Moment) → In now l → P g (memoryAt now)) → (c : Caches) → Sound P c → Sound P (afterAll g c l)
-  unfolding afterAll
-  run-sound [] p c h = h
-  run-sound (now ∷ rest) p c h = run-sound rest (λ n i. p n (inr i)) (after g c now) (after-sound P g now (p now (inl refl)) c h)
+-- check 4 passes, the cache has its 22 entries, and they and the slots are good: so it stays, over memories of P
+abbrev pub Sound : Registers → (Memory → Type 0) → Caches → Type 0
+Sound g P = Both (Sound030 (Good030 g P)) (Sound040 (Good040 g P))
 
 module _ (g : Registers) (P : Memory → Type 0) where
-  run-answers : (l : List Moment) → ((now : Moment) → In now l → P (memoryAt now))
-      → ((a : Access) (m : Memory) → In (watched a m) l → Throughout P m (cacheless g a m .asked)) → (c : Caches) → Sound (Only g P) c
+  pub empty-sound : Sound g P emptyCaches
+  empty-sound =
+      record {
+        in030 = of030.empty-sound (Good030 g P) (hits030.good-entries g P);
+        in040 = of040.empty-sound (Good040 g P) (hits040.good-slots g P);
+      }
+
+  pub sound-keeps : (m : Memory) → P m → Keeps (Sound030 (Good030 g P)) (Sound040 (Good040 g P)) g m
+  sound-keeps m p =
+      record {
+        in030 = of030.sound-keeps (Good030 g P) (hits030.good-entries g P) g m (hits030.good-new g P m p);
+        in040 = of040.sound-keeps (Good040 g P) (hits040.good-slots g P) g m (hits040.good-new g P m p);
+      }
+
+  pub sound-right : (c : Caches) → Sound g P c → Right g P c
+  sound-right c h = record { four = h .in030 .four; in030 = h .in030 .held; in040 = h .in040 }
+
+  pub right-sound : (c : Caches) → length (c .c030 .entries) ≡ 22 → Right g P c → Sound g P c
+  right-sound c size h = record { in030 = record { size = size; four = h .four; held = h .in030 }; in040 = h .in040 }
+
+  pub run-sound : (l : List Moment) → ((now : Moment) → In now l → P (memoryAt now)) → (c : Caches) → Sound g P c → Sound g P (afterAll g c l)
+  run-sound l p c h =
+      run-keeps (Sound030 (Good030 g P)) (Sound040 (Good040 g P)) g l (λ now i. sound-keeps (memoryAt now) (p now i)) c h
+
+  -- the law of a run: from sound caches each watched access gets the cacheless walk's answer, if its longs read the same throughout P
+  pub run-answers : (l : List Moment) → ((now : Moment) → In now l → P (memoryAt now))
+      → ((a : Access) (m : Memory) → In (watched a m) l → Throughout P m (cacheless g a m .asked)) → (c : Caches) → Sound g P c
       → answersFrom g c l ≡ walksOf g l
   unfolding answersFrom walksOf
   run-answers [] p s c h = refl
   run-answers (watched a m ∷ rest) p s c h =
       rw (
-        translate-answer g P a m c h (s a m (inl refl)),
+        translate-answer g P a m c (sound-right c h) (s a m (inl refl)),
         run-answers rest (λ n i. p n (inr i)) (λ b n i. s b n (inr i)) (after g c (watched a m))
-            (after-sound (Only g P) g (watched a m) (refl, p (watched a m) (inl refl)) c h),
+            (after-keeps (Sound030 (Good030 g P)) (Sound040 (Good040 g P)) g (watched a m) (sound-keeps m (p (watched a m) (inl refl))) c h),
       )
   run-answers (other call m ∷ rest) p s c h =
       run-answers rest (λ n i. p n (inr i)) (λ b n i. s b n (inr i)) (after g c (other call m))
-      (after-sound (Only g P) g (other call m) (refl, p (other call m) (inl refl)) c h)
+      (after-keeps (Sound030 (Good030 g P)) (Sound040 (Good040 g P)) g (other call m) (sound-keeps m (p (other call m) (inl refl))) c h)
 
+-- ---- from the empty caches
 -- check 4 passes after any moments whatever: no call of a replay is refused by it
 pub passes-four-after : (g : Registers) (before : List Moment) → badCache (afterAll g emptyCaches before .c030) ≡ false
 passes-four-after g before =
-    passes-four Any (afterAll g emptyCaches before .c030) (run-sound g Any before (λ now i. tt) emptyCaches (empty-sound Any) .in030)
+    run-sound g (Of before) before (λ now i. record { now = now; one = i; is = refl }) emptyCaches (empty-sound g (Of before)) .in030 .four
 
 -- after any moments whatever a watched access gets the cacheless walk's answer, if at each of them its longs read as they do now
 pub after-anything : (g : Registers) (before : List Moment) (a : Access) (m : Memory)
@@ -150,14 +195,15 @@ pub after-anything : (g : Registers) (before : List Moment) (a : Access) (m : Me
     → translate g a m (afterAll g emptyCaches before) .answer ≡ cacheless g a m .answer
 after-anything g before a m s =
     translate-answer g (Of before) a m (afterAll g emptyCaches before)
-    (run-sound g (Only g (Of before)) before (λ now i. (refl, record { now = now; one = i; is = refl })) emptyCaches (empty-sound (Only g (Of before))))
+    (sound-right g (Of before) (afterAll g emptyCaches before)
+    (run-sound g (Of before) before (λ now i. record { now = now; one = i; is = refl }) emptyCaches (empty-sound g (Of before))))
     (λ m′ o at i. sym (rw (o .is) at (s (o .now) at (o .one) i)))
 
 -- one replay: each watched access gets the cacheless walk's address, fault or refusal
 pub watched-is-cacheless : (g : Registers) (l : List Moment) → Steady g l → answers g l ≡ walksOf g l
 watched-is-cacheless g l s =
     run-answers g (Of l) l (λ now i. record { now = now; one = i; is = refl })
-    (λ a m i m′ o at j. sym (rw (o .is) at (s .same a m (o .now) at i (o .one) j))) emptyCaches (empty-sound (Only g (Of l)))
+    (λ a m i m′ o at j. sym (rw (o .is) at (s .same a m (o .now) at i (o .one) j))) emptyCaches (empty-sound g (Of l))
 
 -- ---- two replays
 -- the watched accesses, each with its memory
@@ -205,22 +251,26 @@ module _ (g : Registers) (l : List Moment) (s : Steady g l) (t : Accepted g l) w
       at-two (p .0) (p .1) (q .1) i (subst (λ (a : Access). In (watched a (q .1)) l) (sym e) j)
       ∙ ap (λ (a : Access). cacheless g a (q .1) .answer) e
 
+-- a part of a steady replay is steady
+pub steady-left : (g : Registers) (l l′ : List Moment) → Steady g (l ++ l′) → Steady g l
+steady-left g l l′ s = record { same = λ a m now at i j k. s .same a m now at (in-left _ l l′ i) (in-left _ l l′ j) k }
+
+pub steady-right : (g : Registers) (l l′ : List Moment) → Steady g (l ++ l′) → Steady g l′
+steady-right g l l′ s = record { same = λ a m now at i j k. s .same a m now at (in-right _ l l′ i) (in-right _ l l′ j) k }
+
+-- two runs with the same watched accesses, steady and accepted together, have the same cacheless answers
+pub walks-alike : (g : Registers) (l l′ : List Moment) → watchedOf l ≡ watchedOf l′ → Steady g (l ++ l′) → Accepted g (l ++ l′) → walksOf g l ≡ walksOf g l′
+walks-alike g l l′ e s t =
+    walks-pairs g l
+    ∙ map-alike (λ (p : Pair). p .0) (λ (p : Pair). cacheless g (p .0) (p .1) .answer) (pairsOf l) (pairsOf l′)
+    (sym (watched-pairs l) ∙ e ∙ watched-pairs l′)
+    (λ p q i j k. pairs-alike g (l ++ l′) s t p q (in-left _ l l′ (pair-in l p i)) (in-right _ l l′ (pair-in l′ q j)) k)
+    ∙ sym (walks-pairs g l′)
+
 -- the demand: two replays with the same watched accesses in the same order, where every long that their cacheless walks ask for reads the same
 -- throughout both, and none is refused, give each the same address or fault: the cacheless walk's
 pub independence : (g : Registers) (l l′ : List Moment) → watchedOf l ≡ watchedOf l′ → Steady g (l ++ l′) → Accepted g (l ++ l′)
     → (answers g l ≡ answers g l′) × (answers g l ≡ walksOf g l)
-independence g l l′ e s t = (one ∙ both ∙ sym two, one)
-  where
-    one : answers g l ≡ walksOf g l
-    one = watched-is-cacheless g l (record { same = λ a m now at i j k. s .same a m now at (in-left _ l l′ i) (in-left _ l l′ j) k })
-
-    two : answers g l′ ≡ walksOf g l′
-    two = watched-is-cacheless g l′ (record { same = λ a m now at i j k. s .same a m now at (in-right _ l l′ i) (in-right _ l l′ j) k })
-
-    both : walksOf g l ≡ walksOf g l′
-    both =
-        walks-pairs g l
-        ∙ map-alike (λ (p : Pair). p .0) (λ (p : Pair). cacheless g (p .0) (p .1) .answer) (pairsOf l) (pairsOf l′)
-        (sym (watched-pairs l) ∙ e ∙ watched-pairs l′)
-        (λ p q i j k. pairs-alike g (l ++ l′) s t p q (in-left _ l l′ (pair-in l p i)) (in-right _ l l′ (pair-in l′ q j)) k)
-        ∙ sym (walks-pairs g l′)
+independence g l l′ e s t =
+    let one = watched-is-cacheless g l (steady-left g l l′ s) in
+    (one ∙ walks-alike g l l′ e s t ∙ sym (watched-is-cacheless g l′ (steady-right g l l′ s)), one)

@@ -26,24 +26,22 @@ use Rattle.definition.specs.declared.Translation.{Translation}
 use Rattle.definition.specs.declared.Translation.the-variants.{Address, Fault, Refused}
 use Rattle.definition.specs.declared.Flush.{Flush}
 use Rattle.definition.proofs.Choice.{if-both}
-use Rattle.definition.proofs.Agree.{Any}
-use Rattle.definition.proofs.Entries030.{passes-four}
-use Rattle.definition.proofs.Entries.{Sound, empty-sound, calling-sound}
+use Rattle.definition.proofs.Entries.{Fit, empty-fit, calling-fit}
 use Rattle.definition.proofs.Refusals.{numbers, inTranslation, translate-refuses, translation-refused, inLoad, load-refuses, load-refused, inTest, test-refuses, test-refused, inProbe, probe-refuses, probe-refused, inFlush, flush-refuses, flush-refused, inLine, record-refuses}
 use Rattle.definition.proofs.Independence.{independence}
 
 -- ---- check 4
 -- whatever the registers and the memory were, the caches stay as they can be
-kept-sound : (k : Checks) (s next : State) → Sound Any (s .caches) → Sound Any (next .caches) → Sound Any (keeping k s next .state .caches)
-kept-sound k s next h n = if-both (λ (p : Played). Sound Any (p .state .caches)) (eqb (refusalOf k) 0) _ _ n h
+kept-fit : (k : Checks) (s next : State) → Fit (s .caches) → Fit (next .caches) → Fit (keeping k s next .state .caches)
+kept-fit k s next h n = if-both (λ (p : Played). Fit (p .state .caches)) (eqb (refusalOf k) 0) _ _ n h
 
-pub step-sound : (s : State) (r : Record) → Sound Any (s .caches) → Sound Any (stepOf s r .state .caches)
+pub step-fit : (s : State) (r : Record) → Fit (s .caches) → Fit (stepOf s r .state .caches)
 unfolding stepOf
-step-sound s (Loads g) h = kept-sound _ s _ h h
-step-sound s (Calls call) h = calling-sound Any (s .registers) (memoryOf s) tt (s .caches) h call
-step-sound s (Stores address value) h = kept-sound _ s _ h h
-step-sound s (Adds range) h = kept-sound _ s _ h h
-step-sound s Malformed h = h
+step-fit s (Loads g) h = kept-fit _ s _ h h
+step-fit s (Calls call) h = calling-fit (s .registers) (memoryOf s) (s .caches) h call
+step-fit s (Stores address value) h = kept-fit _ s _ h h
+step-fit s (Adds range) h = kept-fit _ s _ h h
+step-fit s Malformed h = h
 
 the-number : (n k : ℕ) → k ∷ [] ≡ numbers n → k ≡ n
 the-number n k = if-both (λ (l : List ℕ). k ∷ [] ≡ l → k ≡ n) (eqb n 0) [] (n ∷ []) (λ e. absurd (no-number e)) (λ e. cc)
@@ -97,23 +95,23 @@ call-not-four g m c b (flushingFrame frame) e = flush-not-four _ c _ refl refl e
 own-not-four : (k : Checks) (s next : State) → k .four ≡ false → keeping k s next .line ≡ R 4 → ⊥
 own-not-four k s next four e = not-four k four (ap inLine (sym e) ∙ record-refuses k s next)
 
-step-not-four : (s : State) (r : Record) → Sound Any (s .caches) → stepOf s r .line ≡ R 4 → ⊥
+step-not-four : (s : State) (r : Record) → Fit (s .caches) → stepOf s r .line ≡ R 4 → ⊥
 unfolding stepOf
 step-not-four s (Loads g) h e = own-not-four _ s _ refl e
 step-not-four s (Calls call) h e =
-    call-not-four (s .registers) (memoryOf s) (s .caches) (passes-four Any (s .caches .c030) (h .in030)) call e
+    call-not-four (s .registers) (memoryOf s) (s .caches) (h .four) call e
 step-not-four s (Stores address value) h e = own-not-four _ s _ refl e
 step-not-four s (Adds range) h e = own-not-four _ s _ refl e
 step-not-four s Malformed h e = let z : _≡_ {A = ℕ} 7 4 = cc in omega arith
 
-lines-not-four : (s : State) (l : List Record) → Sound Any (s .caches) → In (R 4) (linesFrom s l) → ⊥
+lines-not-four : (s : State) (l : List Record) → Fit (s .caches) → In (R 4) (linesFrom s l) → ⊥
 unfolding linesFrom
 lines-not-four s (r ∷ l) h (inl e) = step-not-four s r h (sym e)
-lines-not-four s (r ∷ l) h (inr i) = lines-not-four (stepOf s r .state) l (step-sound s r h) i
+lines-not-four s (r ∷ l) h (inr i) = lines-not-four (stepOf s r .state) l (step-fit s r h) i
 
 -- no trace prints R 4, whichever registers it loads
 pub never-four : (l : List Record) → In (R 4) (linesFrom firstState l) → ⊥
-never-four l = lines-not-four firstState l (empty-sound Any)
+never-four l = lines-not-four firstState l empty-fit
 
 -- ---- records as moments
 module _ (g : Registers) where

@@ -62,6 +62,10 @@ pub record Steady (g : Registers) (l : List Moment) : Type 0 where
   pub same : (a : Access) (m : Memory) (now : Moment) (at : ℕ)
       → In (watched a m) l → In now l → In at (cacheless g a m .asked) → fetchOf (memoryAt now) at ≡ fetchOf m at
 
+-- the same of the memory of a snapshot, which a run over l starts from: a long of such a walk reads there as at the access's own moment
+pub record Since (g : Registers) (m : Memory) (l : List Moment) : Type 0 where
+  pub same : (a : Access) (n : Memory) (at : ℕ) → In (watched a n) l → In at (cacheless g a n .asked) → fetchOf m at ≡ fetchOf n at
+
 -- no watched access is refused
 pub record Accepted (g : Registers) (l : List Moment) : Type 0 where
   pub none : (a : Access) (m : Memory) → In (watched a m) l → refusalOf (translateChecks g a m emptyCaches) ≡ 0
