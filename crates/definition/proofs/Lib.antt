@@ -14,5 +14,6 @@ pub mod Hits030
 pub mod Hits040
 pub mod Independence
 pub mod Narrow
+pub mod Said
 pub mod Records
 pub mod Witness

@@ -7,7 +7,7 @@ use mathlib.Core.Logic.{inl, inr}
 use native.Mathlib.Nat.{le-refl, le-of-suc-le-suc, not-suc-le-zero}
 use native.Mathlib.Omega.{arith}
 use native.Mathlib.Decide.{decLe}
-use lib.ListN.{length, getD, set, replicate}
+use lib.ListN.{length, getD, set, replicate, List·getD-eq-default}
 use Rattle.definition.specs.Words.{if_then_else_, allOf, firstOf}
 use Rattle.definition.specs.Replay.{In}
 
@@ -39,6 +39,10 @@ module _ {X : Type 0} (P : X → Type 0) where
   pub all-replicate : (n : ℕ) (x : X) → P x → All P (replicate n x)
   all-replicate zero x p = tt
   all-replicate (suc n) x p = (p, all-replicate n x p)
+
+  pub all-index : (l : List X) (d : X) → ((i : ℕ) → P (getD l i d)) → All P l
+  all-index [] d h = tt
+  all-index (x ∷ l) d h = (h 0, all-index l d (λ i. h (suc i)))
 
   pub all-at : (l : List X) (x : X) → In x l → All P l → P x
   all-at (y ∷ l) x (inl e) a = rw e (a .0)
@@ -80,6 +84,25 @@ module _ {X : Type 0} (p : X → Bool) where
       go : (b : Bool) → firstOf p l < length l → (if b then zero else suc (firstOf p l)) < suc (length l)
       go true h = suc-le-suc zero-le
       go false h = suc-le-suc h
+
+  -- none before it passes, and none at all where it is the list's end
+  pub first-least : (l : List X) (d : X) (j : ℕ) → j < firstOf p l → p (getD l j d) ≡ false
+  unfolding firstOf
+  first-least [] d j h = absurd (not-suc-le-zero h)
+  first-least (x ∷ l) d j h = go (p x) refl j h (λ k. first-least l d k)
+    where
+      go : (b : Bool) → p x ≡ b → (j : ℕ) → j < (if b then zero else suc (firstOf p l)) → ((k : ℕ) → k < firstOf p l → p (getD l k d) ≡ false)
+          → p (getD (x ∷ l) j d) ≡ false
+      go true e j h more = absurd (not-suc-le-zero h)
+      go false e zero h more = e
+      go false e (suc j) h more = more j (le-of-suc-le-suc h)
+
+  pub none-passes : (l : List X) (d : X) → p d ≡ false → length l ≤ firstOf p l → (j : ℕ) → p (getD l j d) ≡ false
+  none-passes l d none h j = choose (decLe (length l) j)
+    where
+      choose : Dec (length l ≤ j) → p (getD l j d) ≡ false
+      choose (yes k) = rw (List·getD-eq-default l d k) none
+      choose (no k) = first-least l d j (omega arith)
 
   pub all-pass : (l : List X) → ((x : X) → In x l → p x ≡ true) → allOf p l ≡ true
   unfolding allOf

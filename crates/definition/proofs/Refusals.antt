@@ -1,11 +1,12 @@
 -- Document 01's refusals, of the definitions: the order, refused exactly when the first of it applies, and what a refusal leaves. Assumes nothing.
-use Prim.Native.Nat.{ℕ, _/_, _^_}
+use Prim.Native.Nat.{ℕ, _/_, _^_, _<_}
 use mathlib.Core.Path.{_≡_, refl, ap}
 use mathlib.Core.List.{List, [], _∷_, map}
 use mathlib.Core.Bool.{Bool, true, false, not, _&&_}
 use mathlib.Core.Logic.{_⊎_, inl, inr, ⊎-elim}
 use native.Mathlib.Omega.{arith}
-use lib.Dec.{eqb}
+use lib.Dec.{eqb, ltb}
+use lib.ListN.{length}
 use Rattle.definition.specs.Words.{if_then_else_, bitOf}
 use Rattle.definition.specs.Registers.{on, asSupervisor, asInstruction, walkCode, comparedCode, codeOf}
 use Rattle.definition.specs.Memory.{Memory}
@@ -20,6 +21,7 @@ use Rattle.definition.specs.Load.{Loaded, loaded, stopped, loadInOrder, 
 use Rattle.definition.specs.Test.{Tested, tested, testInOrder, testChecks, test}
 use Rattle.definition.specs.Probe.{probed, probe030, probeInOrder, probeChecks, probe}
 use Rattle.definition.specs.Flush.{Flushed, flushed, flushUnless, flushAll, flushCode, flushPage, flushFrame}
+use Rattle.definition.specs.Audit.{firstStale030, firstStale040, auditFamily, auditChecks, auditFrom, findingFamily, finding}
 use Rattle.definition.specs.Calls.{Call, access, loading, testing, probing, flushingAll, flushingCode, flushingPage, flushingFrame, Line, A, F, L, T, K, N, R, translationLine, loadLine, testLine, probeLine, flushLine, calling}
 use Rattle.definition.specs.Trace.{Record, Loads, Calls, Stores, Adds, Malformed, State, memoryOf, Played, played, keeping, stepOf}
 use Rattle.definition.specs.Replay.{In}
@@ -43,6 +45,11 @@ use Rattle.definition.specs.declared.Probe.{Probe}
 use Rattle.definition.specs.declared.Probe.the-variants as probe′
 use Rattle.definition.specs.declared.Flush.{Flush}
 use Rattle.definition.specs.declared.Flush.the-variants as flush′
+use Rattle.definition.specs.declared.Audit.{Audit}
+use Rattle.definition.specs.declared.Audit.the-variants as audit′
+use Rattle.definition.specs.declared.Finding.{Finding}
+use Rattle.definition.specs.declared.Finding.the-variants as finding′
+use Rattle.definition.proofs.Lists.{all-at}
 
 -- ---- the order
 pub in-order : (k : Checks) → map (λ (c : Check). c .number) (ordered k) ≡ 1 ∷ 6 ∷ 5 ∷ 2 ∷ 3 ∷ 4 ∷ 8 ∷ []
@@ -92,6 +99,22 @@ first-given k n f = first-is (ordered k) n f
 pub none-given : (k : Checks) → None (ordered k) → refusalOf k ≡ 0
 unfolding refusalOf
 none-given k f = none-is (ordered k) f
+
+-- no number is given, so none applies
+pub none-applies : (k : Checks) → refusalOf k ≡ 0 → None (ordered k)
+none-applies k e =
+    ⊎-elim
+    (λ f.
+    absurd (omega (arith, e,
+    all-at (λ (n : ℕ). 0 < n) (1 ∷ 6 ∷ 5 ∷ 2 ∷ 3 ∷ 4 ∷ 8 ∷ []) (refusalOf k) (first-in (ordered k) (refusalOf k) f)
+    (omega arith, (omega arith, (omega arith, (omega arith, (omega arith, (omega arith, (omega arith, tt)))))))))) (λ n. n .0) (given k)
+
+-- as check 4 doesn't
+pub none-four : (k : Checks) → refusalOf k ≡ 0 → k .four ≡ false
+none-four k e = go (none-applies k e)
+  where
+    go : None (ordered k) → k .four ≡ false
+    go (passed one (passed six (passed five (passed two (passed three (passed four rest)))))) = four
 
 -- no number is given but these: 7 is the program's own, for a malformed trace
 pub one-to-eight : (k : Checks) → In (refusalOf k) (1 ∷ 6 ∷ 5 ∷ 2 ∷ 3 ∷ 4 ∷ 8 ∷ []) ⊎ (refusalOf k ≡ 0)
@@ -281,6 +304,34 @@ module _ (g : Registers) (own instruction write : Bool) (address : ℕ) (c : Cac
   pub probe-refuses : inProbe (probe g own instruction write address c) ≡ numbers (refusalOf (probeChecks g c))
   unfolding probe
   probe-refuses = exactly inProbe (probeChecks g c) (λ n. Probe.Refused n) (probeInOrder g own instruction write address c) (λ n. refl) probe-never
+
+-- ---- the audit, and what is said of one entry
+abbrev pub inAudit : Audit → List ℕ
+inAudit audit′.Clean = []
+inAudit (audit′.Stale030 i) = []
+inAudit (audit′.Stale040 i) = []
+inAudit (audit′.Refused n) = n ∷ []
+
+abbrev pub inFinding : Finding → List ℕ
+inFinding (finding′.Says address code cached tables) = []
+inFinding (finding′.Refused n) = n ∷ []
+
+module _ (g : Registers) (m : Memory) (c : Caches) (i : ℕ) where
+  audit-never : inAudit (auditFamily g m c i) ≡ []
+  unfolding auditFamily
+  audit-never =
+      neither inAudit (eqb (g .family) 30) _ _ (neither inAudit (ltb (firstStale030 g m (c .c030) i (shiftOf (g .tc))) (length (c .c030 .entries))) _ _ refl refl)
+      (neither inAudit (ltb (firstStale040 g m (c .c040) i) (length (c .c040 .slots))) _ _ refl refl)
+
+  pub audit-refuses : inAudit (auditFrom g m c i) ≡ numbers (refusalOf (auditChecks g m c))
+  unfolding auditFrom
+  audit-refuses = exactly inAudit (auditChecks g m c) (λ n. Audit.Refused n) (auditFamily g m c i) (λ n. refl) audit-never
+
+  pub finding-refuses : (write : Bool) → inFinding (finding g m c i write) ≡ numbers (refusalOf (auditChecks g m c))
+  unfolding finding
+  finding-refuses write =
+      exactly inFinding (auditChecks g m c) (λ n. Finding.Refused n) (findingFamily g m c i write) (λ n. refl)
+      (neither inFinding (eqb (g .family) 30) _ _ refl refl)
 
 -- ---- the flushes, each of which is a `flushUnless` of what it does
 abbrev pub inFlush : Flush → List ℕ
