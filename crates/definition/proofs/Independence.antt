@@ -138,6 +138,11 @@ pub record Of (l : List Moment) (m : Memory) : Type 0 where
   pub one : In now l
   pub is : memoryAt now ≡ m
 
+-- longs that read the same at each of the moments do so over their memories
+pub still-of : (l : List Moment) (m : Memory) (asked : List ℕ)
+    → ((now : Moment) (at : ℕ) → In now l → In at asked → fetchOf (memoryAt now) at ≡ fetchOf m at) → Throughout (Of l) m asked
+still-of l m asked s m′ o at i = sym (rw (o .is) at (s (o .now) at (o .one) i))
+
 -- check 4 passes, the cache has its 22 entries, and they and the slots are good: so it stays, over memories of P
 abbrev pub Sound : Registers → (Memory → Type 0) → Caches → Type 0
 Sound g P = Both (Sound030 (Good030 g P)) (Sound040 (Good040 g P))
@@ -167,6 +172,11 @@ module _ (g : Registers) (P : Memory → Type 0) where
   run-sound l p c h =
       run-keeps (Sound030 (Good030 g P)) (Sound040 (Good040 g P)) g l (λ now i. sound-keeps (memoryAt now) (p now i)) c h
 
+  -- the law of one access after a run: from sound caches
+  pub after-run : (l : List Moment) → ((now : Moment) → In now l → P (memoryAt now)) → (c : Caches) → Sound g P c → (a : Access) (m : Memory)
+      → Throughout P m (cacheless g a m .asked) → translate g a m (afterAll g c l) .answer ≡ cacheless g a m .answer
+  after-run l p c h a m t = translate-answer g P a m (afterAll g c l) (sound-right (afterAll g c l) (run-sound l p c h)) t
+
   -- the law of a run: from sound caches each watched access gets the cacheless walk's answer, if its longs read the same throughout P
   pub run-answers : (l : List Moment) → ((now : Moment) → In now l → P (memoryAt now))
       → ((a : Access) (m : Memory) → In (watched a m) l → Throughout P m (cacheless g a m .asked)) → (c : Caches) → Sound g P c
@@ -184,26 +194,26 @@ module _ (g : Registers) (P : Memory → Type 0) where
       (after-keeps (Sound030 (Good030 g P)) (Sound040 (Good040 g P)) g (other call m) (sound-keeps m (p (other call m) (inl refl))) c h)
 
 -- ---- from the empty caches
+-- each of the moments is one of them
+pub of-all : (l : List Moment) (now : Moment) → In now l → Of l (memoryAt now)
+of-all l now i = record { now = now; one = i; is = refl }
+
 -- check 4 passes after any moments whatever: no call of a replay is refused by it
 pub passes-four-after : (g : Registers) (before : List Moment) → badCache (afterAll g emptyCaches before .c030) ≡ false
-passes-four-after g before =
-    run-sound g (Of before) before (λ now i. record { now = now; one = i; is = refl }) emptyCaches (empty-sound g (Of before)) .in030 .four
+passes-four-after g before = run-sound g (Of before) before (of-all before) emptyCaches (empty-sound g (Of before)) .in030 .four
 
 -- after any moments whatever a watched access gets the cacheless walk's answer, if at each of them its longs read as they do now
 pub after-anything : (g : Registers) (before : List Moment) (a : Access) (m : Memory)
     → ((now : Moment) (at : ℕ) → In now before → In at (cacheless g a m .asked) → fetchOf (memoryAt now) at ≡ fetchOf m at)
     → translate g a m (afterAll g emptyCaches before) .answer ≡ cacheless g a m .answer
 after-anything g before a m s =
-    translate-answer g (Of before) a m (afterAll g emptyCaches before)
-    (sound-right g (Of before) (afterAll g emptyCaches before)
-    (run-sound g (Of before) before (λ now i. record { now = now; one = i; is = refl }) emptyCaches (empty-sound g (Of before))))
-    (λ m′ o at i. sym (rw (o .is) at (s (o .now) at (o .one) i)))
+    after-run g (Of before) before (of-all before) emptyCaches (empty-sound g (Of before)) a m (still-of before m (cacheless g a m .asked) s)
 
 -- one replay: each watched access gets the cacheless walk's address, fault or refusal
 pub watched-is-cacheless : (g : Registers) (l : List Moment) → Steady g l → answers g l ≡ walksOf g l
 watched-is-cacheless g l s =
-    run-answers g (Of l) l (λ now i. record { now = now; one = i; is = refl })
-    (λ a m i m′ o at j. sym (rw (o .is) at (s .same a m (o .now) at i (o .one) j))) emptyCaches (empty-sound g (Of l))
+    run-answers g (Of l) l (of-all l) (λ a m i. still-of l m (cacheless g a m .asked) (λ now at j k. s .same a m now at i j k)) emptyCaches
+    (empty-sound g (Of l))
 
 -- ---- two replays
 -- the watched accesses, each with its memory

@@ -15,5 +15,6 @@ pub mod Hits040
 pub mod Independence
 pub mod Narrow
 pub mod Said
+pub mod Audited
 pub mod Records
 pub mod Witness

@@ -7,7 +7,7 @@ use mathlib.Core.Bool.{Bool, true, false, _&&_, false≢true}
 use native.Mathlib.Omega.{arith}
 use native.Mathlib.Nat.{le-refl}
 use native.Mathlib.Decide.{decLe}
-use borrow.Author.Tests.{ltb-true, ltb-false, le-ltb, eqb-true, eqb-false}
+use borrow.Author.Tests.{ltb-true, ltb-false, eqb-true, eqb-false, eq-eqb}
 use lib.Dec.{eqb, ltb}
 use lib.ListN.{length, getD, drop, length-drop}
 use lib.Seq.{getD-drop}
@@ -25,7 +25,7 @@ use Rattle.definition.specs.declared.Audit.the-variants as audit′
 use Rattle.definition.specs.declared.Registers.{Registers}
 use Rattle.definition.specs.declared.Shift.{Shift}
 use Rattle.definition.specs.declared.Shift.the-variants.{Bits, NoPage}
-use Rattle.definition.proofs.Choice.{if-by}
+use Rattle.definition.proofs.Choice.{if-by, and-left}
 use Rattle.definition.proofs.Lists.{first-passes, first-least, none-passes}
 
 -- ---- the first from an index on
@@ -148,6 +148,23 @@ audit-says g m c from =
 
 pub says-by : (g : Registers) (m : Memory) (c : Caches) (from : ℕ) (a : Audit) → auditFrom g m c from ≡ a → Says g m c from a
 says-by g m c from a e = subst (Says g m c from) e (audit-says g m c from)
+
+-- of the one cache and of the other
+pub stale-at-030 : (g : Registers) (m : Memory) (c : Caches) (i : ℕ) → eqb (g .family) 30 ≡ true → shiftOf (g .tc) ≡ Bits (c .c030 .shift)
+    → staleAt g m c i ≡ stale030 g m (c .c030 .shift) (getD (c .c030 .entries) i noEntry)
+stale-at-030 g m c i f e =
+    ap (λ (b : Bool). staleBy b g m c i) f ∙ ap (staleIn g m (c .c030) i) e ∙ rw (eq-eqb (c .c030 .shift) (c .c030 .shift) refl)
+
+pub stale-at-040 : (g : Registers) (m : Memory) (c : Caches) (i : ℕ) → eqb (g .family) 30 ≡ false → staleAt g m c i ≡ stale040 g m (getD (c .c040 .slots) i noSlot)
+stale-at-040 g m c i f = ap (λ (b : Bool). staleBy b g m c i) f
+
+-- an entry of the 68030 cache is stale under TC's shift
+pub stale-shift : (g : Registers) (m : Memory) (c : Caches) (i : ℕ) → eqb (g .family) 30 ≡ true → staleAt g m c i ≡ true → shiftOf (g .tc) ≡ Bits (c .c030 .shift)
+stale-shift g m c i f t = go (shiftOf (g .tc)) refl (sym (ap (λ (b : Bool). staleBy b g m c i) f) ∙ t)
+  where
+    go : (sh : Shift) → shiftOf (g .tc) ≡ sh → staleIn g m (c .c030) i sh ≡ true → shiftOf (g .tc) ≡ Bits (c .c030 .shift)
+    go NoPage e t = absurd (false≢true t)
+    go (Bits s) e t = e ∙ ap (λ (n : ℕ). Bits n) (sym (eqb-true (c .c030 .shift) s (and-left (eqb (c .c030 .shift) s) _ t)))
 
 -- ---- going on
 -- entry i is named

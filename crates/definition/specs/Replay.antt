@@ -3,12 +3,15 @@ use Prim.Native.Nat.{ℕ}
 use mathlib.Core.Path.{_≡_}
 use mathlib.Core.Logic.{_⊎_}
 use mathlib.Core.List.{List, [], _∷_}
+use lib.ListN.{length}
 use Rattle.definition.specs.Memory.{Memory, fetchOf}
 use Rattle.definition.specs.Refusal.{refusalOf}
 use Rattle.definition.specs.Translate.{Caches, emptyCaches, translate, translateChecks, cacheless}
+use Rattle.definition.specs.Audit.{audit}
 use Rattle.definition.specs.Calls.{Call, calling}
 use Rattle.definition.specs.declared.Registers.{Registers}
 use Rattle.definition.specs.declared.Access.{Access}
+use Rattle.definition.specs.declared.Audit.{Audit}
 use Rattle.definition.specs.declared.Translation.{Translation}
 
 -- a watched access, or any call, with the table memory as it stands then
@@ -62,10 +65,16 @@ pub record Steady (g : Registers) (l : List Moment) : Type 0 where
   pub same : (a : Access) (m : Memory) (now : Moment) (at : ℕ)
       → In (watched a m) l → In now l → In at (cacheless g a m .asked) → fetchOf (memoryAt now) at ≡ fetchOf m at
 
--- the same of the memory of a snapshot, which a run over l starts from: a long of such a walk reads there as at the access's own moment
-pub record Since (g : Registers) (m : Memory) (l : List Moment) : Type 0 where
-  pub same : (a : Access) (n : Memory) (at : ℕ) → In (watched a n) l → In at (cacheless g a n .asked) → fetchOf m at ≡ fetchOf n at
-
 -- no watched access is refused
 pub record Accepted (g : Registers) (l : List Moment) : Type 0 where
   pub none : (a : Access) (m : Memory) → In (watched a m) l → refusalOf (translateChecks g a m emptyCaches) ≡ 0
+
+-- ---- a run from a snapshot, in place of the empty caches
+-- caches of 22 entries, as they have, whose audit over the memory as it stood then says Clean
+pub record CleanSnapshot (g : Registers) (m : Memory) (c : Caches) : Type 0 where
+  pub size : length (c .c030 .entries) ≡ 22
+  pub clean : audit g m c ≡ Audit.Clean
+
+-- every long that the cacheless walks of the watched accesses fetch reads in the snapshot as at the access's own moment
+pub record Since (g : Registers) (m : Memory) (l : List Moment) : Type 0 where
+  pub same : (a : Access) (n : Memory) (at : ℕ) → In (watched a n) l → In at (cacheless g a n .asked) → fetchOf m at ≡ fetchOf n at
