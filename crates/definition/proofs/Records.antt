@@ -16,12 +16,14 @@ use Rattle.definition.specs.Load.{loadChecks, load}
 use Rattle.definition.specs.Test.{testChecks, test}
 use Rattle.definition.specs.Probe.{probeChecks, probe}
 use Rattle.definition.specs.Flush.{Flushed, flushUnless, flushAll, flushCode, flushPage, flushFrame}
-use Rattle.definition.specs.Calls.{Call, access, loading, testing, probing, flushingAll, flushingCode, flushingPage, flushingFrame, R, translationLine, flushLine, calling}
+use Rattle.definition.specs.Audit.{audit}
+use Rattle.definition.specs.Calls.{Call, access, loading, testing, probing, flushingAll, flushingCode, flushingPage, flushingFrame, Line, R, translationLine, flushLine, calling}
 use Rattle.definition.specs.Trace.{Record, Loads, Calls, Stores, Adds, Malformed, recordOf, State, memoryOf, Played, keeping, malformedLine, stepOf, text, newline, firstState, isMalformed, Front, Ended, Body, Short, frontOf, ending, onFront, playFrom, play}
-use Rattle.definition.specs.Replay.{Moment, after, afterAll, answersFrom, watchedOf, walksOf, In, Steady, Accepted}
+use Rattle.definition.specs.Replay.{Moment, after, afterAll, answersFrom, watchedOf, walksOf, In, Steady, Accepted, CleanSnapshot, Since}
 use Rattle.definition.specs.Records.{linesFrom, keptAfter, Marked, watching, plainly, recordIn, momentIn, momentsOf, isCall, Under, uncounted, watchedLines, prints, inFront, recordsFrom, recordsOf, texts}
 use Rattle.definition.specs.declared.Registers.{Registers}
 use Rattle.definition.specs.declared.Access.{Access}
+use Rattle.definition.specs.declared.Audit.{Audit}
 use Rattle.definition.specs.declared.Translation.{Translation}
 use Rattle.definition.specs.declared.Translation.the-variants.{Address, Fault, Refused}
 use Rattle.definition.specs.declared.Flush.{Flush}
@@ -29,6 +31,7 @@ use Rattle.definition.proofs.Choice.{if-both}
 use Rattle.definition.proofs.Entries.{Fit, empty-fit, calling-fit}
 use Rattle.definition.proofs.Refusals.{numbers, inTranslation, translate-refuses, translation-refused, inLoad, load-refuses, load-refused, inTest, test-refuses, test-refused, inProbe, probe-refuses, probe-refused, inFlush, flush-refuses, flush-refused, inLine, record-refuses}
 use Rattle.definition.proofs.Independence.{independence}
+use Rattle.definition.proofs.Audited.{clean-run, clean-independence}
 
 -- ---- check 4
 -- whatever the registers and the memory were, the caches stay as they can be
@@ -183,6 +186,14 @@ module _ (g : Registers) where
       ∙ ap (λ (c : Caches). map (translationLine 0) (answersFrom g c (momentsOf next rest))) (step-caches s (plainly r) (u .0))
       ∙ ap (map (translationLine 0)) (sym (plain-answers (s .caches) (memoryOf s) r (momentsOf next rest)))
 
+-- what the watched accesses of two traces print, by the answers of their replays
+prints-alike : (g : Registers) (s s′ : State) (l l′ : List Marked) → Under g s l → Under g s′ l′
+    → (answersFrom g (s .caches) (momentsOf s l) ≡ answersFrom g (s′ .caches) (momentsOf s′ l′)) × (answersFrom g (s .caches) (momentsOf s l) ≡ walksOf g (momentsOf s l))
+    → (prints s l ≡ prints s′ l′) × (prints s l ≡ map (translationLine 0) (walksOf g (momentsOf s l)))
+prints-alike g s s′ l l′ u u′ d =
+    let one = prints-answers g s l u in
+    (one ∙ ap (map (translationLine 0)) (d .0) ∙ sym (prints-answers g s′ l′ u′), one ∙ ap (map (translationLine 0)) (d .1))
+
 -- the demand, of two traces from the program's first state, all of whose calls are made under g: what each watched access prints, the count left
 -- out, is the same in both, and is what its cacheless walk gives
 pub traces-independent : (g : Registers) (l l′ : List Marked) → Under g firstState l → Under g firstState l′
@@ -190,9 +201,49 @@ pub traces-independent : (g : Registers) (l l′ : List Marked) → Under g firs
     → Steady g (momentsOf firstState l ++ momentsOf firstState l′) → Accepted g (momentsOf firstState l ++ momentsOf firstState l′)
     → (prints firstState l ≡ prints firstState l′) × (prints firstState l ≡ map (translationLine 0) (walksOf g (momentsOf firstState l)))
 traces-independent g l l′ u u′ e s t =
-    let d = independence g (momentsOf firstState l) (momentsOf firstState l′) e s t in
-    let one = prints-answers g firstState l u in
-    (one ∙ ap (map (translationLine 0)) (d .0) ∙ sym (prints-answers g firstState l′ u′), one ∙ ap (map (translationLine 0)) (d .1))
+    prints-alike g firstState firstState l l′ u u′ (independence g (momentsOf firstState l) (momentsOf firstState l′) e s t)
+
+-- ---- a trace whose first part warms the caches
+-- the lines of both parts, one after the other
+pub lines-both : (s : State) (l l′ : List Record) → linesFrom s (l ++ l′) ≡ linesFrom s l ++ linesFrom (keptAfter s l) l′
+unfolding linesFrom keptAfter
+lines-both s [] l′ = refl
+lines-both s (r ∷ l) l′ = ap (λ (x : List Line). stepOf s r .line ∷ x) (lines-both (stepOf s r .state) l l′)
+
+kept-after-fit : (s : State) (l : List Record) → Fit (s .caches) → Fit (keptAfter s l .caches)
+unfolding keptAfter
+kept-after-fit s [] h = h
+kept-after-fit s (r ∷ l) h = kept-after-fit (stepOf s r .state) l (step-fit s r h)
+
+-- what the program keeps after the first part
+abbrev pub warmed : List Record → State
+warmed l = keptAfter firstState l
+
+-- its audit says Clean: whatever the records were, the caches have their 22 entries
+warmed-snapshot : (g : Registers) (warm : List Record) → audit g (memoryOf (warmed warm)) (warmed warm .caches) ≡ Audit.Clean
+    → CleanSnapshot g (memoryOf (warmed warm)) (warmed warm .caches)
+warmed-snapshot g warm e = record { size = kept-after-fit firstState warm empty-fit .size; clean = e }
+
+-- where the caches that the first part leaves are audited clean, each watched access of the second prints what its cacheless walk gives
+pub warmed-is-cacheless : (g : Registers) (warm : List Record) (l : List Marked) → audit g (memoryOf (warmed warm)) (warmed warm .caches) ≡ Audit.Clean
+    → Under g (warmed warm) l → Since g (memoryOf (warmed warm)) (momentsOf (warmed warm) l) → Steady g (momentsOf (warmed warm) l)
+    → prints (warmed warm) l ≡ map (translationLine 0) (walksOf g (momentsOf (warmed warm) l))
+warmed-is-cacheless g warm l e u since s =
+    prints-answers g (warmed warm) l u
+    ∙ ap (map (translationLine 0))
+    (clean-run g (memoryOf (warmed warm)) (warmed warm .caches) (warmed-snapshot g warm e) (momentsOf (warmed warm) l) since s)
+
+-- the demand, of two such traces
+pub warmed-independent : (g : Registers) (warm warm′ : List Record) (l l′ : List Marked)
+    → audit g (memoryOf (warmed warm)) (warmed warm .caches) ≡ Audit.Clean → audit g (memoryOf (warmed warm′)) (warmed warm′ .caches) ≡ Audit.Clean
+    → Under g (warmed warm) l → Under g (warmed warm′) l′ → watchedOf (momentsOf (warmed warm) l) ≡ watchedOf (momentsOf (warmed warm′) l′)
+    → Since g (memoryOf (warmed warm)) (momentsOf (warmed warm) l) → Since g (memoryOf (warmed warm′)) (momentsOf (warmed warm′) l′)
+    → Steady g (momentsOf (warmed warm) l ++ momentsOf (warmed warm′) l′) → Accepted g (momentsOf (warmed warm) l ++ momentsOf (warmed warm′) l′)
+    → (prints (warmed warm) l ≡ prints (warmed warm′) l′) × (prints (warmed warm) l ≡ map (translationLine 0) (walksOf g (momentsOf (warmed warm) l)))
+warmed-independent g warm warm′ l l′ e e′ u u′ w since since′ s t =
+    prints-alike g (warmed warm) (warmed warm′) l l′ u u′
+    (clean-independence g (memoryOf (warmed warm)) (memoryOf (warmed warm′)) (warmed warm .caches) (warmed warm′ .caches)
+    (warmed-snapshot g warm e) (warmed-snapshot g warm′ e′) (momentsOf (warmed warm) l) (momentsOf (warmed warm′) l′) w since since′ s t)
 
 -- ---- a file's records
 -- the bytes are the lines of the records, and then `end`, refusal 7, or nothing where `most` is used up
