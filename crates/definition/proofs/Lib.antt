@@ -16,5 +16,6 @@ pub mod Independence
 pub mod Narrow
 pub mod Said
 pub mod Audited
+pub mod Stale
 pub mod Records
 pub mod Witness

@@ -11,6 +11,10 @@ use Rattle.definition.specs.Memory.{Memory, fetchOf}
 use Rattle.definition.specs.Registers.{rootOf}
 use Rattle.definition.specs.Walk030.{topIndex, Step, steps, stepsWith, stepsOf, isOf, used, widthsOf, walkSteps, walk030, lowOf, physicalOf}
 use Rattle.definition.specs.Walk040.{Outcome040, onLong, rootAt, pointerAt, pageAt, onPointer, onRoot, walk040}
+use Rattle.definition.specs.Cache030.{Entry}
+use Rattle.definition.specs.Audit.{isEnd030, isOutcome030}
+use Rattle.definition.specs.declared.End.{End}
+use Rattle.definition.specs.declared.End.the-variants.{Page, Invalid, LevelStop, BusError, Config}
 use Rattle.definition.specs.declared.Fetched.{Fetched}
 use Rattle.definition.specs.declared.Fetched.the-variants.{Long, Failed}
 use Rattle.definition.specs.declared.Registers.{Registers}
@@ -50,6 +54,18 @@ module _ (a : ℕ) where
 
   pub narrow-physical : (field consumed : ℕ) → physicalOf field consumed (a % 2 ^ 32) ≡ physicalOf field consumed a
   narrow-physical field consumed = ap (λ (n : ℕ). (field / 256 * 256 + n) % 2 ^ 32) (low-low a consumed)
+
+  end-narrow : (e : Entry) (wp sup : Bool) (end : End) → isEnd030 e (a % 2 ^ 32) wp sup end ≡ isEnd030 e a wp sup end
+  end-narrow e wp sup (Page field consumed) = rw (narrow-physical field consumed)
+  end-narrow e wp sup (Invalid indirect) = refl
+  end-narrow e wp sup (BusError at) = refl
+  end-narrow e wp sup LevelStop = refl
+  end-narrow e wp sup Config = refl
+
+  pub narrow-outcome : (e : Entry) (m : Memory) (g : Registers) (code limit : ℕ)
+      → isOutcome030 e (a % 2 ^ 32) (walk030 m g (a % 2 ^ 32) code limit) ≡ isOutcome030 e a (walk030 m g a code limit)
+  narrow-outcome e m g code limit =
+      ap (isOutcome030 e (a % 2 ^ 32)) (narrow-030 m g code limit) ∙ end-narrow e _ _ (walk030 m g a code limit .end)
 
   -- ---- the 68040
   page-low : (tc pointer : ℕ) → pageAt tc pointer (a % 2 ^ 32) ≡ pageAt tc pointer a

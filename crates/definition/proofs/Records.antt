@@ -20,7 +20,7 @@ use Rattle.definition.specs.Audit.{audit}
 use Rattle.definition.specs.Calls.{Call, access, loading, testing, probing, flushingAll, flushingCode, flushingPage, flushingFrame, Line, R, translationLine, flushLine, calling}
 use Rattle.definition.specs.Trace.{Record, Loads, Calls, Stores, Adds, Malformed, recordOf, State, memoryOf, Played, keeping, malformedLine, stepOf, text, newline, firstState, isMalformed, Front, Ended, Body, Short, frontOf, ending, onFront, playFrom, play}
 use Rattle.definition.specs.Replay.{Moment, after, afterAll, answersFrom, watchedOf, walksOf, In, Steady, Accepted, CleanSnapshot, Since}
-use Rattle.definition.specs.Records.{linesFrom, keptAfter, Marked, watching, plainly, recordIn, momentIn, momentsOf, isCall, Under, uncounted, watchedLines, prints, inFront, recordsFrom, recordsOf, texts}
+use Rattle.definition.specs.Records.{linesFrom, keptAfter, warmed, Marked, watching, plainly, recordIn, momentIn, momentsOf, isCall, Under, uncounted, watchedLines, prints, inFront, recordsFrom, recordsOf, texts}
 use Rattle.definition.specs.declared.Registers.{Registers}
 use Rattle.definition.specs.declared.Access.{Access}
 use Rattle.definition.specs.declared.Audit.{Audit}
@@ -214,10 +214,6 @@ kept-after-fit : (s : State) (l : List Record) → Fit (s .caches) → Fit (kept
 unfolding keptAfter
 kept-after-fit s [] h = h
 kept-after-fit s (r ∷ l) h = kept-after-fit (stepOf s r .state) l (step-fit s r h)
-
--- what the program keeps after the first part
-abbrev pub warmed : List Record → State
-warmed l = keptAfter firstState l
 
 -- its audit says Clean: whatever the records were, the caches have their 22 entries
 warmed-snapshot : (g : Registers) (warm : List Record) → audit g (memoryOf (warmed warm)) (warmed warm .caches) ≡ Audit.Clean

@@ -105,9 +105,12 @@ pub none-applies : (k : Checks) → refusalOf k ≡ 0 → None (ordered k)
 none-applies k e =
     ⊎-elim
     (λ f.
-    absurd (omega (arith, e,
-    all-at (λ (n : ℕ). 0 < n) (1 ∷ 6 ∷ 5 ∷ 2 ∷ 3 ∷ 4 ∷ 8 ∷ []) (refusalOf k) (first-in (ordered k) (refusalOf k) f)
-    (omega arith, (omega arith, (omega arith, (omega arith, (omega arith, (omega arith, (omega arith, tt)))))))))) (λ n. n .0) (given k)
+    absurd (omega (
+      arith,
+      e,
+      all-at (λ (n : ℕ). 0 < n) (1 ∷ 6 ∷ 5 ∷ 2 ∷ 3 ∷ 4 ∷ 8 ∷ []) (refusalOf k) (first-in (ordered k) (refusalOf k) f)
+          (omega arith, (omega arith, (omega arith, (omega arith, (omega arith, (omega arith, (omega arith, tt))))))),
+    ))) (λ n. n .0) (given k)
 
 -- as check 4 doesn't
 pub none-four : (k : Checks) → refusalOf k ≡ 0 → k .four ≡ false

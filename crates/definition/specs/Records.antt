@@ -7,7 +7,7 @@ use lib.ListN.{length}
 use Rattle.definition.specs.Words.{if_then_else_}
 use Rattle.definition.specs.Memory.{Memory}
 use Rattle.definition.specs.Calls.{access, Line, A, F, L, T, K, N, R}
-use Rattle.definition.specs.Trace.{Record, Loads, Calls, Stores, Adds, Malformed, recordOf, State, memoryOf, stepOf, text, isMalformed, Front, Ended, Body, Short, frontOf}
+use Rattle.definition.specs.Trace.{Record, Loads, Calls, Stores, Adds, Malformed, recordOf, State, memoryOf, stepOf, firstState, text, isMalformed, Front, Ended, Body, Short, frontOf}
 use Rattle.definition.specs.Replay.{Moment, watched, other}
 use Rattle.definition.specs.declared.Registers.{Registers}
 use Rattle.definition.specs.declared.Access.{Access}
@@ -22,6 +22,10 @@ linesFrom s (r ∷ rest) = stepOf s r .line ∷ linesFrom (stepOf s r .state) re
 unfoldable pub keptAfter : State → List Record → State
 keptAfter s [] = s
 keptAfter s (r ∷ rest) = keptAfter (stepOf s r .state) rest
+
+-- what it keeps after a first part, which warms the caches
+abbrev pub warmed : List Record → State
+warmed l = keptAfter firstState l
 
 -- a record, or an access that is watched
 pub data Marked : Type 0 where

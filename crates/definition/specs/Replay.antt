@@ -78,3 +78,9 @@ pub record CleanSnapshot (g : Registers) (m : Memory) (c : Caches) : Type 0 wher
 -- every long that the cacheless walks of the watched accesses fetch reads in the snapshot as at the access's own moment
 pub record Since (g : Registers) (m : Memory) (l : List Moment) : Type 0 where
   pub same : (a : Access) (n : Memory) (at : ℕ) → In (watched a n) l → In at (cacheless g a n .asked) → fetchOf m at ≡ fetchOf n at
+
+-- ---- caches that calls reach
+-- calls made them from the empty caches, each under any registers and over any memory of which M holds
+pub data Reached (M : Memory → Type 0) : Caches → Type 0 where
+  start : Reached M emptyCaches
+  then-call : (g : Registers) (m : Memory) (call : Call) {c : Caches} → M m → Reached M c → Reached M (calling g m c call .caches)
