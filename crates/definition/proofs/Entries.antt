@@ -28,7 +28,7 @@ use Rattle.definition.specs.declared.Hit.{Hit}
 use Rattle.definition.specs.declared.Hit.the-variants.{At, Miss}
 use Rattle.definition.proofs.Choice.{if-by, if-both}
 use Rattle.definition.proofs.Entries030.{Keeps030, search-keeps, with-keeps, flushed-page-keeps, OfEntries, Sound030, empty-sound, sound-keeps}
-use Rattle.definition.proofs.Entries040.{Keeps040}
+use Rattle.definition.proofs.Entries040.{Keeps040, free-040}
 
 -- one thing of each cache
 pub record Both (I : Cache030 → Type 0) (J : Cache040 → Type 0) (c : Caches) : Type 0 where
@@ -171,5 +171,5 @@ calling-fit g m c h call =
     calling-keeps (Sound030 Anything) (λ d. Unit {0}) g m
     (record {
       in030 = sound-keeps Anything anything g m (λ s n code page base wp w. tt);
-      in040 = record { dropAll = λ d h. tt; drop = λ d frame h. tt; insert = λ d frame supervisor base wp sup w h. tt };
+      in040 = free-040 g m;
     }) c (record { in030 = h; in040 = tt }) call .in030

@@ -45,6 +45,10 @@ pub record Keeps030 (g : Registers) (m : Memory) (I : Cache030 → Type 0) : Typ
   pub drop : (p : Entry → Bool) (c : Cache030) → I c → I (dropIf p c)
   pub insert : (c : Cache030) (code page s base : ℕ) (wp : Bool) → s ≤ 31 → Walked030 g m s code page base wp → I c → I (inserted c code page s base wp)
 
+-- they keep what says nothing
+pub free-030 : (g : Registers) (m : Memory) → Keeps030 g m (λ c. Unit {0})
+free-030 g m = record { look = λ c recorded code page s h. tt; drop = λ p c h. tt; insert = λ c code page s base wp l w h. tt }
+
 module _ (g : Registers) (m : Memory) (I : Cache030 → Type 0) (k : Keeps030 g m I) where
   pub flushed-page-keeps : (c : Cache030) (code mask address : ℕ) → I c → I (flushedPage c code mask address)
   unfolding flushedPage

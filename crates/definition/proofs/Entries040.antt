@@ -31,6 +31,10 @@ pub record Keeps040 (g : Registers) (m : Memory) (I : Cache040 → Type 0) : Typ
   pub insert : (c : Cache040) (frame : ℕ) (supervisor : Bool) (base : ℕ) (wp sup : Bool) → Walked040 g m frame supervisor base wp sup → I c
       → I (inserted040 c frame supervisor base wp sup)
 
+-- they keep what says nothing
+pub free-040 : (g : Registers) (m : Memory) → Keeps040 g m (λ c. Unit {0})
+free-040 g m = record { dropAll = λ c h. tt; drop = λ c frame h. tt; insert = λ c frame supervisor base wp sup w h. tt }
+
 -- ---- what is kept of one slot is kept of all
 -- B speaks of the slot at an index, and says nothing of one that is not valid
 pub record OfSlots (B : ℕ → Slot → Type 0) : Type 0 where

@@ -17,5 +17,6 @@ pub mod Narrow
 pub mod Said
 pub mod Audited
 pub mod Stale
+pub mod Reached
 pub mod Records
 pub mod Witness
