@@ -18,5 +18,6 @@ pub mod Said
 pub mod Audited
 pub mod Stale
 pub mod Reached
+pub mod Damage
 pub mod Records
 pub mod Witness

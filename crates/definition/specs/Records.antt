@@ -6,11 +6,13 @@ use mathlib.Core.Bool.{Bool, true, false}
 use lib.ListN.{length}
 use Rattle.definition.specs.Words.{if_then_else_}
 use Rattle.definition.specs.Memory.{Memory}
+use Rattle.definition.specs.Audit.{audit}
 use Rattle.definition.specs.Calls.{access, Line, A, F, L, T, K, N, R}
 use Rattle.definition.specs.Trace.{Record, Loads, Calls, Stores, Adds, Malformed, recordOf, State, memoryOf, stepOf, firstState, text, isMalformed, Front, Ended, Body, Short, frontOf}
 use Rattle.definition.specs.Replay.{Moment, watched, other}
 use Rattle.definition.specs.declared.Registers.{Registers}
 use Rattle.definition.specs.declared.Access.{Access}
+use Rattle.definition.specs.declared.Audit.{Audit}
 
 -- ---- records, one after the other
 -- the lines that records print, one after the other from a state
@@ -26,6 +28,10 @@ keptAfter s (r ∷ rest) = keptAfter (stepOf s r .state) rest
 -- what it keeps after a first part, which warms the caches
 abbrev pub warmed : List Record → State
 warmed l = keptAfter firstState l
+
+-- the audit of what it keeps: under its registers, over its memory
+abbrev pub auditOf : State → Audit
+auditOf s = audit (s .registers) (memoryOf s) (s .caches)
 
 -- a record, or an access that is watched
 pub data Marked : Type 0 where
