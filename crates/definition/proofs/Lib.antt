@@ -1,4 +1,5 @@
 pub mod Examples
+pub mod AuditKinds
 pub mod Refusals
 pub mod Choice
 pub mod Lists
@@ -18,6 +19,5 @@ pub mod Said
 pub mod Audited
 pub mod Stale
 pub mod Reached
-pub mod Damage
 pub mod Records
 pub mod Witness

@@ -71,17 +71,17 @@ slotAs supervisor base wp sup = record { valid = true; frame = 0x2041; superviso
 abbrev pub at040 : Slot → Caches
 at040 s = record { c030 = empty030; c040 = record { slots = noSlot ∷ s ∷ replicate 62 noSlot } }
 
--- both roots are the same table
-abbrev pub both : ℕ → Registers
-both family =
+-- registers whose roots are both that table; TT0 matches every access, and the PMMU is off
+abbrev pub both : ℕ → ℕ → Registers
+both family tc =
     record {
       family = family;
       present = true;
-      enabled = true;
-      tc = 0x8000;
+      enabled = false;
+      tc = tc;
       crp = record { limit = 0x80000002; address = 0x1000 };
       srp = record { limit = 0x80000002; address = 0x1000 };
-      tt0 = 0;
+      tt0 = 0x00FF801C;
       tt1 = 0;
       itt0 = 0;
       itt1 = 0;
@@ -90,7 +90,7 @@ both family =
     }
 
 abbrev pub one040 : ℕ → Slot → Audit → Row
-one040 third s says = record { registers = both 40; longs = tree 0x3002 third; caches = at040 s; says = says }
+one040 third s says = record { registers = both 40 0x8000; longs = tree 0x3002 third; caches = at040 s; says = says }
 
 -- ---- the table
 abbrev pub rows : List Row
@@ -119,6 +119,9 @@ rows =
     ∷ one030 0x66001 (cachedAs 3 0x55000 false) Audit.Clean
     ∷ one030 0x66001 (record { valid = false; code = 1; page = 0x2041; base = 0x55000; wp = false; stamp = 1 }) Audit.Clean
     ∷ record { registers = plain; longs = tree 0x3002 0x66001; caches = at030 13 (cachedAs 1 0x55000 false ∷ noEntry ∷ []); says = Audit.Clean }
+    -- neither a transparent register nor whether the PMMU is on changes what it says
+    ∷ row030 (both 30 0x80C07760) 0 (cachedAs 1 0x55000 false ∷ noEntry ∷ []) (Audit.Stale030 0)
+    ∷ row030 (both 30 0x80C07760) 0x55001 (cachedAs 1 0x55000 false ∷ noEntry ∷ []) Audit.Clean
     -- the first of two, and the second of one key, which an eviction brings to light
     ∷ row030 plain 0x66001 (cachedAs 1 0x55000 false ∷ cachedAs 2 0x55000 false ∷ []) (Audit.Stale030 0)
     ∷ row030 plain 0x55001 (cachedAs 1 0x55000 false ∷ cachedAs 1 0x66000 false ∷ []) (Audit.Stale030 1)
@@ -136,7 +139,7 @@ rows =
     ∷ record { registers = examples.registers 40 0x8000 0x80000002; longs = tree 0x3002 0x55001; caches = at040 (slotAs false 0x55000 false false); says = Audit.Clean }
     ∷ record { registers = examples.registers 40 0x8000 0x80000002; longs = tree 0x3002 0x55001; caches = at040 (slotAs true 0x55000 false false); says = Audit.Stale040 1 }
     -- family 60 has the 68040's, and 30 does not look at it
-    ∷ record { registers = both 60; longs = tree 0x3002 0; caches = at040 (slotAs false 0x55000 false false); says = Audit.Stale040 1 }
+    ∷ record { registers = both 60 0x8000; longs = tree 0x3002 0; caches = at040 (slotAs false 0x55000 false false); says = Audit.Stale040 1 }
     ∷ record { registers = plain; longs = tree 0x3002 0; caches = at040 (slotAs false 0x55000 false false); says = Audit.Clean }
     -- a family that there is not, and a shift above 31
     ∷ row030 (examples.registers 20 0x80C07760 0x80000002) 0x55001 [] (Audit.Refused 1)
@@ -165,6 +168,13 @@ pub said-of-wp :
     ≡ Finding.Says 0x02041000 1 (At 0x55000) (Translation.Address 0x55000) ∷ Finding.Says 0x02041000 1 Miss (Translation.Address 0x55000) ∷ []
 unfolding finding translate inOrder transparent translate030 search030 hitOf afterHit matching inserted victim shifted rested oldest firstOf walkFrom readOf widthsOf refusalOf anyOf touchesOf
 said-of-wp = refl
+
+-- nor what the tables say
+pub said-behind :
+    finding (both 30 0x80C07760) (memory (longsOf (tree 0x3002 0)) 0 []) (at030 12 (cachedAs 1 0x55000 false ∷ noEntry ∷ [])) 0 true
+    ≡ Finding.Says 0x02041000 1 (At 0x55000) (Translation.Fault kind.AccessLevelViolation cause.PageFault 0x02041000)
+unfolding finding translate inOrder transparent translate030 search030 hitOf afterHit matching inserted victim shifted rested oldest firstOf walkFrom readOf widthsOf refusalOf anyOf touchesOf
+said-behind = refl
 
 -- ---- the guard
 -- README's sample up to the guard: registers, three longs, a read of 02041ABC
