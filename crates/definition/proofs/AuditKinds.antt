@@ -10,8 +10,8 @@ use Rattle.definition.specs.Memory.{memory, touchesOf}
 use Rattle.definition.specs.Transparent.{transparent}
 use Rattle.definition.specs.Walk030.{readOf, widthsOf, walkFrom}
 use Rattle.definition.specs.Walk040.{walk040}
-use Rattle.definition.specs.Cache030.{Entry, Cache030, noEntry, empty030, matching, rested, touched, hitOf, afterHit, shifted, oldest, victim, inserted, flushedPage}
-use Rattle.definition.specs.Cache040.{Slot, Cache040, noSlot, empty040}
+use Rattle.definition.specs.Cache030.{Entry, noEntry, empty030, matching, rested, hitOf, afterHit, shifted, oldest, victim, inserted, flushedPage}
+use Rattle.definition.specs.Cache040.{Slot, noSlot, empty040}
 use Rattle.definition.specs.Refusal.{refusalOf}
 use Rattle.definition.specs.Translate.{Caches, search030, translate030, inOrder, translate}
 use Rattle.definition.specs.Flush.{flushPage}

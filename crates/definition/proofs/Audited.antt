@@ -1,7 +1,7 @@
 -- A snapshot whose audit says Clean: every access gets the cacheless walk's answer, the probe's address is that answer, and so it stays over every run
 -- from there, as from the empty caches. Assumes nothing but what the statements say.
-use Prim.Native.Nat.{ℕ, _+_, _-_, _*_, _/_, _%_, _^_, _≤_, zero-le}
-use mathlib.Core.Path.{_≡_, refl, ap, sym, subst, _∙_}
+use Prim.Native.Nat.{ℕ, _+_, _-_, _/_, _^_, zero-le}
+use mathlib.Core.Path.{_≡_, refl, ap, sym, _∙_}
 use mathlib.Core.Logic.{_⊎_, inl, inr, ⊎-elim}
 use mathlib.Core.List.{List, _++_}
 use mathlib.Core.Bool.{Bool, true, false, not, _&&_, _||_, false≢true, true≢false}
@@ -10,8 +10,7 @@ use native.Mathlib.Nat.{mul-mod-left}
 use borrow.Author.Tests.{eqb-true, eq-eqb, not-true, not-false}
 use lib.Dec.{eqb}
 use lib.Pow.{shl-shr}
-use lib.ListN.{length}
-use Rattle.definition.specs.Words.{if_then_else_, bitOf, firstOf}
+use Rattle.definition.specs.Words.{if_then_else_, bitOf}
 use Rattle.definition.specs.Registers.{on, codeOf}
 use Rattle.definition.specs.Memory.{Memory, fetchOf}
 use Rattle.definition.specs.Transparent.{transparent}
@@ -23,7 +22,7 @@ use Rattle.definition.specs.Refusal.{refusalOf}
 use Rattle.definition.specs.Translate.{Caches, Translated, baseOf, hitAddress, joined, onHit030, with030, translate030, onHit040, translate040, inOrder, translate, cacheless}
 use Rattle.definition.specs.Probe.{probed, probe030, probe040, probeInOrder, probeChecks, probe}
 use Rattle.definition.specs.Audit.{firstOfPage, foundFor030, isAccessCode, isEnd030, stale030, foundFor040, isEnd040, stale040, firstStale030, auditFamily, auditChecks, auditFrom, audit, bare, plainAccess}
-use Rattle.definition.specs.Replay.{Moment, watched, memoryAt, afterAll, answersFrom, watchedOf, walksOf, In, Steady, Accepted, CleanSnapshot, Since}
+use Rattle.definition.specs.Replay.{Moment, memoryAt, afterAll, answersFrom, watchedOf, walksOf, In, Steady, Accepted, CleanSnapshot, Since}
 use Rattle.definition.specs.declared.Access.{Access}
 use Rattle.definition.specs.declared.Audit.{Audit}
 use Rattle.definition.specs.declared.End.{End}

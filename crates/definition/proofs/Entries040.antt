@@ -1,18 +1,18 @@
 -- The 68040 cache's slots: nothing changes one but to empty it, and nothing adds one but a walk of its key, in its own place. So what these keep of one
 -- slot is kept of all. Assumes nothing.
-use Prim.Native.Nat.{ℕ, zero, suc, _+_, _/_, _%_, _^_}
+use Prim.Native.Nat.{ℕ, zero, suc, _/_, _%_, _^_}
 use mathlib.Core.Path.{_≡_, refl}
 use mathlib.Core.List.{List, [], _∷_, map}
 use mathlib.Core.Bool.{Bool, true, false, not, _&&_}
 use lib.Dec.{eqb}
 use lib.ListN.{getD, set, replicate}
-use Rattle.definition.specs.Registers.{asSupervisor}
 use Rattle.definition.specs.Memory.{Memory}
 use Rattle.definition.specs.Walk040.{walk040, pageBits, frameOf}
 use Rattle.definition.specs.Cache040.{Slot, Cache040, noSlot, empty040, slotAt, inserted040, emptied, flushedAll040, flushedFrame}
 use Rattle.definition.specs.declared.End040.the-variants.{Resident}
 use Rattle.definition.specs.declared.Registers.{Registers}
 use Rattle.definition.proofs.Choice.{if-both}
+use Rattle.definition.proofs.Lists.{All, all-get, all-replicate, all-map, all-index}
 
 -- ---- what a call does to the cache
 -- a walk of this frame and privilege under g and over m found the page with this base, W and S
@@ -53,28 +53,7 @@ Each B l = (i : ℕ) → B i (getD l i noSlot)
 abbrev pub Sound040 : (ℕ → Slot → Type 0) → Cache040 → Type 0
 Sound040 B c = Each B (c .slots)
 
-module _ (B : ℕ → Slot → Type 0) (o : OfSlots B) where
-  -- no slot is valid
-  each-invalid : (l : List Slot) → ((i : ℕ) → getD l i noSlot .valid ≡ false) → Each B l
-  each-invalid l h i = o .invalid i (getD l i noSlot) (h i)
-
-  pub empty-sound : Sound040 B empty040
-  empty-sound = each-invalid (replicate 64 noSlot) (go 64)
-    where
-      go : (n i : ℕ) → getD (replicate n noSlot) i noSlot .valid ≡ false
-      go zero i = refl
-      go (suc n) zero = refl
-      go (suc n) (suc i) = go n i
-
-  drop-all-sound : (c : Cache040) → Sound040 B c → Sound040 B (flushedAll040 c)
-  unfolding flushedAll040
-  drop-all-sound c h = each-invalid (map emptied (c .slots)) (go (c .slots))
-    where
-      go : (l : List Slot) (i : ℕ) → getD (map emptied l) i noSlot .valid ≡ false
-      go [] i = refl
-      go (x ∷ l) zero = refl
-      go (x ∷ l) (suc i) = go l i
-
+-- one slot is set
 set-each : (B : ℕ → Slot → Type 0) (l : List Slot) (v : ℕ) (x : Slot) → B v x → Each B l → Each B (set l v x)
 set-each B [] v x b h i = h i
 set-each B (y ∷ l) zero x b h zero = b
@@ -83,6 +62,19 @@ set-each B (y ∷ l) (suc v) x b h zero = h 0
 set-each B (y ∷ l) (suc v) x b h (suc i) = set-each (λ (i : ℕ). B (suc i)) l v x b (λ i. h (suc i)) i
 
 module _ (B : ℕ → Slot → Type 0) (o : OfSlots B) where
+  -- none is valid
+  each-invalid : (l : List Slot) → All (λ (s : Slot). s .valid ≡ false) l → Each B l
+  each-invalid l h i = o .invalid i (getD l i noSlot) (all-get (λ (s : Slot). s .valid ≡ false) l i noSlot refl h)
+
+  pub empty-sound : Sound040 B empty040
+  empty-sound = each-invalid (replicate 64 noSlot) (all-replicate (λ (s : Slot). s .valid ≡ false) 64 noSlot refl)
+
+  drop-all-sound : (c : Cache040) → Sound040 B c → Sound040 B (flushedAll040 c)
+  unfolding flushedAll040
+  drop-all-sound c h =
+      each-invalid (map emptied (c .slots))
+      (all-map (λ s. Unit {0}) (λ (s : Slot). s .valid ≡ false) emptied (λ s k. refl) (c .slots) (all-index (λ s. Unit {0}) (c .slots) noSlot (λ i. tt)))
+
   drop-frame-sound : (c : Cache040) (frame : ℕ) → Sound040 B c → Sound040 B (flushedFrame c frame)
   unfolding flushedFrame
   drop-frame-sound c frame h =
@@ -94,7 +86,7 @@ module _ (B : ℕ → Slot → Type 0) (o : OfSlots B) where
   unfolding inserted040
   sound-keeps g m new =
       record {
-        dropAll = drop-all-sound B o;
+        dropAll = drop-all-sound;
         drop = drop-frame-sound;
         insert = λ c frame supervisor base wp sup w h. set-each B (c .slots) (frame % 64) _ (new frame supervisor base wp sup w) h;
       }

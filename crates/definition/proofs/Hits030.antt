@@ -69,6 +69,12 @@ matching-matches c code page =
     (matches code page (getD (c .entries) (c .recent) noEntry)) (c .recent) (firstOf (matches code page) (c .entries)) (λ t l. t)
     (λ f l. first-passes (matches code page) (c .entries) noEntry l)
 
+-- an entry that matches is valid, and has the key
+pub key-of : (code page : ℕ) (e : Entry) → matches code page e ≡ true → (e .valid ≡ true) × ((e .code ≡ code) × (e .page ≡ page))
+key-of code page e t =
+    let key = and-right (e .valid) _ t in
+    (and-left (e .valid) _ t, (eqb-true (e .code) code (and-left _ _ key), eqb-true (e .page) page (and-right (eqb (e .code) code) _ key)))
+
 -- an entry of which B holds, with the key of an access that it permits
 pub record Met030 (B : ℕ → Entry → Type 0) (s code page base : ℕ) (write : Bool) : Type 0 where
   pub entry : Entry
@@ -120,15 +126,13 @@ module _ (g : Registers) (P : Memory → Type 0) where
   entry-hits : (e : Entry) (s code page base : ℕ) (write : Bool) → eqb (g .family) 30 ≡ true → shiftOf (g .tc) ≡ Bits s → isAccessCode code ≡ true
       → Good030 g P s e → matches code page e ≡ true → permitted write e ≡ At base → Hits030 g P s code page base write
   entry-hits e s code page base write family sh a k t =
-      let key = and-right (e .valid) _ t in
-      let code-is = eqb-true (e .code) code (and-left _ _ key) in
-      let page-is = eqb-true (e .page) page (and-right (eqb (e .code) code) _ key) in
+      let key = key-of code page e t in
       if-by (λ (hit : Hit). hit ≡ At base → Hits030 g P s code page base write) (write && e .wp) _ _
       (λ t h. no-hit base h)
       (λ f h.
       let base-is : e .base ≡ base = cc in
-      let hits = k family sh (and-left (e .valid) _ t) (rw code-is a) write f in
-      rw (code-is, page-is, base-is) at hits)
+      let hits = k family sh (key .0) (rw (key .1 .0) a) write f in
+      rw (key .1 .0, key .1 .1, base-is) at hits)
 
   pub hit-030 : (c : Cache030) (code page s base : ℕ) (write : Bool) → eqb (g .family) 30 ≡ true → shiftOf (g .tc) ≡ Bits s → isAccessCode code ≡ true
       → All (Good030 g P (c .shift)) (c .entries) → hitOf c code page s write ≡ At base → Hits030 g P s code page base write

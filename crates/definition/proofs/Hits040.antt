@@ -1,7 +1,7 @@
 -- A hit of the 68040 cache gives what the walk gives, where its slots are good: each has its walk, over a memory where the longs of the walk read the
 -- same as now. Assumes nothing.
 use Prim.Native.Nat.{ℕ, _/_, _%_, _^_}
-use mathlib.Core.Path.{_≡_, refl, ap, sym, subst, _∙_}
+use mathlib.Core.Path.{_≡_, refl, ap, sym, _∙_}
 use mathlib.Core.List.{List}
 use mathlib.Core.Bool.{Bool, true, false, not, _&&_, false≢true}
 use borrow.Author.Tests.{eqb-true, not-true}
@@ -9,7 +9,7 @@ use lib.Dec.{eqb}
 use Rattle.definition.specs.Registers.{asSupervisor}
 use Rattle.definition.specs.Memory.{Memory}
 use Rattle.definition.specs.Walk040.{Outcome040, walk040, pageBits, physical040}
-use Rattle.definition.specs.Cache040.{Slot, Cache040, noSlot, empty040, slotAt, holds, forbids, slotHit, hit040}
+use Rattle.definition.specs.Cache040.{Slot, Cache040, empty040, slotAt, holds, forbids, slotHit, hit040}
 use Rattle.definition.specs.Translate.{Caches, emptyCaches, Translated, onEnd040, concluded040, joined, onHit040, translate040}
 use Rattle.definition.specs.declared.Access.{Access}
 use Rattle.definition.specs.declared.End040.{End040}
@@ -18,7 +18,7 @@ use Rattle.definition.specs.declared.Hit.{Hit}
 use Rattle.definition.specs.declared.Hit.the-variants.{At, Miss}
 use Rattle.definition.specs.declared.Registers.{Registers}
 use Rattle.definition.specs.declared.Translation.the-variants.{Address}
-use Rattle.definition.proofs.Choice.{if-by, if-both, if-alike, and-left, and-right, or-left, or-right, same-bool}
+use Rattle.definition.proofs.Choice.{if-by, if-both, if-alike, and-left, and-right, or-left, same-bool}
 use Rattle.definition.proofs.Agree.{Throughout}
 use Rattle.definition.proofs.Asked040.{asked-040}
 use Rattle.definition.proofs.Page040.{page-040, base-040}

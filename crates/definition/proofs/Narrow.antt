@@ -1,22 +1,20 @@
 -- A walk reads the low 32 bits of an address alone: of a page number of any width, the walk of its first address is that of the address in 32 bits. Assumes nothing.
-use Prim.Native.Nat.{ℕ, _+_, _-_, _*_, _/_, _%_, _^_, _≤_, _<_}
+use Prim.Native.Nat.{ℕ, _+_, _-_, _*_, _/_, _%_, _^_, _<_}
 use mathlib.Core.Path.{_≡_, refl, ap, sym, _∙_}
 use mathlib.Core.List.{List, [], _∷_}
 use mathlib.Core.Bool.{Bool, true, false}
 use native.Mathlib.Omega.{arith}
 use native.Mathlib.Nat.{mul-mod-left}
-use lib.Pow.{pow-pos, mod-pow-add, mod-mod-pow, shl-shr}
-use Rattle.definition.specs.Words.{if_then_else_, bitOf}
+use lib.Pow.{mod-pow-add, mod-mod-pow, shl-shr}
+use Rattle.definition.specs.Words.{bitOf}
 use Rattle.definition.specs.Memory.{Memory, fetchOf}
 use Rattle.definition.specs.Registers.{rootOf}
-use Rattle.definition.specs.Walk030.{topIndex, Step, steps, stepsWith, stepsOf, isOf, used, widthsOf, walkSteps, walk030, lowOf, physicalOf}
-use Rattle.definition.specs.Walk040.{Outcome040, onLong, rootAt, pointerAt, pageAt, onPointer, onRoot, walk040}
+use Rattle.definition.specs.Walk030.{topIndex, steps, stepsWith, isOf, used, widthsOf, walkSteps, walk030, physicalOf}
+use Rattle.definition.specs.Walk040.{rootAt, pointerAt, pageAt, onPointer, onRoot, walk040}
 use Rattle.definition.specs.Cache030.{Entry}
 use Rattle.definition.specs.Audit.{isEnd030, isOutcome030}
 use Rattle.definition.specs.declared.End.{End}
 use Rattle.definition.specs.declared.End.the-variants.{Page, Invalid, LevelStop, BusError, Config}
-use Rattle.definition.specs.declared.Fetched.{Fetched}
-use Rattle.definition.specs.declared.Fetched.the-variants.{Long, Failed}
 use Rattle.definition.specs.declared.Registers.{Registers}
 use Rattle.definition.proofs.Choice.{if-alike}
 use Rattle.definition.proofs.Page040.{long-next}

@@ -1,13 +1,14 @@
 -- Caches that calls reach from the empty ones: in the 68030's no two valid entries have one key, so each is the one that its own key finds, and bases are
 -- of 32 bits; in the 68040's, over longs of 32 bits, each valid slot stands in its own place, none is a user's with S, and bases are of 32 bits. So an entry
 -- that the audit names there is wrong. Assumes nothing but what the statements say.
-use Prim.Native.Nat.{ℕ, zero, suc, _+_, _-_, _*_, _/_, _%_, _^_, _≤_, _<_}
+use Prim.Native.Nat.{ℕ, zero, suc, _-_, _*_, _/_, _%_, _^_, _≤_, _<_}
 use mathlib.Core.Path.{_≡_, refl, ap, sym, _∙_}
 use mathlib.Core.Logic.{_⊎_, inl, inr, ⊎-elim}
 use mathlib.Core.List.{List, [], _∷_, map}
 use mathlib.Core.Bool.{Bool, true, false, not, _&&_, _||_, false≢true}
 use native.Mathlib.Omega.{arith}
-use borrow.Author.Tests.{lt-ltb, eqb-true, eq-eqb}
+use native.Mathlib.Decide.{decLe}
+use borrow.Author.Tests.{lt-ltb, eq-eqb}
 use lib.Dec.{eqb, ltb}
 use lib.Pow.{split}
 use lib.ListN.{length, getD, set, replicate}
@@ -18,7 +19,7 @@ use Rattle.definition.specs.Walk040.{Outcome040, onLong, rootAt, pointer
 use Rattle.definition.specs.Cache030.{Entry, Cache030, noEntry, empty030, matches, matching, stamped, rested, touched, found, afterHit, dropped, shifted, victim, inserted, dropIf}
 use Rattle.definition.specs.Cache040.{Slot, Cache040, empty040}
 use Rattle.definition.specs.Translate.{Caches}
-use Rattle.definition.specs.Audit.{firstOfPage, foundFor040, auditFrom}
+use Rattle.definition.specs.Audit.{firstOfPage, auditFrom}
 use Rattle.definition.specs.Replay.{Reached, start, then-call}
 use Rattle.definition.specs.declared.Audit.{Audit}
 use Rattle.definition.specs.declared.Registers.{Registers}
@@ -27,12 +28,13 @@ use Rattle.definition.specs.declared.Fetched.the-variants.{Long, Failed}
 use Rattle.definition.specs.declared.End040.{End040}
 use Rattle.definition.specs.declared.End040.the-variants.{Resident, Absent, Lost}
 use Rattle.definition.specs.declared.FaultCause.{FaultCause}
-use Rattle.definition.proofs.Choice.{if-by, if-both, and-left, and-right}
-use Rattle.definition.proofs.Lists.{first-passes}
+use Rattle.definition.proofs.Choice.{if-by, if-both}
+use Rattle.definition.proofs.Lists.{all-get, all-replicate, first-passes, none-passes}
+use Rattle.definition.proofs.Hits030.{key-of}
 use Rattle.definition.proofs.Entries030.{Keeps030, free-030}
-use Rattle.definition.proofs.Entries040.{Keeps040, free-040, OfSlots, New040, Sound040, empty-sound, sound-keeps}
+use Rattle.definition.proofs.Entries040.{free-040, OfSlots, New040, Sound040, empty-sound, sound-keeps}
 use Rattle.definition.proofs.Entries.{Both, Keeps, calling-keeps}
-use Rattle.definition.proofs.Stale.{Wrong, entryAt, named-030, stale-is-wrong, slotIn, FitsFor, named-040, stale-is-wrong-040}
+use Rattle.definition.proofs.Stale.{Wrong, entryAt, named-030, stale-is-wrong, slotIn, named-040, stale-is-wrong-040}
 
 -- ---- the entry at i
 abbrev at : List Entry → ℕ → Entry
@@ -66,12 +68,8 @@ map-keeps f k [] i v = absurd (false≢true v)
 map-keeps f k (x ∷ l) zero v = k x v
 map-keeps f k (x ∷ l) (suc i) v = map-keeps f k l i v
 
-set-keeps : (l : List Entry) (i : ℕ) (x : Entry) → (x .valid ≡ true → Same x (at l i)) → (k : ℕ) → at (set l i x) k .valid ≡ true → Same (at (set l i x) k) (at l k)
-set-keeps [] i x h k v = absurd (false≢true v)
-set-keeps (y ∷ l) zero x h zero v = h v
-set-keeps (y ∷ l) zero x h (suc k) v = record { valid = v; code = refl; page = refl; base = refl }
-set-keeps (y ∷ l) (suc i) x h zero v = record { valid = v; code = refl; page = refl; base = refl }
-set-keeps (y ∷ l) (suc i) x h (suc k) v = set-keeps l i x h k v
+self : (e : Entry) → e .valid ≡ true → Same e e
+self e v = record { valid = v; code = refl; page = refl; base = refl }
 
 set-at : (l : List Entry) (i : ℕ) (x : Entry) (k : ℕ) → ((at (set l i x) k ≡ x) × (k ≡ i)) ⊎ (at (set l i x) k ≡ at l k)
 set-at [] i x k = inr refl
@@ -79,6 +77,10 @@ set-at (y ∷ l) zero x zero = inl (refl, refl)
 set-at (y ∷ l) zero x (suc k) = inr refl
 set-at (y ∷ l) (suc i) x zero = inr refl
 set-at (y ∷ l) (suc i) x (suc k) = ⊎-elim (λ h. inl (h .0, ap suc (h .1))) (λ h. inr h) (set-at l i x k)
+
+set-keeps : (l : List Entry) (i : ℕ) (x : Entry) → (x .valid ≡ true → Same x (at l i)) → (k : ℕ) → at (set l i x) k .valid ≡ true → Same (at (set l i x) k) (at l k)
+set-keeps l i x h k =
+    ⊎-elim (λ s v. rw (s .0, s .1) (h (rw (s .0) at v))) (λ s v. rw s (self (at l k) (rw s at v))) (set-at l i x k)
 
 -- a new entry, where none but the one that it replaces has its key
 set-neat : (l : List Entry) (v : ℕ) (x : Entry) → x .base < 2 ^ 32
@@ -102,9 +104,6 @@ set-neat l v x low only h =
     two i j (inr a) (inr b) va vb c p = h .single i j (rw a at va) (rw b at vb) (rw (a, b) at c) (rw (a, b) at p)
 
 -- ---- each change of the cache
-self : (e : Entry) → e .valid ≡ true → Same e e
-self e v = record { valid = v; code = refl; page = refl; base = refl }
-
 stamped-same : (n : ℕ) (e : Entry) → stamped n e .valid ≡ true → Same (stamped n e) e
 stamped-same n e v = record { valid = v; code = refl; page = refl; base = refl }
 
@@ -143,22 +142,14 @@ shifted-neat c s h = if-both Neat030 (eqb (c .shift) s) _ _ h (mapped-neat dropp
 
 -- an entry that passes is found
 first-below : (p : Entry → Bool) (l : List Entry) (j : ℕ) → p noEntry ≡ false → p (at l j) ≡ true → firstOf p l < length l
-unfolding firstOf
-first-below p [] j f t = absurd (false≢true (sym f ∙ t))
-first-below p (x ∷ l) zero f t = rw t (omega arith)
-first-below p (x ∷ l) (suc j) f t = go (p x) (first-below p l j f t)
+first-below p l j f t = choose (decLe (length l) (firstOf p l))
   where
-    go : (b : Bool) → firstOf p l < length l → (if b then zero else suc (firstOf p l)) < suc (length l)
-    go true h = omega arith
-    go false h = omega arith
+    choose : Dec (length l ≤ firstOf p l) → firstOf p l < length l
+    choose (yes h) = absurd (false≢true (sym (none-passes p l noEntry f h j) ∙ t))
+    choose (no h) = omega arith
 
 by-key : (code page : ℕ) (e : Entry) → e .valid ≡ true → e .code ≡ code → e .page ≡ page → matches code page e ≡ true
 by-key code page e v c p = rw (v, eq-eqb (e .code) code c, eq-eqb (e .page) page p)
-
-key-of : (code page : ℕ) (e : Entry) → matches code page e ≡ true → (e .valid ≡ true) × ((e .code ≡ code) × (e .page ≡ page))
-key-of code page e t =
-    let key = and-right (e .valid) _ t in
-    (and-left (e .valid) _ t, (eqb-true (e .code) code (and-left _ _ key), eqb-true (e .page) page (and-right (eqb (e .code) code) _ key)))
 
 -- an insert takes the place of the entry that has its key
 takes-own : (l : List Entry) (code page j : ℕ) → Neat l → at l j .valid ≡ true → at l j .code ≡ code → at l j .page ≡ page → j ≡ victim l code page
@@ -208,16 +199,15 @@ neat-keeps g m =
       insert = λ c code page s base wp l w h. inserted-neat c code page s base wp (omega (arith, w .based)) h;
     }
 
-empty-at : (n i : ℕ) → at (replicate n noEntry) i .valid ≡ false
-empty-at zero i = refl
-empty-at (suc n) zero = refl
-empty-at (suc n) (suc i) = empty-at n i
+empty-at : (i : ℕ) → at (replicate 22 noEntry) i .valid ≡ false
+empty-at i =
+    all-get (λ (e : Entry). e .valid ≡ false) (replicate 22 noEntry) i noEntry refl (all-replicate (λ (e : Entry). e .valid ≡ false) 22 noEntry refl)
 
 empty-neat : Neat030 empty030
 empty-neat =
     record {
-      single = λ i j v w c p. absurd (false≢true (sym (empty-at 22 i) ∙ v));
-      small = λ i v. absurd (false≢true (sym (empty-at 22 i) ∙ v));
+      single = λ i j v w c p. absurd (false≢true (sym (empty-at i) ∙ v));
+      small = λ i v. absurd (false≢true (sym (empty-at i) ∙ v));
     }
 
 -- ---- a walk over longs of 32 bits finds a page of 32 bits

@@ -5,7 +5,6 @@ use mathlib.Core.Logic.{_⊎_, inl, inr, ⊎-elim}
 use mathlib.Core.List.{List, [], _∷_}
 use mathlib.Core.Bool.{Bool, true, false, _&&_, false≢true}
 use native.Mathlib.Omega.{arith}
-use native.Mathlib.Nat.{le-refl}
 use native.Mathlib.Decide.{decLe}
 use borrow.Author.Tests.{ltb-true, ltb-false, eqb-true, eqb-false, eq-eqb}
 use lib.Dec.{eqb, ltb}
@@ -14,8 +13,8 @@ use lib.Seq.{getD-drop}
 use Rattle.definition.specs.Words.{if_then_else_, firstOf}
 use Rattle.definition.specs.Memory.{Memory}
 use Rattle.definition.specs.Walk030.{shiftOf}
-use Rattle.definition.specs.Cache030.{Entry, Cache030, noEntry}
-use Rattle.definition.specs.Cache040.{Slot, noSlot}
+use Rattle.definition.specs.Cache030.{Cache030, noEntry}
+use Rattle.definition.specs.Cache040.{noSlot}
 use Rattle.definition.specs.Refusal.{refusalOf}
 use Rattle.definition.specs.Translate.{Caches}
 use Rattle.definition.specs.Audit.{firstFrom, stale030, firstStale030, stale040, firstStale040, named, auditFamily, auditChecks, auditFrom}

@@ -1,17 +1,17 @@
 -- An entry that the audit names is wrong: where its own key finds it, a read or a write of its page gets another answer than the cacheless walk's, with the
 -- PMMU on and no transparent match. Assumes nothing but what the statements say.
-use Prim.Native.Nat.{ℕ, _+_, _*_, _/_, _%_, _^_, _<_}
-use mathlib.Core.Path.{_≡_, refl, ap, sym, subst, _∙_}
+use Prim.Native.Nat.{ℕ, _%_, _^_, _<_}
+use mathlib.Core.Path.{_≡_, refl, ap, sym, _∙_}
 use mathlib.Core.List.{List}
 use mathlib.Core.Bool.{Bool, true, false, not, _&&_, _||_, false≢true, true≢false}
 use native.Mathlib.Omega.{arith}
 use native.Mathlib.Nat.{mul-mod-left}
 use borrow.Author.Tests.{lt-ltb, eqb-true, eqb-false, eq-eqb, not-true}
-use lib.Dec.{eqb, ltb}
+use lib.Dec.{eqb}
 use lib.Pow.{shl-shr}
 use lib.Bits.{or-zero-r}
 use lib.ListN.{length, getD}
-use Rattle.definition.specs.Words.{if_then_else_, bitOf}
+use Rattle.definition.specs.Words.{bitOf}
 use Rattle.definition.specs.Registers.{on, codeOf, asInstruction, comparedCode}
 use Rattle.definition.specs.Memory.{Memory}
 use Rattle.definition.specs.Transparent.{transparent}

@@ -113,7 +113,7 @@ auditChecks g m c =
       eight = false;
     }
 
--- the first stale entry at `from` or above. From 0, and then from each named index plus 1, every stale entry is named once (proofs/Stale.antt)
+-- the first stale entry at `from` or above. From 0, and then from each named index plus 1, every stale entry is named once (proofs/Said.antt)
 unfoldable pub auditFrom : Registers → Memory → Caches → ℕ → Audit
 auditFrom g m c from = unless (auditChecks g m c) (λ (n : ℕ). Audit.Refused n) (auditFamily g m c from)
 
