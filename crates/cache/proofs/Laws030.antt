@@ -61,7 +61,7 @@ module _ (l : List ℕ) (w : length l ≡ 69) where
         stamps = tags-22 l w ∙ sym (stamps-22 l w);
       }
 
-  entries-22 : length (entriesOf ts ps ss) ≡ 22
+  pub entries-22 : length (entriesOf ts ps ss) ≡ 22
   entries-22 = entries-length ts ps ss level ∙ tags-22 l w
 
   -- ---- a use

@@ -1,17 +1,23 @@
--- Demand 3 of the calls in place: whatever was called before on the arrays that a caller keeps, a watched access gets the cacheless walk's
--- answer. Assumes nothing but what the statements say; what a link of a chain says is the contract of its call.
+-- Demand 3 of the calls in place: whatever was called before on the arrays that a caller keeps, from empty caches or from caches that are audited clean, a
+-- watched access gets the cacheless walk's answer. Assumes nothing but what the statements say; what a link of a chain says is the contract of its call.
 use Prim.Native.Nat.{ℕ}
 use mathlib.Core.Path.{_≡_, refl, ap, sym, _∙_}
 use mathlib.Core.List.{List, [], _∷_, _++_}
+use lib.ListN.{length}
 use Rattle.definition.specs.Memory.{Memory, fetchOf}
 use Rattle.definition.specs.Translate.{Caches, emptyCaches, translate, cacheless}
 use Rattle.definition.specs.Load.{load}
+use Rattle.definition.specs.Audit.{audit}
 use Rattle.definition.specs.Calls.{Call, calling}
-use Rattle.definition.specs.Replay.{Moment, watched, other, memoryAt, after, afterAll, answersFrom, watchedOf, walksOf, In, Steady, Accepted}
+use Rattle.definition.specs.Replay.{Moment, watched, other, memoryAt, after, afterAll, answersFrom, watchedOf, walksOf, In, Steady, Accepted, CleanSnapshot, Since}
 use Rattle.definition.specs.declared.Registers.{Registers}
 use Rattle.definition.specs.declared.Access.{Access}
+use Rattle.definition.specs.declared.Audit.{Audit}
 use Rattle.definition.specs.declared.Translation.{Translation}
 use Rattle.definition.proofs.Independence.{after-anything, independence}
+use Rattle.definition.proofs.Audited.{clean-after, clean-run, clean-independence}
+use Rattle.cache.specs.Atc030.{cacheOf}
+use Rattle.cache.proofs.Laws030.{entries-22}
 use Rattle.chain.specs.Chain.{Arrays, cachesIn, Translates, Passes, translates, loads, tests, probes, flushesAll, flushesCode, flushesPage, flushesFrame, Chain, none, watch, pass}
 use Rattle.plan.proofs.Pairs.{beside}
 use Rattle.load.proofs.Loading.{load-beside}
@@ -44,22 +50,56 @@ chain-answers g none = refl
 chain-answers g (watch {rest = rest} a m k more) = rw (k .answers, chain-answers g more, k .leaves) refl
 chain-answers g (pass {rest = rest} call m k more) = chain-answers g more ∙ ap (λ (c : Caches). answersFrom g c rest) (passed g m k)
 
+-- an access after a chain, and two chains, by what the definition's runs give
+after-chain : (g : Registers) {x y z : Arrays} {before : List Moment} {answers : List Translation} {answer : Translation} {count : ℕ} (a : Access) (m : Memory)
+    → Chain g x before answers y → Translates g a m y answer count z
+    → translate g a m (afterAll g (cachesIn x) before) .answer ≡ cacheless g a m .answer → answer ≡ cacheless g a m .answer
+after-chain g a m chain k same = k .answers ∙ ap (λ (c : Caches). translate g a m c .answer) (chain-leaves g chain) ∙ same
+
+chains-alike : (g : Registers) {x x′ y y′ : Arrays} {l l′ : List Moment} {answers answers′ walks : List Translation} → Chain g x l answers y → Chain g x′ l′ answers′ y′
+    → (answersFrom g (cachesIn x) l ≡ answersFrom g (cachesIn x′) l′) × (answersFrom g (cachesIn x) l ≡ walks) → (answers ≡ answers′) × (answers ≡ walks)
+chains-alike g chain chain′ d = let one = chain-answers g chain in (one ∙ d .0 ∙ sym (chain-answers g chain′), one ∙ d .1)
+
+-- ---- from the empty caches
 -- after any calls in place whatever, translate_in answers a watched access as the cacheless walk does
 pub after-calls : (g : Registers) {x y z : Arrays} {before : List Moment} {answers : List Translation} {answer : Translation} {count : ℕ} (a : Access) (m : Memory)
     → cachesIn x ≡ emptyCaches → Chain g x before answers y → Translates g a m y answer count z
     → ((now : Moment) (at : ℕ) → In now before → In at (cacheless g a m .asked) → fetchOf (memoryAt now) at ≡ fetchOf m at)
     → answer ≡ cacheless g a m .answer
-after-calls g {before = before} a m e chain k s =
-    k .answers
-    ∙ ap (λ (c : Caches). translate g a m c .answer) (chain-leaves g chain ∙ ap (λ (c : Caches). afterAll g c before) e)
-    ∙ after-anything g before a m s
+after-calls g {before = before} a m e chain k s = after-chain g a m chain k (rw e (after-anything g before a m s))
 
 -- the demand, of two chains of calls in place from empty caches
 pub independence-in-place : (g : Registers) {x x′ y y′ : Arrays} (l l′ : List Moment) {answers answers′ : List Translation}
     → cachesIn x ≡ emptyCaches → cachesIn x′ ≡ emptyCaches → Chain g x l answers y → Chain g x′ l′ answers′ y′
     → watchedOf l ≡ watchedOf l′ → Steady g (l ++ l′) → Accepted g (l ++ l′) → (answers ≡ answers′) × (answers ≡ walksOf g l)
-independence-in-place g l l′ e e′ chain chain′ w s t =
-    let d = independence g l l′ w s t in
-    let one = chain-answers g chain ∙ ap (λ (c : Caches). answersFrom g c l) e in
-    let two = chain-answers g chain′ ∙ ap (λ (c : Caches). answersFrom g c l′) e′ in
-    (one ∙ d .0 ∙ sym two, one ∙ d .1)
+independence-in-place g l l′ e e′ chain chain′ w s t = chains-alike g chain chain′ (rw (e, e′) (independence g l l′ w s t))
+
+-- ---- from arrays that are audited clean, over the memory m as it stood then
+-- the array of the 68030 cache has its 69 numbers, so the cache has its 22 entries
+snapshot-in : (g : Registers) (m : Memory) (x : Arrays) → length (x .c030) ≡ 69 → audit g m (cachesIn x) ≡ Audit.Clean → CleanSnapshot g m (cachesIn x)
+unfolding cacheOf
+snapshot-in g m x size e = record { size = entries-22 (x .c030) size; clean = e }
+
+-- after any calls in place whatever, translate_in answers a watched access as the cacheless walk does
+pub after-calls-from-clean : (g : Registers) {x y z : Arrays} {before : List Moment} {answers : List Translation} {answer : Translation} {count : ℕ}
+    (m : Memory) (a : Access) (n : Memory) → length (x .c030) ≡ 69 → audit g m (cachesIn x) ≡ Audit.Clean → Chain g x before answers y → Translates g a n y answer count z
+    → ((at : ℕ) → In at (cacheless g a n .asked) → fetchOf m at ≡ fetchOf n at)
+    → ((now : Moment) (at : ℕ) → In now before → In at (cacheless g a n .asked) → fetchOf (memoryAt now) at ≡ fetchOf n at)
+    → answer ≡ cacheless g a n .answer
+after-calls-from-clean g {x = x} {before = before} m a n size e chain k first same =
+    after-chain g a n chain k (clean-after g m (cachesIn x) (snapshot-in g m x size e) before a n first same)
+
+-- one chain of calls in place: each watched access is answered as its cacheless walk is
+pub chain-from-clean : (g : Registers) {x y : Arrays} (m : Memory) (l : List Moment) {answers : List Translation} → length (x .c030) ≡ 69
+    → audit g m (cachesIn x) ≡ Audit.Clean → Chain g x l answers y → Since g m l → Steady g l → answers ≡ walksOf g l
+chain-from-clean g {x = x} m l size e chain since s =
+    chain-answers g chain ∙ clean-run g m (cachesIn x) (snapshot-in g m x size e) l since s
+
+-- the demand, of two chains of calls in place
+pub independence-from-clean : (g : Registers) {x x′ y y′ : Arrays} (m m′ : Memory) (l l′ : List Moment) {answers answers′ : List Translation}
+    → length (x .c030) ≡ 69 → length (x′ .c030) ≡ 69 → audit g m (cachesIn x) ≡ Audit.Clean → audit g m′ (cachesIn x′) ≡ Audit.Clean
+    → Chain g x l answers y → Chain g x′ l′ answers′ y′ → watchedOf l ≡ watchedOf l′ → Since g m l → Since g m′ l′ → Steady g (l ++ l′) → Accepted g (l ++ l′)
+    → (answers ≡ answers′) × (answers ≡ walksOf g l)
+independence-from-clean g {x = x} {x′ = x′} m m′ l l′ size size′ e e′ chain chain′ w since since′ s t =
+    chains-alike g chain chain′
+    (clean-independence g m m′ (cachesIn x) (cachesIn x′) (snapshot-in g m x size e) (snapshot-in g m′ x′ size′ e′) l l′ w since since′ s t)
