@@ -53,7 +53,7 @@ module _ (a : ℕ) where
   pub narrow-physical : (field consumed : ℕ) → physicalOf field consumed (a % 2 ^ 32) ≡ physicalOf field consumed a
   narrow-physical field consumed = ap (λ (n : ℕ). (field / 256 * 256 + n) % 2 ^ 32) (low-low a consumed)
 
-  end-narrow : (e : Entry) (wp sup : Bool) (end : End) → isEnd030 e (a % 2 ^ 32) wp sup end ≡ isEnd030 e a wp sup end
+  pub end-narrow : (e : Entry) (wp sup : Bool) (end : End) → isEnd030 e (a % 2 ^ 32) wp sup end ≡ isEnd030 e a wp sup end
   end-narrow e wp sup (Page field consumed) = rw (narrow-physical field consumed)
   end-narrow e wp sup (Invalid indirect) = refl
   end-narrow e wp sup (BusError at) = refl
