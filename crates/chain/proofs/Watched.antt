@@ -2,14 +2,14 @@
 -- watched access gets the cacheless walk's answer. Assumes nothing but what the statements say; what a link of a chain says is the contract of its call.
 use Prim.Native.Nat.{ℕ}
 use mathlib.Core.Path.{_≡_, refl, ap, sym, _∙_}
-use mathlib.Core.List.{List, [], _∷_, _++_}
+use mathlib.Core.List.{List, _++_}
 use lib.ListN.{length}
 use Rattle.definition.specs.Memory.{Memory, fetchOf}
 use Rattle.definition.specs.Translate.{Caches, emptyCaches, translate, cacheless}
 use Rattle.definition.specs.Load.{load}
 use Rattle.definition.specs.Audit.{audit}
 use Rattle.definition.specs.Calls.{Call, calling}
-use Rattle.definition.specs.Replay.{Moment, watched, other, memoryAt, after, afterAll, answersFrom, watchedOf, walksOf, In, Steady, Accepted, CleanSnapshot, Since}
+use Rattle.definition.specs.Replay.{Moment, memoryAt, afterAll, answersFrom, watchedOf, walksOf, In, Steady, Accepted, CleanSnapshot, Since}
 use Rattle.definition.specs.declared.Registers.{Registers}
 use Rattle.definition.specs.declared.Access.{Access}
 use Rattle.definition.specs.declared.Audit.{Audit}

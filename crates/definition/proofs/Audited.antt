@@ -219,7 +219,6 @@ module _ (g : Registers) (m : Memory) (c : Caches) (own instruction write : Bool
       sym (clean-is-right g m c e (plainAccess own instruction write address)) ∙ gives (says-by g m c 0 Audit.Clean e .0) p
 
 -- ---- what the audit does not read
--- neither whether the PMMU is there and on, nor the transparent registers
 same-entry : (g : Registers) (m : Memory) (s : ℕ) → stale030 (bare g) m s ≡ stale030 g m s
 unfolding stale030
 same-entry g m s = λ i e. stale030 g m s e
@@ -232,16 +231,19 @@ same-first : (g : Registers) (m : Memory) (c : Cache030) (from : ℕ) (sh : Shif
 same-first g m c from NoPage = refl
 same-first g m c from (Bits s) = rw (same-entry g m s)
 
+-- neither whether the PMMU is there and on, nor the transparent registers
 pub switches-unread : (g : Registers) (m : Memory) (c : Caches) (from : ℕ) → auditFrom (bare g) m c from ≡ auditFrom g m c from
 unfolding auditFrom auditFamily
 switches-unread g m c from = rw (same-first g m (c .c030) from (shiftOf (g .tc)), same-slot g m)
 
--- so what is Clean is right whatever they become
+-- so what is Clean is Clean, and right, whatever they become
+pub clean-for : (g g′ : Registers) (m : Memory) (c : Caches) → bare g ≡ bare g′ → audit g m c ≡ Audit.Clean → audit g′ m c ≡ Audit.Clean
+clean-for g g′ m c same e =
+    sym (switches-unread g′ m c 0) ∙ sym (ap (λ (r : Registers). audit r m c) same) ∙ switches-unread g m c 0 ∙ e
+
 pub clean-however : (g g′ : Registers) (m : Memory) (c : Caches) → bare g ≡ bare g′ → audit g m c ≡ Audit.Clean
     → (a : Access) → translate g′ a m c .answer ≡ cacheless g′ a m .answer
-clean-however g g′ m c same e =
-    clean-is-right g′ m c
-    (sym (switches-unread g′ m c 0) ∙ sym (ap (λ (r : Registers). audit r m c) same) ∙ switches-unread g m c 0 ∙ e)
+clean-however g g′ m c same e = clean-is-right g′ m c (clean-for g g′ m c same e)
 
 -- ---- a run
 -- the memory of the snapshot, or of one of the moments

@@ -12,7 +12,7 @@ use lib.ListN.{length, getD, length-map, length-set}
 use Rattle.definition.specs.Words.{bitOf, firstOf, allOf, agrees}
 use Rattle.definition.specs.Memory.{Memory}
 use Rattle.definition.specs.Walk030.{walk030, everyLevel, physicalOf, shiftOf}
-use Rattle.definition.specs.Cache030.{Entry, Cache030, noEntry, empty030, matches, matching, stamped, rested, putAt, touched, found, hitOf, afterHit, dropped, shifted, oldest, victim, inserted, dropIf, flushedPage}
+use Rattle.definition.specs.Cache030.{Entry, Cache030, noEntry, empty030, matches, matching, stamped, rested, putAt, touched, found, hitOf, afterHit, dropped, shifted, oldest, victim, inserted, dropIf, flushedAll, flushedPage}
 use Rattle.definition.specs.Translate.{baseOf, cached, Searched, onEnd030, search030, onHit030, with030}
 use Rattle.definition.specs.Refusal.{badCache}
 use Rattle.definition.specs.declared.End.{End}
@@ -23,7 +23,7 @@ use Rattle.definition.specs.declared.Registers.{Registers}
 use Rattle.definition.specs.declared.Shift.{Shift}
 use Rattle.definition.specs.declared.Shift.the-variants.{Bits, NoPage}
 use Rattle.definition.proofs.Choice.{if-by, if-both, and-right, or-left, or-right}
-use Rattle.definition.proofs.Lists.{All, all-set, all-get, all-replicate, all-map, first-within, all-pass, Least, least-of}
+use Rattle.definition.proofs.Lists.{All, all-set, all-get, all-replicate, all-index, all-map, first-within, all-pass, Least, least-of}
 use Rattle.definition.proofs.Page030.{shift-cut}
 
 -- ---- what a call does to the cache
@@ -164,6 +164,17 @@ passes-by recent shift l h = rw (le-ltb 21 recent l, le-ltb 31 shift h)
 module _ (B : ℕ → Entry → Type 0) (o : OfEntries B) where
   pub empty-sound : Sound030 B empty030
   empty-sound = record { size = refl; four = refl; held = all-replicate (B 0) 22 noEntry (o .invalid 0 noEntry refl) }
+
+  -- a flush of all leaves no valid entry, so it holds whatever the entries were
+  pub flushed-all-sound : (c : Cache030) → length (c .entries) ≡ 22 → badCache c ≡ false → Sound030 B (flushedAll c)
+  unfolding flushedAll
+  flushed-all-sound c size four =
+      record {
+        size = length-map (c .entries) dropped ∙ size;
+        four = four;
+        held = all-map (λ e. Unit {0}) (B (c .shift)) dropped (λ e k. o .invalid (c .shift) (dropped e) refl) (c .entries)
+            (all-index (λ e. Unit {0}) (c .entries) noEntry (λ i. tt));
+      }
 
   -- each entry changed in its place
   mapped-sound : (c : Cache030) (f : Entry → Entry) (clock s : ℕ) → s ≤ 31 → ((e : Entry) → B (c .shift) e → B s (f e)) → Sound030 B c

@@ -69,9 +69,10 @@ module _ (B : ℕ → Slot → Type 0) (o : OfSlots B) where
   pub empty-sound : Sound040 B empty040
   empty-sound = each-invalid (replicate 64 noSlot) (all-replicate (λ (s : Slot). s .valid ≡ false) 64 noSlot refl)
 
-  drop-all-sound : (c : Cache040) → Sound040 B c → Sound040 B (flushedAll040 c)
+  -- a flush of all leaves no valid slot
+  pub flushed-all-sound : (c : Cache040) → Sound040 B (flushedAll040 c)
   unfolding flushedAll040
-  drop-all-sound c h =
+  flushed-all-sound c =
       each-invalid (map emptied (c .slots))
       (all-map (λ s. Unit {0}) (λ (s : Slot). s .valid ≡ false) emptied (λ s k. refl) (c .slots) (all-index (λ s. Unit {0}) (c .slots) noSlot (λ i. tt)))
 
@@ -86,7 +87,7 @@ module _ (B : ℕ → Slot → Type 0) (o : OfSlots B) where
   unfolding inserted040
   sound-keeps g m new =
       record {
-        dropAll = drop-all-sound;
+        dropAll = λ c h. flushed-all-sound c;
         drop = drop-frame-sound;
         insert = λ c frame supervisor base wp sup w h. set-each B (c .slots) (frame % 64) _ (new frame supervisor base wp sup w) h;
       }

@@ -17,6 +17,7 @@ use Rattle.definition.specs.Walk040.{Outcome040}
 use Rattle.definition.specs.Cache030.{empty030}
 use Rattle.definition.specs.Refusal.{refusalOf, badCache}
 use Rattle.definition.specs.Translate.{Caches, emptyCaches, Translated, concluded030, search030, translate030, concluded040, translate040, inOrder, translateChecks, translate, cacheless}
+use Rattle.definition.specs.Flush.{flushAll}
 use Rattle.definition.specs.Audit.{isAccessCode}
 use Rattle.definition.specs.Replay.{Moment, watched, other, memoryAt, after, afterAll, answersFrom, answers, watchedOf, walksOf, In, Steady, Accepted}
 use Rattle.definition.specs.declared.Registers.{Registers}
@@ -154,6 +155,16 @@ module _ (g : Registers) (P : Memory → Type 0) where
         in030 = of030.empty-sound (Good030 g P) (hits030.good-entries g P);
         in040 = of040.empty-sound (Good040 g P) (hits040.good-slots g P);
       }
+
+  -- after a flush of all, whatever the caches were: it isn't refused
+  pub flush-all-sound : (c : Caches) → length (c .c030 .entries) ≡ 22 → badCache (c .c030) ≡ false → Sound g P (flushAll c .caches)
+  unfolding flushAll refusalOf
+  flush-all-sound c size four =
+      rw four
+      (record {
+        in030 = of030.flushed-all-sound (Good030 g P) (hits030.good-entries g P) (c .c030) size four;
+        in040 = of040.flushed-all-sound (Good040 g P) (hits040.good-slots g P) (c .c040);
+      })
 
   pub sound-keeps : (m : Memory) → P m → Keeps (Sound030 (Good030 g P)) (Sound040 (Good040 g P)) g m
   sound-keeps m p =
