@@ -1,4 +1,5 @@
--- The premises of demand 3 can be met by replays that differ in all else, and hits are what it speaks of: one pair of replays and one of traces, by computation.
+-- The premises of demand 3 can be met by replays that differ in all else, and hits are what it speaks of: one pair of replays and one of traces, by computation;
+-- and so can those of a run from a clean snapshot.
 -- Assumes nothing.
 use Prim.Native.Nat.{ℕ}
 use mathlib.Core.Path.{_≡_, refl}
@@ -15,17 +16,19 @@ use Rattle.definition.specs.Refusal.{refusalOf}
 use Rattle.definition.specs.Translate.{emptyCaches, search030, translate030, inOrder, translateChecks, translate, cacheless}
 use Rattle.definition.specs.Load.{loadInOrder, load}
 use Rattle.definition.specs.Flush.{flushFrame}
-use Rattle.definition.specs.Calls.{access, loading, testing, flushingFrame, A, L, K, calling}
-use Rattle.definition.specs.Trace.{Loads, Calls, Stores, Adds, stepOf, firstState}
-use Rattle.definition.specs.Replay.{Moment, watched, other, memoryAt, afterAll, answersFrom, answers, watchedOf, Steady, Accepted}
-use Rattle.definition.specs.Records.{linesFrom, Marked, watching, plainly, recordIn, momentsOf, Under, prints}
+use Rattle.definition.specs.Calls.{access, loading, testing, flushingFrame, A, L, K, translationLine, calling}
+use Rattle.definition.specs.Trace.{Loads, Calls, Stores, Adds, memoryOf, stepOf, firstState}
+use Rattle.definition.specs.Replay.{Moment, watched, other, memoryAt, afterAll, answersFrom, answers, watchedOf, walksOf, Steady, Accepted, Since}
+use Rattle.definition.specs.Records.{linesFrom, keptAfter, warmed, Marked, watching, plainly, recordIn, momentsOf, Under, prints}
 use Rattle.definition.specs.declared.Registers.{Registers}
 use Rattle.definition.specs.declared.Access.{Access}
 use Rattle.definition.specs.declared.Override.{Override}
 use Rattle.definition.specs.declared.Translation.the-variants.{Address}
 use Rattle.definition.proofs.Lists.{All, all-at}
 use Rattle.definition.proofs.Independence.{Pair, pairsOf, in-pairs, independence}
-use Rattle.definition.proofs.Records.{traces-independent}
+use Rattle.definition.proofs.Records.{traces-independent, warmed-is-cacheless}
+use Rattle.definition.proofs.AuditKinds.{mapped, guard-audited}
+use Rattle.definition.proofs.AuditKinds as kinds
 
 -- ---- the premises, as what computes on given lists
 -- each of these longs reads at a moment as in m
@@ -42,6 +45,17 @@ steady-by g l h =
       same = λ a m now at i j k.
           all-at (λ (at : ℕ). fetchOf (memoryAt now) at ≡ fetchOf m at) (cacheless g a m .asked) at k
           (all-at (Alike (cacheless g a m .asked) m) l now j (all-at (Stays g l) (pairsOf l) (a, m) (in-pairs l a m i) h));
+    }
+
+-- they read in a snapshot as at the access's own moment
+abbrev pub Reads : Registers → Memory → Pair → Type 0
+Reads g m p = All (λ (at : ℕ). fetchOf m at ≡ fetchOf (p .1) at) (cacheless g (p .0) (p .1) .asked)
+
+pub since-by : (g : Registers) (m : Memory) (l : List Moment) → All (Reads g m) (pairsOf l) → Since g m l
+since-by g m l h =
+    record {
+      same = λ a n at i k.
+          all-at (λ (at : ℕ). fetchOf m at ≡ fetchOf n at) (cacheless g a n .asked) at k (all-at (Reads g m) (pairsOf l) (a, n) (in-pairs l a n i) h);
     }
 
 pub accepted-by : (g : Registers) (l : List Moment) → All (λ (p : Pair). refusalOf (translateChecks g (p .0) (p .1) emptyCaches) ≡ 0) (pairsOf l)
@@ -186,3 +200,34 @@ printed-alone = refl
 pub printed-among : linesFrom firstState (map recordIn among) ≡ K ∷ K ∷ L 1 ∷ K ∷ K ∷ A 0x56ABC 0 ∷ []
 unfolding linesFrom stepOf calling load loadInOrder flushedPage translate inOrder transparent translate030 search030 hitOf matching firstOf walkFrom readOf widthsOf refusalOf anyOf touchesOf afterHit inserted victim shifted rested oldest
 printed-among = refl
+
+-- ---- from a clean snapshot: README's sample up to its guard warms the caches
+-- another long is stored, and then the page is read again
+abbrev again : List Marked
+again = plainly (Stores 0x1000 7) ∷ watching (reading 0x02041ABC) ∷ []
+
+abbrev later : List Moment
+later = momentsOf (warmed mapped) again
+
+under-again : Under kinds.plain (warmed mapped) again
+unfolding Under keptAfter stepOf refusalOf calling
+under-again = (no-call, ((λ e. refl), tt))
+
+-- the three longs of its walk read as in the snapshot
+again-since : Since kinds.plain (memoryOf (warmed mapped)) later
+unfolding momentsOf keptAfter stepOf calling pairsOf translate inOrder transparent translate030 search030 hitOf afterHit matching firstOf walkFrom readOf widthsOf refusalOf anyOf touchesOf
+again-since = since-by kinds.plain (memoryOf (warmed mapped)) later ((refl, (refl, (refl, tt))), tt)
+
+again-steady : Steady kinds.plain later
+unfolding momentsOf keptAfter stepOf calling pairsOf translate inOrder transparent translate030 search030 hitOf afterHit matching firstOf walkFrom readOf widthsOf refusalOf anyOf touchesOf
+again-steady = steady-by kinds.plain later (((refl, (refl, (refl, tt))), tt), tt)
+
+-- so it prints what its cacheless walk gives
+pub again-cacheless : prints (warmed mapped) again ≡ map (translationLine 0) (walksOf kinds.plain later)
+unfolding keptAfter stepOf refusalOf
+again-cacheless = warmed-is-cacheless kinds.plain mapped again (guard-audited .0) under-again again-since again-steady
+
+-- by a hit
+pub printed-again : linesFrom (warmed mapped) (map recordIn again) ≡ K ∷ A 0x55ABC 0 ∷ []
+unfolding linesFrom keptAfter stepOf calling translate inOrder transparent translate030 search030 hitOf afterHit matching inserted victim shifted rested oldest firstOf walkFrom readOf widthsOf refusalOf anyOf touchesOf
+printed-again = refl
