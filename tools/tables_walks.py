@@ -25,16 +25,39 @@ def search(test, vars):
 WALK030 = f'{MEMORY} x4 x5 x6 x7 x8'
 
 
-def read030(facts):
-    return facts('aim', 'is_over', 'else', 'wanted', 'wants_long', 'read_desc')
+READ030 = ('is_at_limit', 'else', 'aim', 'wanted', 'wants_long', 'read_desc')
+LOST030 = (*READ030, 'seen', 'match')
+PAGE030 = (*LOST030, 'is_page')
+INVALID030 = (*PAGE030, 'else', 'is_invalid')
+NEXT030 = (*INVALID030, 'else', 'onward')
+
+
+def ends030(t, h, facts):
+    if facts.has('is_target'):
+        return f'law.ends-invalid {WALK030} ({t}) {facts(*INVALID030, "if", "is_target", "answer")}'
+    if facts.has('consumed_of'):
+        return f'law.ends-page {WALK030} ({t}) {facts(*PAGE030, "if", "consumed_of", "answer")}'
+    if facts.has('match'):
+        return f'law.ends-lost {WALK030} ({t}) {facts(*LOST030, "answer")}'
+    return f'law.ends-stop {WALK030} ({t}) {facts("is_at_limit", "if", "answer")}'
 
 
 # the 68040 walk: x4 is TC, x5 where the root table's entry stands, x6 the address
 WALK040 = f'{MEMORY} x4 x5 x6'
 
 
-def asked040(facts):
-    return facts('is_over_040', 'else', 'wanted_040', 'fetch', 'took_040')
+LOST040 = ('wanted_040', 'fetch', 'match')
+ABSENT040 = (*LOST040, 'is_invalid_040')
+PAGE040 = (*ABSENT040, 'else', 'is_page_040')
+NEXT040 = (*PAGE040, 'else', 'next_040')
+
+
+def ends040(t, h, facts):
+    if facts.has('w_040'):
+        return f'law.ends-page {WALK040} ({t}) {facts(*PAGE040, "if", "w_040", "s_040", "answer_040")}'
+    if facts.has('missing_040'):
+        return f'law.ends-absent {WALK040} ({t}) {facts(*ABSENT040, "if", "missing_040", "answer_040")}'
+    return f'law.ends-lost {WALK040} ({t}) {facts(*LOST040, "answer_040")}'
 
 
 # walk_030_for: x4 is TC, x5 the root, x6 the address, x7 the way
@@ -85,29 +108,33 @@ FUNCTIONS = {
         law='Driving030',
         pre={
             'aim': lambda facts: f'law.aim-asks {WALK030} (t .0)',
-            'took': lambda facts: f'law.took-asks {WALK030} (t .0) {read030(facts)}',
+            'seen': lambda facts: f'law.seen-asks {WALK030} (t .0) {facts(*READ030)}',
         },
+        ends=lambda facts: f'law.ends-config {WALK030} {facts("widths", "level_count", "no_walk", "if", "misconfigured")}',
         loop=dict(
             vars={9: 'ws', 10: 'n', 11: 's'},
             state='law.Turn ' + WALK030,
             measure=lambda t: f'law.left {WALK030} ({t})',
-            start=lambda facts: f'law.begin {WALK030} {facts("widths", "level_count", "begin_030")}',
-            next=lambda t, h, facts: f'law.next {WALK030} ({t}) {read030(facts)} {facts("took")}',
-            less=lambda t, h, facts: f'law.less {WALK030} ({t}) {read030(facts)} {facts("took")}',
-            ends=lambda t, h, facts: f'law.ends-at {WALK030} ({t}) {facts("aim", "is_over")} {h} {facts("end_of", "answer")}',
+            start=lambda facts: f'law.begin {WALK030} {facts("widths", "level_count", "no_walk", "else", "begin_030")}',
+            next=lambda t, h, facts: f'law.next {WALK030} ({t}) {facts(*NEXT030)}',
+            less=lambda t, h, facts: f'law.less {WALK030} ({t}) {facts(*NEXT030)}',
+            ends=ends030,
         ),
     ),
     'walk_040': dict(
         law='Driving040',
-        pre={'took_040': lambda facts: f'law.took-asks {WALK040} (t .0) {facts("is_over_040", "else")}'},
+        pre={
+            'next_040': lambda facts: f'law.few {WALK040} (t .0)',
+            'answer_040': lambda facts: f'law.few {WALK040} (t .0)',
+        },
         loop=dict(
             vars={7: 's'},
             state='law.Turn ' + WALK040,
             measure=lambda t: f'law.left {WALK040} ({t})',
             start=lambda facts: f'law.begin {WALK040} {facts("begin_040")}',
-            next=lambda t, h, facts: f'law.next {WALK040} ({t}) {asked040(facts)}',
-            less=lambda t, h, facts: f'law.less {WALK040} ({t}) {asked040(facts)}',
-            ends=lambda t, h, facts: f'law.ends {WALK040} ({t}) {facts("is_over_040")} {h} {facts("end_of_040", "answer_040")}',
+            next=lambda t, h, facts: f'law.next {WALK040} ({t}) {facts(*NEXT040)}',
+            less=lambda t, h, facts: f'law.less {WALK040} ({t}) {facts(*NEXT040)}',
+            ends=ends040,
         ),
     ),
     'walk_030_for': dict(

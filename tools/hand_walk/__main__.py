@@ -11,11 +11,13 @@ A thin function has parameters that are numbers, bools, structs, enums and array
 - calls of proved functions, of this crate or another, on whole locals, and copies of locals;
 - `s.len()` and `s[i]` of a slice, numbers, `+`, `*`, `<`, `<=`, `==`;
 - `if c { .. return x; }` before the loop;
-- at most one loop, left by a `while`'s test or by one `if c { break f(..); }`;
+- at most one loop, left by a `while`'s test or by `if c { .. break x; }`, as often as it is wanted;
+- in the loop, as the last statement of a turn, a `match` on a local that is an enum, an arm for each variant; an arm goes on or breaks;
+- a variant of an enum, its fields whole locals: `End::Page { field, consumed }`;
 - `&list[..n]` of a local array, handed to the next call;
 - `let b = *r;` and `*r = b;` of a `&mut`, outside the loop;
 - calls that are lent a `&mut` parameter as `&mut`, each callee once, outside the loop.
-A `match`, a field, a literal as an argument: those belong into the covered functions that it calls.
+Any other `match`, a field, a literal as an argument: those belong into the covered functions that it calls.
 
 The script keeps the context of the walk by names and prints positions, so nobody counts. It reads the contracts from the sources. The
 configuration has FUNCTIONS, of each thin function
@@ -29,9 +31,11 @@ configuration has FUNCTIONS, of each thin function
                for `&list[..n]`: facts -> that n is the length of the first n, that they fit, that the list has its length
     loop       vars: MIR's local -> field of the loop's record; state: the record's type; and of a record t
                measure(t), start(facts), next(t, h, facts), less(t, h, facts), ends(t, h, facts),
-               h being the proof of the test that stays or leaves. `start` and `next` must compute (abbrev pub)
+               h being the proof of the last test. `start` and `next` must compute (abbrev pub). Where there are several ways out, `ends`
+               tells them apart by what the facts have
 
-`facts` is a Facts: what each call so far ensures, by the callee's name, and each test by 'if' or 'else'.
+`facts` is a Facts: what each call so far ensures, by the callee's name, each test by 'if' or 'else', and by 'match' that the enum is
+the arm's variant of its fields.
 Parameters are x1, x2, .. and i1, i2, ..: i says that the machine value is x's (of a number `.1` is that it fits, of a slice `.0 .1 .0`
 that its length fits and `.0 .1 .1` that its bytes do, of an array `.1 .0 .1` that it has its length). In a loop the record is `t .0`.
 Names of the logic's calculus (split, join, move, look, first, ..) are taken: a contract can't name another thing so.

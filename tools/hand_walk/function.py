@@ -1,6 +1,6 @@
 """One function: its walk, statement by statement, and the file around it."""
-from logic import KIT, KIT_ARRAY, KIT_LEND, KIT_MUT, KIT_SHARED, needed
-from sexp import items, place, statements
+from logic import KIT, KIT_ARRAY, KIT_ENUM, KIT_LEND, KIT_MUT, KIT_SHARED, needed
+from sexp import arms, items, place, statements
 from text import list_of, nth, numbered, par, product_of, text_of, tuple_of
 from values import Facts, Type, Value
 from walk import Walk
@@ -82,6 +82,8 @@ class Printer:
                 return self.again(w, local, source, last)
             return w.assign(local, 'addr ! (from ! (stop !))', Value(Type('ptr'), None, None, None, array=source), last)
         if rvalue[0] == 'aggregate':
+            if self.f.locals[local].kind == 'enum':
+                return self.variant(w, local, items(rvalue[1]), last)
             return self.lend(w, local, items(rvalue[1]))
         if rvalue[0] == 'op2':
             return self.binary(w, local, rvalue, last)
@@ -105,6 +107,17 @@ class Printer:
         else:
             raise SystemExit(f'not covered: {rvalue}')
         w.assign(local, f'bin ! ({step1}) ({step2}) {side}', value, last)
+
+    def variant(self, w, local, parts, last):
+        """`local` takes a variant of an enum: the first part is its number, the others are its fields"""
+        type_, tag = self.f.locals[local], int(parts[0][2])
+        steps, values = zip(*map(w.operand, parts))
+        loads = 'no-more !'
+        for step in reversed(steps):
+            loads = f'and-then ! ({step}) ({loads})'
+        x = f'variant-at {type_.record} {tag} {tuple_of([value.x for value in values[1:]])}'
+        is_ = f'(EL.owes {type_.both} {par(x)} {tuple_of([value.i for value in values[1:]])})'
+        w.assign(local, f'agg ! ({loads})', Value(type_, x, type_.value(x), is_), last)
 
     def behind(self, w, local, into=None, stored=None):
         """`into` takes what lies behind the `&mut` in `local`, or `stored` is put there: the borrow is opened and closed"""
@@ -566,40 +579,68 @@ class Printer:
         w.say(f'looped {" ".join(numbered("l", self.locals))} ({loop["start"](self.facts)}, {are})')
         # a turn
         self.rest, self.turn, self.facts = rest, head, Facts()
-        for k, s in enumerate(turn):
-            if s[0] not in ('if', 'cond'):
-                self.statement(head, s)
-                continue
-            return self.leaving(head, s, turn[k + 1:], rest, order, others)
-        raise SystemExit('a turn without an `if` that leaves')
+        self.turning(head, turn, None, order, others)
 
-    def leaving(self, w, s, tail, rest, order, others):
-        """the `if` that leaves the loop, and the turn's end"""
+    def turning(self, w, turn, h, order, others):
+        """what is left of a turn: up to an `if` that leaves, a `match`, a `break`, or the turn's end; h is the proof of the last test"""
         loop = self.own['loop']
+        for k, s in enumerate(turn):
+            if s[0] in ('if', 'cond'):
+                return self.leaving(w, s, turn[k + 1:], order, others)
+            if s[0] == 'switch':
+                if turn[k + 1:]:
+                    raise SystemExit('a `match` in a loop is the last statement of its turn')
+                return self.matching(w, s, h, order, others)
+            if s[0] == 'exit':
+                if s[1] != '1':
+                    raise SystemExit('a thin function leaves its loop by `break` alone')
+                w.say('jumps !')
+                w.say('exec ! C Λ En Rest (atRet En Post)')
+                for s2 in self.rest[:-1]:
+                    self.statement(w, s2)
+                return self.leave(w, loop['ends']('t .0', h, self.facts))
+            self.statement(w, s, last=k == len(turn) - 1)
+        are = tuple_of([w.values[i].i for i in loop['vars']])
+        self.forget(w, others)
+        w.keep(order)
+        w.say(f'again ! Nearer At t ({loop["next"]("t .0", h, self.facts)}, {are}) {par(loop["less"]("t .0", h, self.facts))}')
+
+    def leaving(self, w, s, tail, order, others):
+        """an `if` one arm of which leaves the loop, and what is left of the turn"""
         test, h = place(s[1][1])[0], self.fresh('h')
         leaves_first = s[2] != 'skip'
         facts = self.facts
-        # the arm that leaves
         self.facts = Facts([*facts, ('if', None, h)])
         out = w.fork()
-        for s2 in statements(s[2] if leaves_first else s[3])[:-1]:
-            self.statement(out, s2)
-        out.say('jumps !')
-        out.say('exec ! C Λ En Rest (atRet En Post)')
-        for s2 in rest[:-1]:
-            self.statement(out, s2)
-        self.leave(out, loop['ends']('t .0', h, self.facts))
-        # the arm that goes on
+        self.turning(out, statements(s[2] if leaves_first else s[3]), h, order, others)
         self.facts = Facts([*facts, ('else', None, h)])
         on = w.fork()
-        for k, s2 in enumerate(tail):
-            self.statement(on, s2, last=k == len(tail) - 1)
-        are = tuple_of([on.values[i].i for i in loop['vars']])
-        self.forget(on, others)
-        on.keep(order)
-        on.say(f'again ! Nearer At t ({loop["next"]("t .0", h, self.facts)}, {are}) {par(loop["less"]("t .0", h, self.facts))}')
+        self.turning(on, tail, h, order, others)
         yes, no = (out, on) if leaves_first else (on, out)
         w.say(f'{"leaves-if" if leaves_first else "stays-if"} ! ({w.look(test)})\n        (λ {h}. {yes.text()})\n        (λ {h}. {no.text()})')
+
+    def matching(self, w, s, h, order, others):
+        """a `match` on an enum in a local, an arm for each variant; each arm is what is left of the turn"""
+        local = place(s[1][1])[0]
+        enum, cell, facts = w.values[local], w.cell(local), self.facts
+        type_ = enum.type
+        value, row = type_.value('u'), type_.row()
+        texts = []
+        for keys, body in arms(s[2]):
+            if len(keys) != 1:
+                raise SystemExit('an arm of a `match` has one variant')
+            tag, fields, is_ = self.fresh('tag'), self.fresh('v'), self.fresh('e')
+            arm = w.fork()
+            arm.say(f'as-variant (lives-at {type_.record} {par(enum.x)} {keys[0]} {tag}) (λ {fields} {is_}.', opens=1)
+            arm.say(f'rewrite ! {cell} (λ (u : {type_.denotation()}). ‵ (fat fullShare {type_.mir()} l{local} 0 ({value}))) {is_} refl')
+            x = f'variant-at {type_.record} {keys[0]} {fields}'
+            i = f'(subst (λ (u : {type_.denotation()}). Is {row} u ({value} ∷ [])) {is_} {par(enum.i)})'
+            arm.values[local] = Value(type_, x, type_.value(x), i, variant=int(keys[0]), fields=fields)
+            self.facts = Facts([*facts, ('match', None, is_)])
+            self.turning(arm, statements(body), h, order, others)
+            texts.append(f'(λ {tag}. {arm.text()})')
+        operand = f'load ! (from ! (vrt ! refl (fld ! refl (stop !)))) (look-tag ! {cell} (whole !))'
+        w.say(f'by-variants ! {cell} (whole !) ({operand}) tt\n        {tuple_of(texts)}')
 
     # ---------- the file
     def exit_walk(self):
@@ -652,9 +693,11 @@ class Printer:
             lines += KIT_SHARED
         if any(t.kind == 'array' for t in types):
             lines += KIT_ARRAY
+        if any(t.kind == 'enum' for t in types):
+            lines += [line for line in KIT_ENUM if not (self.lends and 'agg' in line)]
         if self.lends:
             lines += KIT_LEND + [f'use {self.proofs(HOME)}.Lending as lending']
-        lines.append(f'use {self.proofs(HOME)}.Branching.{{stays-if, leaves-if}}')
+        lines.append(f'use {self.proofs(HOME)}.Branching.{{stays-if, leaves-if, as-variant}}')
         if 'law' in self.own:
             lines.append(f'use {self.proofs(self.crate)}.{self.own["law"]} as law')
         for crate, contract in [(self.crate, self.contract)] + [(f.crate, contract) for f, contract, _ in self.calls]:

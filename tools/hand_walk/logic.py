@@ -93,6 +93,10 @@ use denote.Triple.Walked.{stay-none-ref, goes-none-ref}'''.split('\n')
 KIT_ARRAY = '''use denote.Array.{Array, array-vals, array-tells, array-lawful, array-makes}
 use mir.Syntax.{tyArray}'''.split('\n')
 
+KIT_ENUM = '''use types.Part.{agg}
+use types.Match.{vrt, in-variant, look-tag, by-variants}
+use borrow.Enum.Known.{at as variant-at, lives-at}'''.split('\n')
+
 KIT_LEND = '''use denote.Lend.{lends-shr-slice}
 use denote.Memory.{shares}
 use denote.Index.{row}

@@ -19,7 +19,8 @@ class Type:
             names = dict(name=path[-1], path='.'.join(path), crate=crate)
             shape = shapes.get(x[1][1], ['fields', 'tnil'])
             if shape[0] == 'variants':
-                return Type('enum', **names)
+                variants = [[Type.of(field, shapes) for field in items(fields, 'tcons')] for fields in items(shape[1], 'ttcons')]
+                return Type('enum', **names, variants=variants)
             fields = [Type.of(field, shapes) for field in items(shape[1], 'tcons')]
             return Type('struct', **names, fields=fields)
         if x[0] == 'tyStruct' and x[1] == '"&[]"':
@@ -58,6 +59,11 @@ class Type:
     @property
     def both(self):
         return f'row-{self.name}.the-type law-{self.name}.the-laws'
+
+    @property
+    def record(self):
+        """an enum's constructors, by number"""
+        return f'row-{self.name}.enum'
 
     def denotation(self):
         return {
@@ -191,7 +197,7 @@ class Value:
 
 
 class Facts(list):
-    """(callee, its result, the proof of what it ensures) of each call so far, and ('if' or 'else', None, proof) of each test"""
+    """(callee, its result, the proof of what it ensures) of each call so far, and ('if', 'else' or 'match', None, proof) of each test"""
 
     def __call__(self, *names):
         """the proofs of these names in a row; a name that stands again means the next call of that name"""

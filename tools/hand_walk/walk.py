@@ -1,6 +1,6 @@
 """A walk: its steps so far, with the context by names."""
 from sexp import place
-from text import joined, list_of
+from text import joined, list_of, nth, par
 from values import Type, Value
 
 
@@ -78,6 +78,8 @@ class Walk:
         value = self.values[local]
         if not projections:
             return self.look(local), value
+        if value.type.kind == 'enum' and projections[0][0] == 'variant' and hasattr(value, 'fields'):
+            return self.payload(local, int(projections[1][1]) - 1)
         if len(projections) > 1 or projections[0][0] != 'field' or value.type.kind != 'slice':
             raise SystemExit(f'a field of a struct: hand it to a covered function: {o}')
         field = int(projections[0][1])
@@ -86,6 +88,13 @@ class Walk:
             return step, Value(Type('ptr'), None, None, None, of=local)
         n = f'length ({value.x} .now)'
         return step, Value(Type('int', bits=64), n, f'vint w64 ({n})', f'(refl, {value.i} .0 .1 .0)')
+
+    def payload(self, local, j):
+        """field j of the variant that the enum in a local is known to be"""
+        enum = self.values[local]
+        type_, x = enum.type.variants[enum.variant][j], nth(enum.fields, j)
+        step = f'load ! (from ! (vrt ! refl (fld ! refl (stop !)))) (look-in ! {self.cell(local)} (in-variant ! {enum.variant} {j} refl refl (whole !)))'
+        return step, Value(type_, x, type_.value(x), nth(f'EL.owed {enum.type.both} {par(enum.x)} ({enum.v} ∷ []) {par(enum.i)}', j))
 
     def write(self, local, value):
         """the room or the cell of a local takes a value"""

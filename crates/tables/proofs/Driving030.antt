@@ -1,8 +1,9 @@
--- The loop of `walk_030`: what is known where a walk stands between two descriptors, and that a turn keeps it. Assumes nothing.
+-- The loop of `walk_030`: what is known where a walk stands before a descriptor, that each way out gives the definition's outcome, and that a turn that
+-- goes on keeps it. Assumes nothing.
 use Prim.Native.Nat.{ℕ, zero, suc, _+_, _-_, _*_, _/_, _%_, _≤_, _<_}
 use mathlib.Core.Path.{_≡_, refl, ap, sym, subst, _∙_}
 use mathlib.Core.List.{List, [], _∷_, _++_}
-use mathlib.Core.Bool.{Bool, true, false, not, _||_, and-false, or-true}
+use mathlib.Core.Bool.{Bool, true, false, not, _||_, and-false, or-true, or-false}
 use native.Mathlib.Omega.{arith}
 use native.Mathlib.Numerals.{add-one}
 use native.Mathlib.Decide.{decLe}
@@ -12,7 +13,7 @@ use lib.ListN.{length, getD, drop, length-append, length-drop, drop-of-length-le
 use lib.Seq.{drop-cons}
 use Rattle.definition.specs.Words.{if_then_else_, bitOf}
 use Rattle.definition.specs.Memory.{Memory, fetchOf}
-use Rattle.definition.specs.Walk030.{entryOf, shortOf, longOf, onSecond, readOf, isOf, used, widthsOf, topIndex, Step, steps, stepsWith, Found, Outcome, ended, longsAt, asking, deeper, guarded, onTarget, onTable, onDescriptor, walkFrom, start, walkSteps, outcomeOf}
+use Rattle.definition.specs.Walk030.{entryOf, shortOf, longOf, onSecond, readOf, isOf, used, widthsOf, topIndex, Step, steps, stepsWith, Found, Outcome, ended, longsAt, asking, deeper, guarded, byKind, onTarget, onTable, onDescriptor, walkFrom, start, walkSteps, outcomeOf}
 use Rattle.definition.specs.declared.Root.{Root}
 use Rattle.definition.specs.declared.Fetched.{Fetched}
 use Rattle.definition.specs.declared.Fetched.the-variants.{Long, Failed}
@@ -21,7 +22,7 @@ use Rattle.definition.specs.declared.Descriptor.the-variants.{Whole, Lost}
 use Rattle.definition.specs.declared.End.{End}
 use Rattle.definition.specs.declared.End.the-variants.{Page, Invalid, LevelStop, BusError, Config}
 use Rattle.tables.specs.Walked.{shown}
-use Rattle.tables.specs.Machine030.{beginOf, noWalk, endedOf, onwardOf, aimedOf, nextK, aimOf, targetEnd, atLevel, tookOf, askedOf, answered}
+use Rattle.tables.specs.Machine030.{noWalk, misconfiguredOf, beginOf, atLimit, aimedOf, nextK, aimOf, addsOf, askedOf, levelsOf, heldOf, seenOf, toTarget, toTable, onwardOf, answered}
 use Rattle.tables.specs.declared.Walked.{Walked}
 use Rattle.tables.specs.declared.Walking030.{Walking030}
 use Rattle.tables.proofs.Lemmas.{T-true, T-false, clash, used-at, width-small, widths-few}
@@ -70,10 +71,6 @@ level-last : (m : Memory) (consumed at last : ℕ) (f : Found) (ss : List Step) 
 level-last m consumed at last f ss next (Lost lost n) = refl
 level-last m consumed at last f ss next (Whole kind field wp sup n) = refl
 
-if-same : (b : Bool) {o : Outcome} → (if b then o else o) ≡ o
-if-same true = refl
-if-same false = refl
-
 module _ (m : Memory) (tc : ℕ) (root : Root) (address code limit : ℕ) where
   abbrev pub us : List ℕ
   us = used (widthsOf tc)
@@ -91,36 +88,28 @@ module _ (m : Memory) (tc : ℕ) (root : Root) (address code limit : ℕ) where
   later-length : (s : Walking030) → length (later s) ≡ length us - s .k
   later-length s = steps-length address (s .consumed) (drop (s .k) us) ∙ length-drop (s .k) us
 
-  -- the walk from here: between two descriptors, and once the descriptor d of the next place is read
+  -- the walk from here: before a descriptor, and once the descriptor d of the next place is read
   abbrev pub rest : Walking030 → List ℕ → Outcome
   rest s asked =
-      if s .over
-      then ended (s .end) (found s asked)
-      else if s .target
+      if s .target
       then onTarget (s .consumed) (s .last) (found s asked) (readOf m (s .last) (s .long))
       else walkFrom m limit (ahead s) (s .table) (s .long) (found s asked)
 
   abbrev pub onward : Walking030 → List ℕ → Descriptor → Outcome
   onward s asked d =
-      if s .over
-      then ended (s .end) (found s asked)
-      else if s .target
+      if s .target
       then onTarget (s .consumed) (s .last) (found s asked) d
       else onDescriptor m (s .consumed) (s .last) (found s asked) (later s) (λ t l f. walkFrom m limit (later s) t l f) d
 
-  -- the longs asked for, once the descriptor of the next place is read
-  abbrev pub grown : Walking030 → List ℕ → List ℕ
-  grown s asked = asked ++ longsAt (s .last) (askedOf (readOf m (s .last) (s .long)))
-
   -- how many descriptors can still be read
   abbrev pub rank : Walking030 → ℕ
-  rank s = if s .over then 0 else if s .target then 1 else suc (length (ahead s))
+  rank s = if s .target then 1 else suc (length (ahead s))
 
   -- ---- at the loop's head
   pub record Stands (s : Walking030) (asked : List ℕ) : Type 0 where
     pub same : whole ≡ rest s asked
     pub count : length asked ≡ s .asked
-    pub some : s .over ≡ false → s .target ≡ false → 0 < length (ahead s)
+    pub some : s .target ≡ false → 0 < length (ahead s)
     pub k≤ : s .k ≤ length us
     pub consumed≤ : s .consumed ≤ 15 + 15 * s .k
     pub levels≤ : s .levels + rank s ≤ 6
@@ -130,8 +119,7 @@ module _ (m : Memory) (tc : ℕ) (root : Root) (address code limit : ℕ) where
   pub record Aims (r : ℕ) (s : Walking030) (asked : List ℕ) : Type 0 where
     pub same : whole ≡ onward s asked (readOf m (s .last) (s .long))
     pub count : length asked ≡ s .asked
-    pub plain : s .over ≡ false → s .target ≡ false → (s .coded ≡ false) × (suc (length (later s)) < r)
-    pub some : s .over ≡ false → 0 < r
+    pub plain : s .target ≡ false → (s .coded ≡ false) × (suc (length (later s)) < r)
     pub k≤ : s .k ≤ length us
     pub consumed≤ : s .consumed ≤ 15 + 15 * s .k
     pub levels≤ : s .levels + r ≤ 6
@@ -148,231 +136,220 @@ module _ (m : Memory) (tc : ℕ) (root : Root) (address code limit : ℕ) where
   unfolding walkFrom
   walks step ss table long f l = rw (lt-leb limit (f .levels) l)
 
+  -- ---- the level stop, and the next descriptor's place
   module _ (s : Walking030) (asked : List ℕ) (st : Stands s asked) where
-    aims-over : s .over ≡ true → Aims (rank s) s asked
-    aims-over o =
+    stops : atLimit limit s ≡ true → whole ≡ ended LevelStop (found s asked)
+    stops h = st .same ∙ go (s .target) refl (decLe limit (s .levels))
+      where
+        go : (t : Bool) → s .target ≡ t → Dec (limit ≤ s .levels) → rest s asked ≡ ended LevelStop (found s asked)
+        go true t l = absurd (clash (sym (rw t at h)))
+        go false t (yes l) = rw t (stop (ahead s) (s .table) (s .long) (found s asked) (st .some t) l)
+        go false t (no l) = absurd (clash (sym (rw (t, lt-leb limit (s .levels) (omega arith)) at h)))
+
+    aims-target : s .target ≡ true → Aims (rank s) s asked
+    aims-target t =
         record {
-          same = st .same ∙ rw o;
+          same = st .same ∙ rw t;
           count = st .count;
-          plain = λ e. absurd (clash (sym o ∙ e));
-          some = λ e. absurd (clash (sym o ∙ e));
+          plain = λ f. absurd (clash (sym t ∙ f));
           k≤ = st .k≤;
           consumed≤ = st .consumed≤;
           levels≤ = st .levels≤;
           asked≤ = st .asked≤;
         }
 
-    module _ (o : s .over ≡ false) where
-      aims-target : s .target ≡ true → Aims (rank s) s asked
-      aims-target t =
+    module _ (t : s .target ≡ false) (l : s .levels < limit) where
+      walking : whole ≡ walkFrom m limit (ahead s) (s .table) (s .long) (found s asked)
+      walking = st .same ∙ rw t
+
+      rank-is : rank s ≡ suc (length (ahead s))
+      rank-is = rw t
+
+      -- at a level's descriptor, by its index
+      aims-at : (b : Bool) (index consumed k : ℕ) → b ≡ false → ahead s ≡ record { index = index; consumed = consumed } ∷ steps address consumed (drop k us)
+          → k ≤ length us → consumed ≤ 15 + 15 * k → Aims (rank s) (aimedOf s b consumed k (entryOf (s .table) index (s .long))) asked
+      aims-at b index consumed k eb es hk hc =
+          let at = entryOf (s .table) index (s .long) in
+          let ss = steps address consumed (drop k us) in
           record {
-            same = st .same ∙ rw (o, t);
+            same = rw t
+                (walking ∙ ap (λ (l : List Step). walkFrom m limit l (s .table) (s .long) (found s asked)) es
+                ∙ walks (record { index = index; consumed = consumed }) ss (s .table) (s .long) (found s asked) l
+                ∙ level-last m consumed at at (found s asked) ss (λ t l g. walkFrom m limit ss t l g) (readOf m at (s .long)));
             count = st .count;
-            plain = λ e f. absurd (clash (sym t ∙ f));
-            some = λ e. rw (o, t) (omega arith);
-            k≤ = st .k≤;
-            consumed≤ = st .consumed≤;
+            plain = λ f. (eb, omega (arith, rank-is, ap length es));
+            k≤ = hk;
+            consumed≤ = hc;
             levels≤ = st .levels≤;
             asked≤ = st .asked≤;
           }
 
-      module _ (t : s .target ≡ false) where
-        walking : whole ≡ walkFrom m limit (ahead s) (s .table) (s .long) (found s asked)
-        walking = st .same ∙ rw (o, t)
+      aims-code : s .coded ≡ true → Aims (rank s) (aimedOf s false (s .consumed) (s .k) (entryOf (s .table) code (s .long))) asked
+      aims-code c = aims-at false code (s .consumed) (s .k) refl (rw c) (st .k≤) (st .consumed≤)
 
-        rank-is : rank s ≡ suc (length (ahead s))
-        rank-is = rw (o, t)
+      module _ (c : s .coded ≡ false) where
+        width-left : s .k < length us
+        width-left = let h = rw c at (st .some t) in omega (arith, later-length s)
 
-        aims-stop : limit ≤ s .levels → Aims (rank s) (endedOf s LevelStop (s .wp) (s .sup) (s .levels) (s .asked)) asked
-        aims-stop l =
-            record {
-              same = walking ∙ stop (ahead s) (s .table) (s .long) (found s asked) (st .some o t) l;
-              count = st .count;
-              plain = λ e. absurd (clash e);
-              some = λ e. absurd (clash e);
-              k≤ = st .k≤;
-              consumed≤ = st .consumed≤;
-              levels≤ = st .levels≤;
-              asked≤ = st .asked≤;
-            }
+        aims-width : Aims (rank s) (aimedOf s (s .coded) (s .consumed + getD (widthsOf tc) (s .k) 0) (nextK (s .k))
+            (entryOf (s .table) (topIndex address (s .consumed) (getD (widthsOf tc) (s .k) 0)) (s .long))) asked
+        aims-width =
+            let h : s .k < length us = width-left in
+            let next : nextK (s .k) ≡ s .k + 1 = rw (lt-ltb (s .k) 4 (omega (arith, widths-few tc))) in
+            aims-at (s .coded) (topIndex address (s .consumed) (getD (widthsOf tc) (s .k) 0)) (s .consumed + getD (widthsOf tc) (s .k) 0) (nextK (s .k)) c
+            (rw (c, next, add-one, drop-cons us (s .k) 0, used-at (widthsOf tc) (s .k) h .0)) (omega arith)
+            (omega (arith, st .consumed≤, width-small tc (s .k)))
 
-        -- at a level's descriptor, by its index
-        module _ (l : s .levels < limit) where
-          aims-at : (b : Bool) (index consumed k : ℕ) → b ≡ false → ahead s ≡ record { index = index; consumed = consumed } ∷ steps address consumed (drop k us)
-              → k ≤ length us → consumed ≤ 15 + 15 * k → Aims (rank s) (aimedOf s b consumed k (entryOf (s .table) index (s .long))) asked
-          aims-at b index consumed k eb es hk hc =
-              let at = entryOf (s .table) index (s .long) in
-              let ss = steps address consumed (drop k us) in
-              record {
-                same = rw (o, t)
-                    (walking ∙ ap (λ (l : List Step). walkFrom m limit l (s .table) (s .long) (found s asked)) es
-                    ∙ walks (record { index = index; consumed = consumed }) ss (s .table) (s .long) (found s asked) l
-                    ∙ level-last m consumed at at (found s asked) ss (λ t l g. walkFrom m limit ss t l g) (readOf m at (s .long)));
-                count = st .count;
-                plain = λ e f. (eb, omega (arith, rank-is, ap length es));
-                some = λ e. rw rank-is (omega arith);
-                k≤ = hk;
-                consumed≤ = hc;
-                levels≤ = st .levels≤;
-                asked≤ = st .asked≤;
-              }
-
-          aims-code : s .coded ≡ true → Aims (rank s) (aimedOf s false (s .consumed) (s .k) (entryOf (s .table) code (s .long))) asked
-          aims-code c = aims-at false code (s .consumed) (s .k) refl (rw c) (st .k≤) (st .consumed≤)
-
-          module _ (c : s .coded ≡ false) where
-            width-left : s .k < length us
-            width-left = let h = rw c at (st .some o t) in omega (arith, later-length s)
-
-            aims-width : Aims (rank s) (aimedOf s (s .coded) (s .consumed + getD (widthsOf tc) (s .k) 0) (nextK (s .k))
-                (entryOf (s .table) (topIndex address (s .consumed) (getD (widthsOf tc) (s .k) 0)) (s .long))) asked
-            aims-width =
-                let h : s .k < length us = width-left in
-                let next : nextK (s .k) ≡ s .k + 1 = rw (lt-ltb (s .k) 4 (omega (arith, widths-few tc))) in
-                aims-at (s .coded) (topIndex address (s .consumed) (getD (widthsOf tc) (s .k) 0)) (s .consumed + getD (widthsOf tc) (s .k) 0) (nextK (s .k)) c
-                (rw (c, next, add-one, drop-cons us (s .k) 0, used-at (widthsOf tc) (s .k) h .0)) (omega arith)
-                (omega (arith, st .consumed≤, width-small tc (s .k)))
-
-  aimed : (s : Walking030) (asked : List ℕ) → Stands s asked → Aims (rank s) (aimOf (widthsOf tc) address code limit s) asked
-  aimed s asked st = go (s .over) refl (s .target) refl (decLe limit (s .levels)) (s .coded) refl
-    where
-      by : {s₁ s₂ : Walking030} → s₁ ≡ s₂ → Aims (rank s) s₁ asked → Aims (rank s) s₂ asked
-      by e a = rw (← e) a
-
-      go : (a : Bool) → s .over ≡ a → (b : Bool) → s .target ≡ b → Dec (limit ≤ s .levels) → (c : Bool) → s .coded ≡ c
-          → Aims (rank s) (aimOf (widthsOf tc) address code limit s) asked
-      go true o b t l c e = by (aim.over (widthsOf tc) address code limit s o) (aims-over s asked st o)
-      go false o true t l c e = by (aim.target (widthsOf tc) address code limit s o t) (aims-target s asked st o t)
-      go false o false t (yes l) c e = by (aim.stop (widthsOf tc) address code limit s o t l refl) (aims-stop s asked st o t l)
-      go false o false t (no l) true e =
-          by (aim.by-code (widthsOf tc) address code limit s o t (omega arith) e refl) (aims-code s asked st o t (omega arith) e)
-      go false o false t (no l) false e =
-          by (aim.by-width (widthsOf tc) address code limit s o t (omega arith) e refl refl refl refl) (aims-width s asked st o t (omega arith) e)
-
-  -- ---- what a descriptor decides
-  -- the state s goes on to the outcome o, from the state `before` and with less than r left
-  record Goes (before : Walking030) (r : ℕ) (o : Outcome) (n : ℕ) (asked : List ℕ) (s : Walking030) : Type 0 where
-    pub same : o ≡ rest s asked
-    pub count : s .asked ≡ n
-    pub some : s .over ≡ false → s .target ≡ false → 0 < length (ahead s)
-    pub less : rank s < r
-    pub depth : s .levels ≤ before .levels + 1
-    pub k-is : s .k ≡ before .k
-    pub consumed-is : s .consumed ≡ before .consumed
-
-  module _ (s : Walking030) (r n : ℕ) (asked : List ℕ) where
-    carried : {o o′ : Outcome} {s₁ s₂ : Walking030} → o ≡ o′ → s₁ ≡ s₂ → Goes s r o′ n asked s₁ → Goes s r o n asked s₂
-    carried eo es g = rw (eo, ← es) g
-
-    either : (b : Bool) {o o′ : Outcome} {s₁ s₂ : Walking030} → Goes s r o n asked s₁ → Goes s r o′ n asked s₂
-        → Goes s r (if b then o else o′) n asked (if b then s₁ else s₂)
-    either true g g′ = g
-    either false g g′ = g′
-
-    ends-so : (e : End) (wp sup : Bool) (levels : ℕ) → levels ≤ s .levels + 1 → 0 < r
-        → Goes s r (ended e (found (endedOf s e wp sup levels n) asked)) n asked (endedOf s e wp sup levels n)
-    ends-so e wp sup levels l h =
-        record { same = refl; count = refl; some = λ x. absurd (clash x); less = h; depth = l; k-is = refl; consumed-is = refl }
-
-  module _ (r : ℕ) (s : Walking030) (asked : List ℕ) (a : Aims r s asked) (o : s .over ≡ false) where
-    -- with x longs more
-    abbrev So : ℕ → Outcome → Walking030 → Type 0
-    So x out s₂ = Goes s r out (s .asked + x) (asked ++ longsAt (s .last) x) s₂
-
-    ends : (x : ℕ) (e : End) (wp sup : Bool) (levels : ℕ) → levels ≤ s .levels + 1
-        → So x (ended e (found (endedOf s e wp sup levels (s .asked + x)) (asked ++ longsAt (s .last) x))) (endedOf s e wp sup levels (s .asked + x))
-    ends x e wp sup levels l = ends-so s r (s .asked + x) (asked ++ longsAt (s .last) x) e wp sup levels l (a .some o)
-
-    took-lost : (at x : ℕ) → So x (onward s asked (Lost at x)) (tookOf (length us) s (Lost at x))
-    unfolding tookOf
-    took-lost at x = carried s r (s .asked + x) (asked ++ longsAt (s .last) x) (rw o (if-same (s .target))) refl (ends x (BusError at) (s .wp) (s .sup) (s .levels) (omega arith))
-
-    module _ (kind field x : ℕ) (wp sup : Bool) where
-      took-target : s .target ≡ true → So x (onward s asked (Whole kind field wp sup x)) (tookOf (length us) s (Whole kind field wp sup x))
-      unfolding tookOf
-      took-target t =
-          carried s r (s .asked + x) (asked ++ longsAt (s .last) x) (rw (o, t)) (rw t)
-          (ends x (targetEnd kind field (s .consumed)) (s .wp || wp) (s .sup || sup) (s .levels) (omega arith))
-
-      module _ (t : s .target ≡ false) where
-        -- after this descriptor
-        abbrev after : Found
-        after = deeper (asking (s .last) x (found s asked))
-
-        to-target : s .k ≡ length us → So x (onTable m (s .consumed) kind field wp sup after (later s) (λ t l f. walkFrom m limit (later s) t l f))
-            (onwardOf s true (s .table) (eqb kind 3) (s .wp) (s .sup) (s .levels + 1) (s .asked + x) (field / 4 * 4))
-        to-target e =
-            record {
-              same = rw (drop-of-length-le us {i = s .k} (omega arith)) (target-last (s .consumed) (field / 4 * 4) (field / 4 * 4) after (readOf m (field / 4 * 4) (eqb kind 3)));
-              count = refl;
-              some = λ h k. absurd (clash k);
-              less = omega (arith, a .plain o t .1);
-              depth = omega arith;
-              k-is = refl;
-              consumed-is = refl;
-            }
-
-        to-table : (s .k ≡ length us → ⊥) → So x (onTable m (s .consumed) kind field wp sup after (later s) (λ t l f. walkFrom m limit (later s) t l f))
-            (onwardOf s false (field / 16 * 16) (eqb kind 3) (s .wp || wp) (s .sup || sup) (s .levels + 1) (s .asked + x) (s .last))
-        to-table e =
-            let c = a .plain o t .0 in
-            let h : 0 < length (later s) = omega (arith, later-length s, a .k≤) in
-            record {
-              same = rw c (go (later s) h);
-              count = refl;
-              some = λ h′ k. rw c h;
-              less = rw c (a .plain o t .1);
-              depth = omega arith;
-              k-is = refl;
-              consumed-is = refl;
-            }
-          where
-            go : (ss : List Step) → 0 < length ss
-                → onTable m (s .consumed) kind field wp sup after ss (λ t l f. walkFrom m limit ss t l f) ≡ walkFrom m limit ss (field / 16 * 16) (eqb kind 3) (guarded wp sup after)
-            go [] h = absurd (omega arith)
-            go (step ∷ ss) h = refl
-
-        by-table : (b : Bool) → eqb (s .k) (length us) ≡ b → So x (onTable m (s .consumed) kind field wp sup after (later s) (λ t l f. walkFrom m limit (later s) t l f))
-            (if b
-            then onwardOf s true (s .table) (eqb kind 3) (s .wp) (s .sup) (s .levels + 1) (s .asked + x) (field / 4 * 4)
-            else onwardOf s false (field / 16 * 16) (eqb kind 3) (s .wp || wp) (s .sup || sup) (s .levels + 1) (s .asked + x) (s .last))
-        by-table true e = to-target (eqb-true (s .k) (length us) e)
-        by-table false e = to-table (eqb-false (s .k) (length us) e)
-
-        took-level : So x (onward s asked (Whole kind field wp sup x)) (tookOf (length us) s (Whole kind field wp sup x))
-        unfolding tookOf atLevel
-        took-level =
-            let n = s .asked + x in
-            let l = asked ++ longsAt (s .last) x in
-            carried s r n l (rw (o, t)) (rw t)
-            (either s r n l (eqb kind 1) (ends x (Page field (s .consumed)) (s .wp || wp) (s .sup || sup) (s .levels + 1) (omega arith))
-            (either s r n l (ltb kind 2) (ends x (Invalid false) (s .wp) (s .sup) (s .levels + 1) (omega arith)) (by-table (eqb (s .k) (length us)) refl)))
-
-    took : (d : Descriptor) → So (askedOf d) (onward s asked d) (tookOf (length us) s d)
-    took (Lost at x) = took-lost at x
-    took (Whole kind field wp sup x) = go (s .target) refl
+    aimed : atLimit limit s ≡ false → Aims (rank s) (aimOf (widthsOf tc) address code s) asked
+    aimed h = go (s .target) refl (decLe limit (s .levels)) (s .coded) refl
       where
-        go : (t : Bool) → s .target ≡ t → So x (onward s asked (Whole kind field wp sup x)) (tookOf (length us) s (Whole kind field wp sup x))
-        go true t = took-target kind field x wp sup t
-        go false t = took-level kind field x wp sup t
+        by : {s₁ s₂ : Walking030} → s₁ ≡ s₂ → Aims (rank s) s₁ asked → Aims (rank s) s₂ asked
+        by e a = rw (← e) a
 
-    -- the turn's end
-    turns : {s₂ : Walking030} → s₂ ≡ tookOf (length us) s (readOf m (s .last) (s .long)) → Stands s₂ (grown s asked) × (rank s₂ < r)
-    turns {s₂} e =
-        let d = readOf m (s .last) (s .long) in
-        let g : So (askedOf d) (onward s asked d) s₂ = rw e (took d) in
-        let few = read-few m (s .last) (s .long) in (
-          record {
-            same = a .same ∙ g .same;
-            count = omega (arith, length-append asked (longsAt (s .last) (askedOf d)), longs-length (s .last) (askedOf d), a .count, g .count);
-            some = g .some;
-            k≤ = omega (arith, a .k≤, g .k-is);
-            consumed≤ = rw (g .k-is, g .consumed-is) (a .consumed≤);
-            levels≤ = omega (arith, a .levels≤, g .depth, g .less);
-            asked≤ = omega (arith, a .asked≤, g .count, g .less, few);
-          },
-          g .less,
-        )
+        go : (b : Bool) → s .target ≡ b → Dec (limit ≤ s .levels) → (c : Bool) → s .coded ≡ c → Aims (rank s) (aimOf (widthsOf tc) address code s) asked
+        go true t l c e = by (aim.target (widthsOf tc) address code s t) (aims-target t)
+        go false t (yes l) c e = absurd (clash (rw (t, le-leb limit (s .levels) l) at h))
+        go false t (no l) true e = by (aim.by-code (widthsOf tc) address code s t e refl) (aims-code t (omega arith) e)
+        go false t (no l) false e = by (aim.by-width (widthsOf tc) address code s t e refl refl refl refl) (aims-width t (omega arith) e)
+
+  -- ---- what a descriptor decides, where s holds what was found with it
+  abbrev decided : Walking030 → List ℕ → ℕ → ℕ → Outcome
+  decided s asked kind field =
+      if eqb kind 1
+      then ended (Page field (s .consumed)) (found s asked)
+      else if byKind kind true false (s .target) then ended (Invalid (s .target)) (found s asked) else rest (onwardOf (length us) s kind field) asked
+
+  lost : (s : Walking030) (asked : List ℕ) (at x : ℕ)
+      → onward s asked (Lost at x) ≡ ended (BusError at) (found (seenOf (length us) s (Lost at x)) (asked ++ longsAt (s .last) x))
+  unfolding seenOf
+  lost s asked at x = go (s .target)
+    where
+      go : (t : Bool) → (if t then ended (BusError at) (asking (s .last) x (found s asked)) else ended (BusError at) (asking (s .last) x (found s asked)))
+          ≡ ended (BusError at) (asking (s .last) x (found s asked))
+      go true = refl
+      go false = refl
+
+  module _ (r : ℕ) (s : Walking030) (asked : List ℕ) (a : Aims r s asked) (kind field x : ℕ) (wp sup : Bool) where
+    -- with the descriptor, and with the longs asked for it
+    abbrev with-it : Walking030
+    with-it = seenOf (length us) s (Whole kind field wp sup x)
+
+    abbrev grown : List ℕ
+    grown = asked ++ longsAt (s .last) x
+
+    abbrev held : Bool → Bool → ℕ → Walking030
+    held w p n = heldOf s w p n (s .asked + x)
+
+    decides-target : s .target ≡ true → onward s asked (Whole kind field wp sup x) ≡ decided with-it grown kind field
+    unfolding seenOf
+    decides-target t = rw t (go (eqb kind 1) (ltb kind 2) (asking (s .last) x (found s asked)) _)
+      where
+        go : (b c : Bool) (f : Found) (o : Outcome)
+            → ended (if b then Page field (s .consumed) else Invalid true) (guarded wp sup f)
+            ≡ (if b then ended (Page field (s .consumed)) (guarded wp sup f) else if (if b then false else if c then true else true) then ended (Invalid true) (guarded wp sup f) else o)
+        go true c f o = refl
+        go false true f o = refl
+        go false false f o = refl
+
+    module _ (t : s .target ≡ false) where
+      -- after this descriptor
+      abbrev after : Found
+      after = deeper (asking (s .last) x (found s asked))
+
+      abbrev table-next : Outcome
+      table-next = onTable m (s .consumed) kind field wp sup after (later s) (λ t l f. walkFrom m limit (later s) t l f)
+
+      to-target : s .k ≡ length us → table-next ≡ rest (toTarget (held (s .wp) (s .sup) (s .levels + 1)) kind field) grown
+      to-target e =
+          rw (drop-of-length-le us {i = s .k} (omega arith)) (target-last (s .consumed) (field / 4 * 4) (field / 4 * 4) after (readOf m (field / 4 * 4) (eqb kind 3)))
+
+      some-later : (s .k ≡ length us → ⊥) → 0 < length (later s)
+      some-later e = omega (arith, later-length s, a .k≤)
+
+      to-table : (s .k ≡ length us → ⊥) → table-next ≡ walkFrom m limit (later s) (field / 16 * 16) (eqb kind 3) (guarded wp sup after)
+      to-table e = go (later s) (some-later e)
+        where
+          go : (ss : List Step) → 0 < length ss
+              → onTable m (s .consumed) kind field wp sup after ss (λ t l f. walkFrom m limit ss t l f) ≡ walkFrom m limit ss (field / 16 * 16) (eqb kind 3) (guarded wp sup after)
+          go [] h = absurd (omega arith)
+          go (step ∷ ss) h = refl
+
+      -- with its WP and S, or without
+      adding : addsOf (length us) s kind ≡ true → with-it ≡ held (s .wp || wp) (s .sup || sup) (s .levels + 1)
+      unfolding seenOf
+      adding e = rw (e, t)
+
+      keeping : addsOf (length us) s kind ≡ false → with-it ≡ held (s .wp) (s .sup) (s .levels + 1)
+      unfolding seenOf
+      keeping e = rw (e, t, or-false (s .wp), or-false (s .sup))
+
+      decides-level : onward s asked (Whole kind field wp sup x) ≡ decided with-it grown kind field
+      decides-level = go (eqb kind 1) refl (ltb kind 2) refl (eqb (s .k) (length us)) refl
+        where
+          go : (b : Bool) → eqb kind 1 ≡ b → (c : Bool) → ltb kind 2 ≡ c → (e : Bool) → eqb (s .k) (length us) ≡ e
+              → onward s asked (Whole kind field wp sup x) ≡ decided with-it grown kind field
+          go true hb c hc e he = rw (adding (rw (t, hb)), t, hb)
+          go false hb true hc e he = rw (keeping (rw (t, hb, hc)), t, hb, hc)
+          go false hb false hc true he = rw (keeping (rw (t, hb, hc, he)), t, hb, hc, he) (to-target (eqb-true (s .k) (length us) he))
+          go false hb false hc false he = rw (adding (rw (t, hb, hc, he)), t, hb, hc, he, a .plain t .0) (to-table (eqb-false (s .k) (length us) he))
+
+      -- the walk goes on
+      goes-on : x ≤ 2 → whole ≡ rest (onwardOf (length us) with-it kind field) grown
+          → Stands (onwardOf (length us) with-it kind field) grown × (rank (onwardOf (length us) with-it kind field) < r)
+      unfolding seenOf
+      goes-on few e = go (eqb (s .k) (length us)) refl e
+        where
+          count : length grown ≡ s .asked + x
+          count = omega (arith, length-append asked (longsAt (s .last) x), longs-length (s .last) x, a .count)
+
+          deep : levelsOf s ≡ s .levels + 1
+          deep = rw t
+
+          go : (b : Bool) → eqb (s .k) (length us) ≡ b → whole ≡ rest (if b then toTarget with-it kind field else toTable with-it kind field) grown
+              → Stands (if b then toTarget with-it kind field else toTable with-it kind field) grown
+              × (rank (if b then toTarget with-it kind field else toTable with-it kind field) < r)
+          go true h same = (
+            record {
+              same = same;
+              count = count;
+              some = λ f. absurd (clash f);
+              k≤ = a .k≤;
+              consumed≤ = a .consumed≤;
+              levels≤ = omega (arith, deep, a .levels≤, a .plain t .1);
+              asked≤ = omega (arith, few, a .asked≤, a .plain t .1);
+            },
+            omega (arith, a .plain t .1),
+          )
+          go false h same =
+              let left : rank (toTable with-it kind field) ≡ suc (length (later s)) = rw (t, a .plain t .0) in (
+                record {
+                  same = same;
+                  count = count;
+                  some = λ f. rw (a .plain t .0) (some-later (eqb-false (s .k) (length us) h));
+                  k≤ = a .k≤;
+                  consumed≤ = a .consumed≤;
+                  levels≤ = omega (arith, deep, left, a .levels≤, a .plain t .1);
+                  asked≤ = omega (arith, few, left, a .asked≤, a .plain t .1);
+                },
+                omega (arith, left, a .plain t .1),
+              )
+
+    decides : onward s asked (Whole kind field wp sup x) ≡ decided with-it grown kind field
+    decides = go (s .target) refl
+      where
+        go : (t : Bool) → s .target ≡ t → onward s asked (Whole kind field wp sup x) ≡ decided with-it grown kind field
+        go true t = decides-target t
+        go false t = decides-level t
+
+  seen-asked : (n : ℕ) (s : Walking030) (d : Descriptor) → seenOf n s d .asked ≡ s .asked + askedOf d
+  unfolding seenOf
+  seen-asked n s (Whole kind field wp sup x) = refl
+  seen-asked n s (Lost at x) = refl
+
+  seen-target : (n : ℕ) (s : Walking030) (d : Descriptor) → seenOf n s d .target ≡ s .target
+  unfolding seenOf
+  seen-target n s (Whole kind field wp sup x) = refl
+  seen-target n s (Lost at x) = refl
 
   -- ---- where it begins
   config : (ss : List Step) (b : Bool)
@@ -403,22 +380,13 @@ module _ (m : Memory) (tc : ℕ) (root : Root) (address code limit : ℕ) where
   few-levels true consumed = omega (arith, steps-length address consumed us, widths-few tc)
   few-levels false consumed = omega (arith, steps-length address consumed us, widths-few tc)
 
-  rank-few : (s : Walking030) → rank s ≤ suc (length (ahead s))
-  rank-few s = go (s .over) (s .target)
-    where
-      go : (o t : Bool) → (if o then 0 else if t then 1 else suc (length (ahead s))) ≤ suc (length (ahead s))
-      go true t = omega arith
-      go false true = omega arith
-      go false false = omega arith
-
-  begun : Stands (beginOf tc root (length us)) []
-  begun =
+  begun : noWalk (root .limit % 4) (length us) (bitOf tc 24) ≡ false → Stands (beginOf tc root) []
+  begun h =
       let few = few-levels (bitOf tc 24) (isOf tc) in
-      let small = rank-few (beginOf tc root (length us)) in
       record {
-        same = begins (bitOf tc 24) (isOf tc) us;
+        same = begins (bitOf tc 24) (isOf tc) us ∙ rw h;
         count = refl;
-        some = λ o t. some-level (bitOf tc 24) (isOf tc) us o;
+        some = λ t. some-level (bitOf tc 24) (isOf tc) us h;
         k≤ = omega arith;
         consumed≤ = omega arith;
         levels≤ = omega arith;
@@ -438,45 +406,126 @@ module _ (m : Memory) (tc : ℕ) (root : Root) (address code limit : ℕ) where
   abbrev pub left : Turn → ℕ
   left t = rank (t .s)
 
-  module _ {ws : List ℕ} (ew : ws ≡ widthsOf tc) {n : ℕ} (en : n ≡ length (used ws)) {s : Walking030} (es : s ≡ beginOf tc root n) where
+  module _ {ws : List ℕ} (ew : ws ≡ widthsOf tc) {n : ℕ} (en : n ≡ length (used ws)) {b : Bool} (eb : b ≡ noWalk (root .limit % 4) n (bitOf tc 24)) where
     pub begin-n : n ≡ length us
     begin-n = en ∙ ap (λ (l : List ℕ). length (used l)) ew
 
-    pub begin-stands : Stands s []
-    begin-stands = subst (λ (s : Walking030). Stands s []) (sym (es ∙ rw begin-n)) begun
+    no-walk : b ≡ noWalk (root .limit % 4) (length us) (bitOf tc 24)
+    no-walk = eb ∙ ap (λ (n : ℕ). noWalk (root .limit % 4) n (bitOf tc 24)) begin-n
 
-    abbrev pub begin : Turn
-    begin = record { ws = ws; n = n; s = s; asked = []; ws-is = ew; n-is = begin-n; stands = begin-stands }
+    -- the way out at a configuration fault
+    pub ends-config : T b → {w : Walked} → w ≡ misconfiguredOf root → w ≡ shown whole
+    ends-config h e =
+        let c : whole ≡ ended Config (start (root .address)) = begins (bitOf tc 24) (isOf tc) us ∙ rw (sym no-walk ∙ T-true b h) in
+        e ∙ rw c
 
+    module _ (h : T (not b)) {s : Walking030} (es : s ≡ beginOf tc root) where
+      pub begin-stands : Stands s []
+      begin-stands = subst (λ (s : Walking030). Stands s []) (sym es) (begun (sym no-walk ∙ T-false b h))
+
+      abbrev pub begin : Turn
+      begin = record { ws = ws; n = n; s = s; asked = []; ws-is = ew; n-is = begin-n; stands = begin-stands }
+
+  -- the walk ends with what q holds
+  ended-so : (q : Walking030) (l : List ℕ) (e : End) → whole ≡ ended e (found q l) → length l ≡ q .asked → {x : End} → x ≡ e → {w : Walked} → w ≡ answered q x → w ≡ shown whole
+  ended-so q l e same count ex ew = ew ∙ rw (ex, ← count, same)
+
+  -- ---- a turn
   -- what `aim` asks
-  pub aim-asks : (t : Turn) → ((k : ℕ) → getD (t .ws) k 0 < 16) × (t .s .over ≡ false → t .s .target ≡ false → t .s .consumed < 1000)
-  aim-asks t = (λ k. rw (t .ws-is) (width-small tc k), λ o q. omega (arith, t .stands .consumed≤, t .stands .k≤, widths-few tc))
+  pub aim-asks : (t : Turn) → ((k : ℕ) → getD (t .ws) k 0 < 16) × (t .s .consumed < 1000)
+  aim-asks t = (λ k. rw (t .ws-is) (width-small tc k), omega (arith, t .stands .consumed≤, t .stands .k≤, widths-few tc))
 
-  module _ (t : Turn) {r : Walking030} (e : r ≡ aimOf (t .ws) address code limit (t .s)) {b : Bool} (eb : b ≡ r .over) where
-    pub aims : Aims (rank (t .s)) r (t .asked)
-    aims = subst (λ (s : Walking030). Aims (rank (t .s)) s (t .asked)) (sym (e ∙ rw (t .ws-is))) (aimed (t .s) (t .asked) (t .stands))
+  module _ (t : Turn) {b : Bool} (eb : b ≡ atLimit limit (t .s)) where
+    -- the way out at the level stop
+    pub ends-stop : T b → {w : Walked} → w ≡ answered (t .s) LevelStop → w ≡ shown whole
+    ends-stop h ew = ended-so (t .s) (t .asked) LevelStop (stops (t .s) (t .asked) (t .stands) (sym eb ∙ T-true b h)) (t .stands .count) refl ew
 
-    pub ends-at : T b → {x : End} → x ≡ r .end → {w : Walked} → w ≡ answered r x → w ≡ shown whole
-    ends-at h ex ew = ew ∙ rw (ex, ← aims .count, aims .same, sym eb ∙ T-true b h)
-
-    module _ (h : T (not b)) {w : ℕ} (ew : w ≡ r .last) {l : Bool} (el : l ≡ r .long) {d : Descriptor} (ed : d ≡ readOf m w l) where
-      pub goes : r .over ≡ false
-      goes = sym eb ∙ T-false b h
+    module _ (h : T (not b)) {r : Walking030} (e : r ≡ aimOf (t .ws) address code (t .s)) {w : ℕ} (ew : w ≡ r .last) {l : Bool} (el : l ≡ r .long) {d : Descriptor} (ed : d ≡ readOf m w l) where
+      aims : Aims (rank (t .s)) r (t .asked)
+      aims =
+          subst (λ (s : Walking030). Aims (rank (t .s)) s (t .asked)) (sym (e ∙ rw (t .ws-is)))
+          (aimed (t .s) (t .asked) (t .stands) (sym eb ∙ T-false b h))
 
       read : d ≡ readOf m (r .last) (r .long)
       read = ed ∙ rw (ew, el)
 
-      -- what `took` asks
-      pub took-asks : (r .target ≡ false → r .levels < 1000) × (r .asked < 1000) × (askedOf d < 1000)
-      took-asks =
-          (λ _. omega (arith, aims .levels≤), omega (arith, aims .asked≤), rw read (omega (arith, read-few m (r .last) (r .long))))
+      few : askedOf d ≤ 2
+      few = rw read (read-few m (r .last) (r .long))
 
-      module _ {r₂ : Walking030} (e₂ : r₂ ≡ tookOf (t .n) r d) where
-        pub turned : Stands r₂ (grown r (t .asked)) × (rank r₂ < rank (t .s))
-        turned = turns (rank (t .s)) r (t .asked) aims goes (e₂ ∙ rw (t .n-is, read))
+      -- what `seen` asks
+      pub seen-asks : (r .levels < 1000) × (r .asked < 1000) × (askedOf d < 1000)
+      seen-asks = (omega (arith, aims .levels≤), omega (arith, aims .asked≤), omega (arith, few))
 
-        pub less : rank r₂ < rank (t .s)
-        less = turned .1
+      reads : whole ≡ onward r (t .asked) d
+      reads = aims .same ∙ ap (onward r (t .asked)) (sym read)
 
-        abbrev pub next : Turn
-        next = record { ws = t .ws; n = t .n; s = r₂; asked = grown r (t .asked); ws-is = t .ws-is; n-is = t .n-is; stands = turned .0 }
+      module _ {q : Walking030} (eq : q ≡ seenOf (t .n) r d) where
+        seen-is : q ≡ seenOf (length us) r d
+        seen-is = eq ∙ ap (λ (n : ℕ). seenOf n r d) (t .n-is)
+
+        -- the longs asked for, with n for the descriptor
+        abbrev pub now : ℕ → List ℕ
+        now n = t .asked ++ longsAt (r .last) n
+
+        counts : (n : ℕ) → askedOf d ≡ n → length (now n) ≡ q .asked
+        counts n e =
+            omega (arith, length-append (t .asked) (longsAt (r .last) n), longs-length (r .last) n, aims .count, ap (λ (s : Walking030). s .asked) seen-is, seen-asked (length us) r d)
+
+        -- the way out at a bus error
+        pub ends-lost : {at n : ℕ} → d ≡ Lost at n → {a : Walked} → a ≡ answered q (BusError at) → a ≡ shown whole
+        ends-lost {at} {n} el ea =
+            ended-so q (now n) (BusError at)
+            (reads ∙ ap (onward r (t .asked)) el ∙ lost r (t .asked) at n
+            ∙ ap (λ (s : Walking030). ended (BusError at) (found s (now n))) (sym (seen-is ∙ ap (seenOf (length us) r) el)))
+            (counts n (ap askedOf el)) refl ea
+
+        module _ {kind field n : ℕ} {wp sup : Bool} (is-whole : d ≡ Whole kind field wp sup n) {p : Bool} (ep : p ≡ eqb kind 1) where
+          holds : q ≡ seenOf (length us) r (Whole kind field wp sup n)
+          holds = seen-is ∙ ap (seenOf (length us) r) is-whole
+
+          settles : whole ≡ decided q (now n) kind field
+          settles =
+              reads ∙ ap (onward r (t .asked)) is-whole ∙ decides (rank (t .s)) r (t .asked) aims kind field n wp sup
+              ∙ ap (λ (s : Walking030). decided s (now n) kind field) (sym holds)
+
+          -- the way out at a page
+          pub ends-page : T p → {c : ℕ} → c ≡ q .consumed → {a : Walked} → a ≡ answered q (Page field c) → a ≡ shown whole
+          ends-page hp ec ea = ended-so q (now n) (Page field (q .consumed)) (settles ∙ rw (sym ep ∙ T-true p hp)) (counts n (ap askedOf is-whole)) (rw ec) ea
+
+          module _ (hp : T (not p)) {i : Bool} (ei : i ≡ byKind kind true false (q .target)) where
+            -- the way out at an invalid descriptor
+            pub ends-invalid : T i → {c : Bool} → c ≡ q .target → {a : Walked} → a ≡ answered q (Invalid c) → a ≡ shown whole
+            ends-invalid hi ec ea =
+                ended-so q (now n) (Invalid (q .target)) (settles ∙ rw (sym ei ∙ T-true i hi, sym ep ∙ T-false p hp)) (counts n (ap askedOf is-whole)) (rw ec) ea
+
+            -- the walk goes on
+            module _ (hi : T (not i)) {r₂ : Walking030} (e₂ : r₂ ≡ onwardOf (t .n) q kind field) where
+              no-target : r .target ≡ false
+              no-target = sym (seen-target (length us) r d) ∙ ap (λ (s : Walking030). s .target) (sym seen-is) ∙ go (eqb kind 1) (sym ep ∙ T-false p hp) (ltb kind 2) (q .target) (sym ei ∙ T-false i hi)
+                where
+                  go : (a : Bool) → a ≡ false → (b c : Bool) → (if a then false else if b then true else c) ≡ false → c ≡ false
+                  go true f b c h = absurd (clash f)
+                  go false f true c h = absurd (clash h)
+                  go false f false c h = h
+
+              onward-is : r₂ ≡ onwardOf (length us) (seenOf (length us) r (Whole kind field wp sup n)) kind field
+              onward-is = e₂ ∙ ap (λ (n : ℕ). onwardOf n q kind field) (t .n-is) ∙ ap (λ (s : Walking030). onwardOf (length us) s kind field) holds
+
+              goes : whole ≡ rest r₂ (now n)
+              goes =
+                  settles ∙ rw (sym ei ∙ T-false i hi, sym ep ∙ T-false p hp)
+                  (ap (λ (s : Walking030). rest s (now n)) (sym (e₂ ∙ ap (λ (n : ℕ). onwardOf n q kind field) (t .n-is))))
+
+              turned : Stands r₂ (now n) × (rank r₂ < rank (t .s))
+              turned =
+                  subst (λ (s : Walking030). Stands s (now n) × (rank s < rank (t .s))) (sym onward-is)
+                  (goes-on (rank (t .s)) r (t .asked) aims kind field n wp sup no-target (subst (λ (k : ℕ). k ≤ 2) (ap askedOf is-whole) few) (goes ∙ ap (λ (s : Walking030). rest s (now n)) onward-is))
+
+              pub next-stands : Stands r₂ (now n)
+              next-stands = turned .0
+
+              pub less : rank r₂ < rank (t .s)
+              less = turned .1
+
+              abbrev pub next : Turn
+              next = record { ws = t .ws; n = t .n; s = r₂; asked = now n; ws-is = t .ws-is; n-is = t .n-is; stands = next-stands }

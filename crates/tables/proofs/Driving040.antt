@@ -1,26 +1,28 @@
--- The loop of `walk_040`: what is known where a walk stands between two longs, and that a turn keeps it. Assumes nothing.
+-- The loop of `walk_040`: what is known where a walk stands before a long, that each way out gives the definition's outcome, and that a turn that goes on keeps it. Assumes nothing.
 use Prim.Native.Nat.{ℕ, _+_, _*_, _/_, _%_, _≤_, _<_}
 use mathlib.Core.Path.{_≡_, refl, ap, sym, _∙_}
 use mathlib.Core.List.{List, [], _∷_, _++_}
 use mathlib.Core.Bool.{Bool, true, false, not, _||_}
 use native.Mathlib.Omega.{arith}
+use borrow.Author.Tests.{eqb-true}
 use lib.Dec.{T, ltb, eqb}
 use lib.ListN.{length, length-append}
 use Rattle.definition.specs.Words.{if_then_else_, bitOf}
 use Rattle.definition.specs.Memory.{Memory, fetchOf}
-use Rattle.definition.specs.Walk040.{Outcome040, ended040, onLong, asks, pointerAt, pageAt, onPage, onEntry}
+use Rattle.definition.specs.Walk040.{Outcome040, ended040, asks, pointerAt, pageAt, onPage, onEntry}
 use Rattle.definition.specs.declared.Fetched.{Fetched}
 use Rattle.definition.specs.declared.Fetched.the-variants.{Long, Failed}
 use Rattle.definition.specs.declared.End040.{End040}
-use Rattle.definition.specs.declared.End040.the-variants.{Absent, Lost}
+use Rattle.definition.specs.declared.End040.the-variants.{Resident, Absent, Lost}
+use Rattle.definition.specs.declared.FaultCause.{FaultCause}
 use Rattle.definition.specs.declared.FaultCause.the-variants as cause
 use Rattle.tables.specs.Walked.{shown040, walk040From}
-use Rattle.tables.specs.Machine040.{onward040, over040, begin040, decidedOf, took040, answered040}
+use Rattle.tables.specs.Machine040.{begin040, invalid040, missing040, page040, next040, answered040}
 use Rattle.tables.specs.declared.Level.{Level}
 use Rattle.tables.specs.declared.Level.the-variants as level
 use Rattle.tables.specs.declared.Walked040.{Walked040}
 use Rattle.tables.specs.declared.Walking040.{Walking040}
-use Rattle.tables.proofs.Lemmas.{T-true, T-false}
+use Rattle.tables.proofs.Lemmas.{T-true, T-false, clash}
 
 -- how many longs can still be asked for
 abbrev pub depth : Level → ℕ
@@ -29,8 +31,9 @@ depth level.Pointer = 3
 depth level.Page = 2
 depth level.Target = 1
 
-abbrev pub rank : Walking040 → ℕ
-rank s = if s .over then 0 else depth (s .level)
+-- a page, with W of the levels above it
+abbrev resident : Bool → ℕ → End040
+resident wp page = Resident page (wp || bitOf page 2) (bitOf page 7)
 
 module _ (m : Memory) (tc first address : ℕ) where
   -- what the definition makes of a level's long, with W of the levels above it
@@ -51,47 +54,57 @@ module _ (m : Memory) (tc first address : ℕ) where
 
   -- the walk from here, after the longs asked for before
   abbrev pub rest : Walking040 → List ℕ → Outcome040
-  rest s before = if s .over then ended040 (s .end) before else asks m (s .at) before (onLevel (s .level) (s .wp))
-
-  -- s goes on to the outcome o with n longs asked for, and with fewer than d to ask for
-  pub record Follows (o : Outcome040) (d n : ℕ) (asked : List ℕ) (s : Walking040) : Type 0 where
-    pub same : o ≡ rest s asked
-    pub less : rank s < d
-    pub count : s .asked ≡ n
-
-  module _ (d n : ℕ) (asked : List ℕ) where
-    either : (b : Bool) {o o′ : Outcome040} {s s′ : Walking040} → Follows o d n asked s → Follows o′ d n asked s′
-        → Follows (if b then o else o′) d n asked (if b then s else s′)
-    either true f f′ = f
-    either false f f′ = f′
-
-    ends-so : (e : End040) → 0 < d → Follows (ended040 e asked) d n asked (over040 e n)
-    ends-so e h = record { same = refl; less = h; count = refl }
-
-    goes-on : (l : Level) (wp : Bool) (at : ℕ) → depth l < d → Follows (asks m at asked (onLevel l wp)) d n asked (onward040 l wp at n)
-    goes-on l wp at h = record { same = refl; less = h; count = refl }
+  rest s before = asks m (s .at) before (onLevel (s .level) (s .wp))
 
   -- what a long decides is what the definition makes of it
-  decided : (l : Level) (wp : Bool) (x n : ℕ) (asked : List ℕ) → Follows (onLevel l wp x asked) (depth l) n asked (decidedOf tc address l wp x n)
-  unfolding decidedOf
-  decided level.Root wp x n asked =
-      either 4 n asked (ltb (x % 4) 2) (ends-so 4 n asked _ (omega arith)) (goes-on 4 n asked level.Pointer (wp || bitOf x 2) (pointerAt x address) (omega arith))
-  decided level.Pointer wp x n asked =
-      either 3 n asked (ltb (x % 4) 2) (ends-so 3 n asked _ (omega arith)) (goes-on 3 n asked level.Page (wp || bitOf x 2) (pageAt tc x address) (omega arith))
-  decided level.Page wp x n asked =
-      either 2 n asked (eqb (x % 4) 2) (goes-on 2 n asked level.Target wp (x / 4 * 4) (omega arith)) (ends-so 2 n asked _ (omega arith))
-  decided level.Target wp x n asked = ends-so 1 n asked _ (omega arith)
+  abbrev Decides : Level → Bool → ℕ → ℕ → List ℕ → Type 0
+  Decides l wp x n asked =
+      onLevel l wp x asked
+      ≡ (if invalid040 l x
+      then ended040 (Absent (missing040 l)) asked
+      else if page040 l x then ended040 (resident wp x) asked else rest (next040 tc address l wp x n) asked)
 
-  some-depth : (l : Level) → 0 < depth l
-  some-depth level.Root = omega arith
-  some-depth level.Pointer = omega arith
-  some-depth level.Page = omega arith
-  some-depth level.Target = omega arith
+  decides-target : (wp : Bool) (x n : ℕ) (asked : List ℕ) → Decides level.Target wp x n asked
+  decides-target wp x n asked = go (eqb (x % 4) 0)
+    where
+      go : (b : Bool) → ended040 (if b then Absent cause.Indirect else resident wp x) asked
+          ≡ (if b then ended040 (Absent cause.Indirect) asked else ended040 (resident wp x) asked)
+      go true = refl
+      go false = refl
 
-  took-by : (s : Walking040) (before : List ℕ) (f : Fetched)
-      → Follows (onLong (s .at) before (onLevel (s .level) (s .wp)) f) (depth (s .level)) (s .asked + 1) (before ++ (s .at ∷ [])) (took040 tc address s f)
-  took-by s before Failed = ends-so (depth (s .level)) (s .asked + 1) (before ++ (s .at ∷ [])) (Lost (s .at)) (some-depth (s .level))
-  took-by s before (Long x) = decided (s .level) (s .wp) x (s .asked + 1) (before ++ (s .at ∷ []))
+  decides-page : (wp : Bool) (x n : ℕ) (asked : List ℕ) → Decides level.Page wp x n asked
+  unfolding next040
+  decides-page wp x n asked = go (asks m (x / 4 * 4) asked (λ y ys. onPage wp cause.Indirect y ys)) (eqb (x % 4) 0) refl (eqb (x % 4) 2) refl
+    where
+      go : (to : Outcome040) (a : Bool) → eqb (x % 4) 0 ≡ a → (b : Bool) → eqb (x % 4) 2 ≡ b
+          → (if b then to else ended040 (if a then Absent cause.PageFault else resident wp x) asked)
+          ≡ (if a then ended040 (Absent cause.PageFault) asked else if not b then ended040 (resident wp x) asked else to)
+      go to true e true f = let h = eqb-true (x % 4) 0 e in let k = eqb-true (x % 4) 2 f in absurd (omega arith)
+      go to true e false f = refl
+      go to false e true f = refl
+      go to false e false f = refl
+
+  decides : (l : Level) (wp : Bool) (x n : ℕ) (asked : List ℕ) → Decides l wp x n asked
+  unfolding next040
+  decides level.Root wp x n asked = refl
+  decides level.Pointer wp x n asked = refl
+  decides level.Page wp x n asked = decides-page wp x n asked
+  decides level.Target wp x n asked = decides-target wp x n asked
+
+  -- a long that leads on leaves fewer to ask for
+  deeper : (l : Level) (wp : Bool) (x n : ℕ) → page040 l x ≡ false → depth (next040 tc address l wp x n .level) < depth l
+  unfolding next040
+  deeper level.Root wp x n h = omega arith
+  deeper level.Pointer wp x n h = omega arith
+  deeper level.Page wp x n h = omega arith
+  deeper level.Target wp x n h = absurd (clash h)
+
+  counts : (l : Level) (wp : Bool) (x n : ℕ) → next040 tc address l wp x n .asked ≡ n
+  unfolding next040
+  counts level.Root wp x n = refl
+  counts level.Pointer wp x n = refl
+  counts level.Page wp x n = refl
+  counts level.Target wp x n = refl
 
   abbrev pub whole : Outcome040
   whole = walk040From m tc first address
@@ -102,10 +115,10 @@ module _ (m : Memory) (tc first address : ℕ) where
     pub before : List ℕ
     pub same : whole ≡ rest s before
     pub counted : length before ≡ s .asked
-    pub room : s .asked + rank s ≤ 4
+    pub room : s .asked + depth (s .level) ≤ 4
 
   abbrev pub left : Turn → ℕ
-  left t = rank (t .s)
+  left t = depth (t .s .level)
 
   -- where it begins
   module _ {s : Walking040} (e : s ≡ begin040 first) where
@@ -115,42 +128,74 @@ module _ (m : Memory) (tc first address : ℕ) where
     pub begin-counted : length {A = ℕ} [] ≡ s .asked
     begin-counted = rw e
 
-    pub begin-room : s .asked + rank s ≤ 4
+    pub begin-room : s .asked + depth (s .level) ≤ 4
     begin-room = rw e (omega arith)
 
     abbrev pub begin : Turn
     begin = record { s = s; before = []; same = begin-same; counted = begin-counted; room = begin-room }
 
-  module _ (t : Turn) {b : Bool} (eb : b ≡ t .s .over) where
-    pub ends : T b → {x : End040} → x ≡ t .s .end → {a : Walked040} → a ≡ answered040 (t .s) x → a ≡ shown040 whole
-    ends h ex ea = ea ∙ rw (ex, ← t .counted, t .same, sym eb ∙ T-true b h)
+  -- a turn: the long is asked for
+  module _ (t : Turn) where
+    abbrev pub after : List ℕ
+    after = t .before ++ (t .s .at ∷ [])
 
-    module _ (h : T (not b)) where
-      -- what `took_040` asks
-      pub took-asks : t .s .asked < 1000
-      took-asks = omega (arith, t .room)
+    after-length : length after ≡ t .s .asked + 1
+    after-length = omega (arith, length-append (t .before) (t .s .at ∷ []), t .counted)
 
-      module _ {w : ℕ} (ew : w ≡ t .s .at) {f : Fetched} (ef : f ≡ fetchOf m w) {r : Walking040} (er : r ≡ took040 tc address (t .s) f) where
-        abbrev pub after : List ℕ
-        after = t .before ++ (t .s .at ∷ [])
+    -- what `next_040` and `answer_040` ask
+    pub few : t .s .asked < 1000
+    few = omega (arith, t .room)
 
-        pub follows : Follows (rest (t .s) (t .before)) (rank (t .s)) (t .s .asked + 1) after r
-        follows =
-            let o = sym eb ∙ T-false b h in
-            let e = er ∙ ap (took040 tc address (t .s)) (ef ∙ ap (fetchOf m) ew) in
-            rw (o, e) (took-by (t .s) (t .before) (fetchOf m (t .s .at)))
+    -- the walk ends here
+    ended-so : (e : End040) → whole ≡ ended040 e after → {x : End040} → x ≡ e → {a : Walked040} → a ≡ answered040 (t .s) x → a ≡ shown040 whole
+    ended-so e ew ex ea = ea ∙ rw (ex, ew, after-length)
 
-        pub next-same : whole ≡ rest r after
-        next-same = t .same ∙ follows .same
+    module _ {w : ℕ} (ew : w ≡ t .s .at) {f : Fetched} (ef : f ≡ fetchOf m w) where
+      gave : fetchOf m (t .s .at) ≡ f
+      gave = ap (fetchOf m) (sym ew) ∙ sym ef
 
-        pub next-counted : length after ≡ r .asked
-        next-counted = omega (arith, length-append (t .before) (t .s .at ∷ []), t .counted, follows .count)
+      -- the way out at a bus error
+      pub ends-lost : f ≡ Failed → {a : Walked040} → a ≡ answered040 (t .s) (Lost w) → a ≡ shown040 whole
+      ends-lost h ea = ended-so (Lost (t .s .at)) (t .same ∙ rw (gave ∙ h)) (ap Lost ew) ea
 
-        pub next-room : r .asked + rank r ≤ 4
-        next-room = omega (arith, t .room, follows .count, follows .less)
+      module _ {x : ℕ} (ex : f ≡ Long x) {i : Bool} (ei : i ≡ invalid040 (t .s .level) x) where
+        decided : whole
+            ≡ (if i
+            then ended040 (Absent (missing040 (t .s .level))) after
+            else if page040 (t .s .level) x
+            then ended040 (resident (t .s .wp) x) after
+            else rest (next040 tc address (t .s .level) (t .s .wp) x (t .s .asked + 1)) after)
+        decided = t .same ∙ rw (gave ∙ ex) (rw ei (decides (t .s .level) (t .s .wp) x (t .s .asked + 1) after))
 
-        pub less : rank r < rank (t .s)
-        less = follows .less
+        -- the way out at an invalid long
+        pub ends-absent : T i → {c : FaultCause} → c ≡ missing040 (t .s .level) → {a : Walked040} → a ≡ answered040 (t .s) (Absent c) → a ≡ shown040 whole
+        ends-absent hi ec ea = ended-so (Absent (missing040 (t .s .level))) (decided ∙ rw (T-true i hi)) (ap Absent ec) ea
 
-        abbrev pub next : Turn
-        next = record { s = r; before = after; same = next-same; counted = next-counted; room = next-room }
+        module _ (hi : T (not i)) {p : Bool} (ep : p ≡ page040 (t .s .level) x) where
+          -- the way out at a page
+          pub ends-page : T p → {wp : Bool} → wp ≡ (t .s .wp || bitOf x 2) → {sup : Bool} → sup ≡ bitOf x 7 → {a : Walked040} → a ≡ answered040 (t .s) (Resident x wp sup)
+              → a ≡ shown040 whole
+          ends-page hp ewp esup ea = ended-so (resident (t .s .wp) x) (decided ∙ rw (T-false i hi, sym ep ∙ T-true p hp)) (rw (ewp, esup)) ea
+
+          -- the walk goes on
+          module _ (hp : T (not p)) {r : Walking040} (er : r ≡ next040 tc address (t .s .level) (t .s .wp) x (t .s .asked + 1)) where
+            no-page : page040 (t .s .level) x ≡ false
+            no-page = sym ep ∙ T-false p hp
+
+            pub next-same : whole ≡ rest r after
+            next-same = decided ∙ rw (T-false i hi, no-page, er)
+
+            next-asked : r .asked ≡ t .s .asked + 1
+            next-asked = rw er (counts (t .s .level) (t .s .wp) x (t .s .asked + 1))
+
+            pub next-counted : length after ≡ r .asked
+            next-counted = after-length ∙ sym next-asked
+
+            pub less : depth (r .level) < depth (t .s .level)
+            less = rw er (deeper (t .s .level) (t .s .wp) x (t .s .asked + 1) no-page)
+
+            pub next-room : r .asked + depth (r .level) ≤ 4
+            next-room = omega (arith, t .room, next-asked, less)
+
+            abbrev pub next : Turn
+            next = record { s = r; before = after; same = next-same; counted = next-counted; room = next-room }

@@ -1,4 +1,4 @@
--- The 68030 walk as a machine: what is known between two descriptors, and what one descriptor changes.
+-- The 68030 walk as a machine: what is known before a descriptor, and what one descriptor changes.
 -- This serves the code alone; the meaning is `Walk030` of `definition`.
 use Prim.Native.Nat.{ℕ, _+_, _*_, _/_, _%_}
 use mathlib.Core.List.{List}
@@ -12,7 +12,7 @@ use Rattle.definition.specs.declared.Fetched.the-variants.{Long, Failed}
 use Rattle.definition.specs.declared.Descriptor.{Descriptor}
 use Rattle.definition.specs.declared.Descriptor.the-variants.{Whole, Lost}
 use Rattle.definition.specs.declared.End.{End}
-use Rattle.definition.specs.declared.End.the-variants.{Page, Invalid, LevelStop, BusError, Config}
+use Rattle.definition.specs.declared.End.the-variants.{Config}
 use Rattle.definition.specs.declared.Root.{Root}
 use Rattle.tables.specs.declared.Walked.{Walked}
 use Rattle.tables.specs.declared.Walking030.{Walking030}
@@ -37,12 +37,12 @@ ofTwo at Failed second = Lost at 1
 abbrev pub noWalk : ℕ → ℕ → Bool → Bool
 noWalk kind n coded = ltb kind 2 || (eqb n 0 && not coded)
 
--- n is the number of the widths that are used
-abbrev pub beginOf : ℕ → Root → ℕ → Walking030
-beginOf tc root n =
+abbrev pub misconfiguredOf : Root → Walked
+misconfiguredOf root = record { end = Config; wp = false; sup = false; levels = 0; last = root .address; asked = 0 }
+
+abbrev pub beginOf : ℕ → Root → Walking030
+beginOf tc root =
     record {
-      over = noWalk (root .limit % 4) n (bitOf tc 24);
-      end = Config;
       target = false;
       coded = bitOf tc 24;
       consumed = isOf tc;
@@ -56,48 +56,14 @@ beginOf tc root n =
       last = root .address;
     }
 
-abbrev pub endedOf : Walking030 → End → Bool → Bool → ℕ → ℕ → Walking030
-endedOf s end wp sup levels asked =
-    record {
-      over = true;
-      end = end;
-      target = s .target;
-      coded = s .coded;
-      consumed = s .consumed;
-      k = s .k;
-      table = s .table;
-      long = s .long;
-      wp = wp;
-      sup = sup;
-      levels = levels;
-      asked = asked;
-      last = s .last;
-    }
-
-abbrev pub onwardOf : Walking030 → Bool → ℕ → Bool → Bool → Bool → ℕ → ℕ → ℕ → Walking030
-onwardOf s target table long wp sup levels asked last =
-    record {
-      over = false;
-      end = Config;
-      target = target;
-      coded = s .coded;
-      consumed = s .consumed;
-      k = s .k;
-      table = table;
-      long = long;
-      wp = wp;
-      sup = sup;
-      levels = levels;
-      asked = asked;
-      last = last;
-    }
+-- the level stop
+abbrev pub atLimit : ℕ → Walking030 → Bool
+atLimit limit s = not (s .target) && leb limit (s .levels)
 
 -- once the level's descriptor is known
 abbrev pub aimedOf : Walking030 → Bool → ℕ → ℕ → ℕ → Walking030
 aimedOf s coded consumed k last =
     record {
-      over = s .over;
-      end = s .end;
       target = s .target;
       coded = coded;
       consumed = consumed;
@@ -114,44 +80,84 @@ aimedOf s coded consumed k last =
 abbrev pub nextK : ℕ → ℕ
 nextK k = if ltb k 4 then k + 1 else k
 
-unfoldable pub aimOf : List ℕ → ℕ → ℕ → ℕ → Walking030 → Walking030
-aimOf ws address code limit s =
-    if s .over
+unfoldable pub aimOf : List ℕ → ℕ → ℕ → Walking030 → Walking030
+aimOf ws address code s =
+    if s .target
     then s
-    else if s .target
-    then s
-    else if leb limit (s .levels)
-    then endedOf s LevelStop (s .wp) (s .sup) (s .levels) (s .asked)
     else if s .coded
     then aimedOf s false (s .consumed) (s .k) (entryOf (s .table) code (s .long))
     else aimedOf s (s .coded) (s .consumed + getD ws (s .k) 0) (nextK (s .k))
     (entryOf (s .table) (topIndex address (s .consumed) (getD ws (s .k) 0)) (s .long))
 
-abbrev pub targetEnd : ℕ → ℕ → ℕ → End
-targetEnd kind field consumed = if eqb kind 1 then Page field consumed else Invalid true
-
+-- how many longs were asked for a descriptor
 abbrev pub askedOf : Descriptor → ℕ
 askedOf (Whole kind field wp sup n) = n
 askedOf (Lost at n) = n
 
--- at the target of an indirect descriptor
-abbrev pub atTarget : Walking030 → ℕ → ℕ → Bool → Bool → ℕ → Walking030
-atTarget s kind field wp sup asked =
-    endedOf s (targetEnd kind field (s .consumed)) (s .wp || wp) (s .sup || sup) (s .levels) asked
+-- its WP and S count; n is the number of the widths that are used
+abbrev pub addsOf : ℕ → Walking030 → ℕ → Bool
+addsOf n s kind = if s .target then true else byKind kind false true (not (eqb (s .k) n))
 
--- at a level's descriptor; n is the number of the widths that are used
-unfoldable pub atLevel : ℕ → Walking030 → ℕ → ℕ → Bool → Bool → ℕ → Walking030
-atLevel n s kind field wp sup asked =
-    byKind kind (endedOf s (Invalid false) (s .wp) (s .sup) (s .levels + 1) asked)
-    (endedOf s (Page field (s .consumed)) (s .wp || wp) (s .sup || sup) (s .levels + 1) asked)
-    (if eqb (s .k) n
-    then onwardOf s true (s .table) (eqb kind 3) (s .wp) (s .sup) (s .levels + 1) asked (field / 4 * 4)
-    else onwardOf s false (field / 16 * 16) (eqb kind 3) (s .wp || wp) (s .sup || sup) (s .levels + 1) asked (s .last))
+abbrev pub levelsOf : Walking030 → ℕ
+levelsOf s = if s .target then s .levels else s .levels + 1
 
-unfoldable pub tookOf : ℕ → Walking030 → Descriptor → Walking030
-tookOf n s (Lost at m) = endedOf s (BusError at) (s .wp) (s .sup) (s .levels) (s .asked + m)
-tookOf n s (Whole kind field wp sup m) =
-    if s .target then atTarget s kind field wp sup (s .asked + m) else atLevel n s kind field wp sup (s .asked + m)
+-- with what was found
+abbrev pub heldOf : Walking030 → Bool → Bool → ℕ → ℕ → Walking030
+heldOf s wp sup levels asked =
+    record {
+      target = s .target;
+      coded = s .coded;
+      consumed = s .consumed;
+      k = s .k;
+      table = s .table;
+      long = s .long;
+      wp = wp;
+      sup = sup;
+      levels = levels;
+      asked = asked;
+      last = s .last;
+    }
+
+unfoldable pub seenOf : ℕ → Walking030 → Descriptor → Walking030
+seenOf n s (Lost at m) = heldOf s (s .wp) (s .sup) (s .levels) (s .asked + m)
+seenOf n s (Whole kind field wp sup m) =
+    heldOf s (s .wp || (addsOf n s kind && wp)) (s .sup || (addsOf n s kind && sup)) (levelsOf s) (s .asked + m)
+
+-- to the target of an indirect descriptor, or to the next table
+abbrev pub toTarget : Walking030 → ℕ → ℕ → Walking030
+toTarget s kind field =
+    record {
+      target = true;
+      coded = s .coded;
+      consumed = s .consumed;
+      k = s .k;
+      table = s .table;
+      long = eqb kind 3;
+      wp = s .wp;
+      sup = s .sup;
+      levels = s .levels;
+      asked = s .asked;
+      last = field / 4 * 4;
+    }
+
+abbrev pub toTable : Walking030 → ℕ → ℕ → Walking030
+toTable s kind field =
+    record {
+      target = s .target;
+      coded = s .coded;
+      consumed = s .consumed;
+      k = s .k;
+      table = field / 16 * 16;
+      long = eqb kind 3;
+      wp = s .wp;
+      sup = s .sup;
+      levels = s .levels;
+      asked = s .asked;
+      last = s .last;
+    }
+
+abbrev pub onwardOf : ℕ → Walking030 → ℕ → ℕ → Walking030
+onwardOf n s kind field = if eqb (s .k) n then toTarget s kind field else toTable s kind field
 
 abbrev pub answered : Walking030 → End → Walked
 answered s e = record { end = e; wp = s .wp; sup = s .sup; levels = s .levels; last = s .last; asked = s .asked }

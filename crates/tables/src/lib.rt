@@ -1,7 +1,7 @@
 // The 68030 and 68040 table walks over lent longs and lent bus-error ranges, and what a page's descriptor gives.
 // A function that is lent the ranges is thin: its proof is a walk by hand, which tools/ prints.
 ghost use mathlib.Core.Path.{_≡_};
-ghost use mathlib.Core.Bool.{false, not, _||_, _&&_};
+ghost use mathlib.Core.Bool.{true, false, not, _||_, _&&_};
 ghost use Prim.Native.Nat.{ℕ, _+_, _*_, _/_, _%_, _^_, _<_};
 ghost use lib.ListN.{length, getD, take};
 ghost use lib.Dec.{eqb, leb};
@@ -9,13 +9,13 @@ ghost use Rattle.definition.specs.Words.{bitOf, anyOf};
 ghost use Rattle.definition.specs.Memory.{memory, touchesOf, inRanges, fetchWith, fetchOf};
 ghost use Rattle.definition.specs.Refusal.{crossed};
 ghost use Rattle.definition.specs.Registers.{rootOf};
-ghost use Rattle.definition.specs.Walk030.{entryOf, shortOf, readOf, widthsOf, used, topIndex, outcomeOf, lowOf, physicalOf, shiftOf};
+ghost use Rattle.definition.specs.Walk030.{entryOf, shortOf, readOf, widthsOf, used, topIndex, outcomeOf, lowOf, physicalOf, shiftOf, byKind};
 ghost use Rattle.definition.specs.Walk040.{rootAt, pointerAt, pageAt, pageBits, frameOf, physical040};
 ghost use Rattle.definition.specs.Translate.{baseOf, hitAddress, joined};
 ghost use Rattle.tables.specs.Walked.{shown, shown040, walk040From, walks030, walksOf};
 ghost use Rattle.tables.specs.Choice.{by030, by040, codeBy, limitBy, supervisorBy, rootBy, ofSixteen};
-ghost use Rattle.tables.specs.Machine030.{alone, describedOf, ofTwo, noWalk, beginOf, endedOf, onwardOf, nextK, aimOf, targetEnd, atTarget, atLevel, askedOf, tookOf, answered};
-ghost use Rattle.tables.specs.Machine040.{onward040, over040, begin040, pageEnd, decidedOf, took040, answered040};
+ghost use Rattle.tables.specs.Machine030.{alone, describedOf, ofTwo, noWalk, misconfiguredOf, beginOf, atLimit, nextK, aimOf, addsOf, levelsOf, askedOf, seenOf, onwardOf, answered};
+ghost use Rattle.tables.specs.Machine040.{onward040, begin040, invalid040, missing040, page040, next040, answered040};
 use definition::Descriptor;
 use definition::End;
 use definition::End040;
@@ -251,11 +251,9 @@ pub struct Walked {
     pub asked: u32,
 }
 
-// Where a 68030 walk stands between two descriptors. `target`: the next is the target of an indirect one. `coded`: the
+// Where a 68030 walk stands before a descriptor. `target`: the next is the target of an indirect one. `coded`: the
 // function-code level is next. `k` is the number of widths consumed, `last` the last descriptor asked for or the next.
 struct Walking030 {
-    over: bool,
-    end: End,
     target: bool,
     coded: bool,
     consumed: u32,
@@ -322,23 +320,37 @@ fn root_of(g: Registers, code: u32) -> Root
     crp
 }
 
-// Root types 0 and 1 are a configuration fault, and no level at all is one too.
-fn no_walk(kind: u32, n: usize, coded: bool) -> bool
-    ensures { λ r. ⌜ r ≡ noWalk kind n coded ⌝ }
+// Root type is limit bits 1:0. Types 0 and 1 are a configuration fault, and no level at all is one too.
+fn no_walk(tc: u32, root: Root, n: usize) -> bool
+    ensures { λ r. ⌜ r ≡ noWalk (root .limit % 4) n (bitOf tc 24) ⌝ }
 {
+    let kind = kind_of(root.limit);
+    let coded = bit(tc, 24);
     (kind < 2) | ((n == 0) & !coded)
 }
 
-// Root type is limit bits 1:0; the table is at address & FFFFFFF0. IS (19:16) is consumed first; TC bit 24 adds a function-code level.
-fn begin_030(tc: u32, root: Root, n: usize) -> Walking030
-    ensures { λ r. ⌜ r ≡ beginOf tc root n ⌝ }
+// A configuration fault has the root's address for the last descriptor's.
+fn misconfigured(root: Root) -> Walked
+    ensures { λ r. ⌜ r ≡ misconfiguredOf root ⌝ }
+{
+    Walked {
+        end: End::Config,
+        wp: false,
+        sup: false,
+        levels: 0,
+        last: root.address,
+        asked: 0,
+    }
+}
+
+// The table is at address & FFFFFFF0. IS (19:16) is consumed first; TC bit 24 adds a function-code level.
+fn begin_030(tc: u32, root: Root) -> Walking030
+    ensures { λ r. ⌜ r ≡ beginOf tc root ⌝ }
 {
     let kind = kind_of(root.limit);
     let coded = bit(tc, 24);
     let table = table_of(root.address);
     Walking030 {
-        over: no_walk(kind, n, coded),
-        end: End::Config,
         target: false,
         coded,
         consumed: (tc >> 16) % 16,
@@ -353,56 +365,11 @@ fn begin_030(tc: u32, root: Root, n: usize) -> Walking030
     }
 }
 
-// The walk ends here.
-fn ended(s: Walking030, end: End, wp: bool, sup: bool, levels: u32, asked: u32) -> Walking030
-    ensures { λ r. ⌜ r ≡ endedOf s end wp sup levels asked ⌝ }
+// At most `limit` levels; a target is none.
+fn is_at_limit(s: Walking030, limit: u32) -> bool
+    ensures { λ r. ⌜ r ≡ atLimit limit s ⌝ }
 {
-    Walking030 {
-        over: true,
-        end,
-        target: s.target,
-        coded: s.coded,
-        consumed: s.consumed,
-        k: s.k,
-        table: s.table,
-        long: s.long,
-        wp,
-        sup,
-        levels,
-        asked,
-        last: s.last,
-    }
-}
-
-// The walk goes on: to a table's next level, or to the target of an indirect descriptor.
-fn onward(
-    s: Walking030,
-    target: bool,
-    table: u32,
-    long: bool,
-    wp: bool,
-    sup: bool,
-    levels: u32,
-    asked: u32,
-    last: u32,
-) -> Walking030
-    ensures { λ r. ⌜ r ≡ onwardOf s target table long wp sup levels asked last ⌝ }
-{
-    Walking030 {
-        over: false,
-        end: End::Config,
-        target,
-        coded: s.coded,
-        consumed: s.consumed,
-        k: s.k,
-        table,
-        long,
-        wp,
-        sup,
-        levels,
-        asked,
-        last,
-    }
+    !s.target & (limit <= s.levels)
 }
 
 // The width of level `k`: 0 past the last.
@@ -425,19 +392,13 @@ fn next_k(k: usize) -> usize
     k
 }
 
-// The level's index, by the code or by the address, settles where its descriptor stands; at most `limit` levels.
-fn aim(s: Walking030, ws: [u32; 4], address: u32, code: u32, limit: u32) -> Walking030
-    requires { ⌜ ((k : ℕ) → getD ws k 0 < 16) × (s .over ≡ false → s .target ≡ false → s .consumed < 1000) ⌝ }
-    ensures { λ r. ⌜ r ≡ aimOf ws address code limit s ⌝ }
+// The level's index, by the code or by the address, settles where its descriptor stands.
+fn aim(s: Walking030, ws: [u32; 4], address: u32, code: u32) -> Walking030
+    requires { ⌜ ((k : ℕ) → getD ws k 0 < 16) × (s .consumed < 1000) ⌝ }
+    ensures { λ r. ⌜ r ≡ aimOf ws address code s ⌝ }
 {
-    if s.over {
-        return s;
-    }
     if s.target {
         return s;
-    }
-    if limit <= s.levels {
-        return ended(s, End::LevelStop, s.wp, s.sup, s.levels, s.asked);
     }
     let mut t = s;
     if s.coded {
@@ -455,120 +416,6 @@ fn aim(s: Walking030, ws: [u32; 4], address: u32, code: u32, limit: u32) -> Walk
     t
 }
 
-// The target of an indirect descriptor must be type 1.
-fn target_end(kind: u32, field: u32, consumed: u32) -> End
-    ensures { λ r. ⌜ r ≡ targetEnd kind field consumed ⌝ }
-{
-    if kind == 1 {
-        return End::Page { field, consumed };
-    }
-    End::Invalid { indirect: true }
-}
-
-// At the target of an indirect descriptor: it adds its own WP and S even if it isn't type 1, and counts no level.
-fn at_target(s: Walking030, kind: u32, field: u32, wp: bool, sup: bool, asked: u32) -> Walking030
-    ensures { λ r. ⌜ r ≡ atTarget s kind field wp sup asked ⌝ }
-{
-    let end = target_end(kind, field, s.consumed);
-    let all_wp = s.wp | wp;
-    let all_sup = s.sup | sup;
-    ended(s, end, all_wp, all_sup, s.levels, asked)
-}
-
-// At a level's descriptor, where `n` widths are used: type 0 invalid, type 1 page. Types 2 and 3 name the next table; on the last
-// level they are indirect. WP and S add up over all but type 0 and the indirect one.
-fn at_level(
-    s: Walking030,
-    n: usize,
-    kind: u32,
-    field: u32,
-    wp: bool,
-    sup: bool,
-    asked: u32,
-) -> Walking030
-    requires { ⌜ s .levels < 1000 ⌝ }
-    ensures { λ r. ⌜ r ≡ atLevel n s kind field wp sup asked ⌝ }
-{
-    let levels = s.levels + 1;
-    let all_wp = s.wp | wp;
-    let all_sup = s.sup | sup;
-    match kind {
-        0 => {
-            let end = End::Invalid { indirect: false };
-            ended(s, end, s.wp, s.sup, levels, asked)
-        }
-        1 => {
-            let end = End::Page {
-                field,
-                consumed: s.consumed,
-            };
-            ended(s, end, all_wp, all_sup, levels, asked)
-        }
-        2.. => {
-            let long = kind == 3;
-            if s.k == n {
-                let to = target_of(field);
-                onward(s, true, s.table, long, s.wp, s.sup, levels, asked, to)
-            } else {
-                let table = table_of(field);
-                onward(
-                    s,
-                    false,
-                    table,
-                    long,
-                    all_wp,
-                    all_sup,
-                    levels,
-                    asked,
-                    s.last,
-                )
-            }
-        }
-    }
-}
-
-// What a descriptor decides, where `n` widths are used. A failing fetch isn't in the levels.
-fn took(s: Walking030, n: usize, d: Descriptor) -> Walking030
-    requires { ⌜ (s .target ≡ false → s .levels < 1000) × (s .asked < 1000) × (askedOf d < 1000) ⌝ }
-    ensures { λ r. ⌜ r ≡ tookOf n s d ⌝ }
-{
-    match d {
-        Descriptor::Lost { at, asked } => {
-            let total = s.asked + asked;
-            ended(s, End::BusError { at }, s.wp, s.sup, s.levels, total)
-        }
-        Descriptor::Whole {
-            kind,
-            field,
-            wp,
-            sup,
-            asked,
-        } => {
-            let total = s.asked + asked;
-            if s.target {
-                at_target(s, kind, field, wp, sup, total)
-            } else {
-                at_level(s, n, kind, field, wp, sup, total)
-            }
-        }
-    }
-}
-
-// Whether the walk has ended.
-fn is_over(s: Walking030) -> bool
-    ensures { λ r. ⌜ r ≡ s .over ⌝ }
-{
-    s.over
-}
-
-// How it ended.
-fn end_of(s: Walking030) -> End
-    ensures { λ r. ⌜ r ≡ s .end ⌝ }
-{
-    let end = s.end;
-    end
-}
-
 // Where the next descriptor stands.
 fn wanted(s: Walking030) -> u32
     ensures { λ r. ⌜ r ≡ s .last ⌝ }
@@ -581,6 +428,108 @@ fn wants_long(s: Walking030) -> bool
     ensures { λ r. ⌜ r ≡ s .long ⌝ }
 {
     s.long
+}
+
+// WP and S add up over all but type 0 and the indirect one; a target adds its own whatever its type. `n` widths are used.
+fn adds(s: Walking030, n: usize, kind: u32) -> bool
+    ensures { λ r. ⌜ r ≡ addsOf n s kind ⌝ }
+{
+    if s.target {
+        return true;
+    }
+    match kind {
+        0 => false,
+        1 => true,
+        2.. => s.k != n,
+    }
+}
+
+// A level's descriptor is one level more, a target is none.
+fn levels_with(s: Walking030) -> u32
+    requires { ⌜ s .levels < 1000 ⌝ }
+    ensures { λ r. ⌜ r ≡ levelsOf s ⌝ }
+{
+    if s.target {
+        return s.levels;
+    }
+    s.levels + 1
+}
+
+// What a descriptor adds to what was found. A failing fetch isn't in the levels.
+fn seen(s: Walking030, n: usize, d: Descriptor) -> Walking030
+    requires { ⌜ (s .levels < 1000) × (s .asked < 1000) × (askedOf d < 1000) ⌝ }
+    ensures { λ r. ⌜ r ≡ seenOf n s d ⌝ }
+{
+    let mut t = s;
+    match d {
+        Descriptor::Lost { at: _, asked } => {
+            t.asked = s.asked + asked;
+            t
+        }
+        Descriptor::Whole {
+            kind,
+            field: _,
+            wp,
+            sup,
+            asked,
+        } => {
+            let also = adds(s, n, kind);
+            t.levels = levels_with(s);
+            t.wp = s.wp | (also & wp);
+            t.sup = s.sup | (also & sup);
+            t.asked = s.asked + asked;
+            t
+        }
+    }
+}
+
+// Type 1 is a page.
+fn is_page(kind: u32) -> bool
+    ensures { λ r. ⌜ r ≡ eqb kind 1 ⌝ }
+{
+    kind == 1
+}
+
+// The bits of the address that the levels consumed.
+fn consumed_of(s: Walking030) -> u32
+    ensures { λ r. ⌜ r ≡ s .consumed ⌝ }
+{
+    s.consumed
+}
+
+// Type 0 is invalid. Types 2 and 3 name a table, and are invalid at a target, which must be type 1.
+fn is_invalid(s: Walking030, kind: u32) -> bool
+    ensures { λ r. ⌜ r ≡ byKind kind true false (s .target) ⌝ }
+{
+    match kind {
+        0 => true,
+        1 => false,
+        2.. => s.target,
+    }
+}
+
+// Whether the descriptor is the target of an indirect one.
+fn is_target(s: Walking030) -> bool
+    ensures { λ r. ⌜ r ≡ s .target ⌝ }
+{
+    s.target
+}
+
+// Types 2 and 3 name the next table; on the last level, where `n` widths are consumed, they are indirect.
+fn onward(s: Walking030, n: usize, kind: u32, field: u32) -> Walking030
+    ensures { λ r. ⌜ r ≡ onwardOf n s kind field ⌝ }
+{
+    let mut t = s;
+    t.long = kind == 3;
+    if s.k == n {
+        let to = target_of(field);
+        t.target = true;
+        t.last = to;
+        return t;
+    }
+    let table = table_of(field);
+    t.table = table;
+    t
 }
 
 // How the walk ended, with what it found.
@@ -612,16 +561,39 @@ pub fn walk_030(
 {
     let ws = widths(tc);
     let n = level_count(ws);
-    let mut s = begin_030(tc, root, n);
+    if no_walk(tc, root, n) {
+        return misconfigured(root);
+    }
+    let mut s = begin_030(tc, root);
     let end = loop {
-        s = aim(s, ws, address, code, limit);
-        if is_over(s) {
-            break end_of(s);
+        if is_at_limit(s, limit) {
+            break End::LevelStop;
         }
+        s = aim(s, ws, address, code);
         let at = wanted(s);
         let long = wants_long(s);
         let d = read_desc(longs, base, ranges, at, long);
-        s = took(s, n, d);
+        s = seen(s, n, d);
+        match d {
+            Descriptor::Lost { at, asked: _ } => break End::BusError { at },
+            Descriptor::Whole {
+                kind,
+                field,
+                wp: _,
+                sup: _,
+                asked: _,
+            } => {
+                if is_page(kind) {
+                    let consumed = consumed_of(s);
+                    break End::Page { field, consumed };
+                }
+                if is_invalid(s, kind) {
+                    let indirect = is_target(s);
+                    break End::Invalid { indirect };
+                }
+                s = onward(s, n, kind, field);
+            }
+        }
     };
     answer(s, end)
 }
@@ -642,10 +614,8 @@ enum Level {
     Target,
 }
 
-// Where a 68040 walk stands between two longs: the one at `at` is next, `wp` is W of the levels above it.
+// Where a 68040 walk stands before a long: the one at `at` is next, `wp` is W of the levels above it, `asked` the number of those before it.
 struct Walking040 {
-    over: bool,
-    end: End040,
     level: Level,
     wp: bool,
     at: u32,
@@ -685,25 +655,9 @@ fn onward_040(level: Level, wp: bool, at: u32, asked: u32) -> Walking040
     ensures { λ r. ⌜ r ≡ onward040 level wp at asked ⌝ }
 {
     Walking040 {
-        over: false,
-        end: End040::Lost { at },
         level,
         wp,
         at,
-        asked,
-    }
-}
-
-// The walk ends here.
-fn over_040(end: End040, asked: u32) -> Walking040
-    ensures { λ r. ⌜ r ≡ over040 end asked ⌝ }
-{
-    Walking040 {
-        over: true,
-        end,
-        level: Level::Root,
-        wp: false,
-        at: 0,
         asked,
     }
 }
@@ -715,74 +669,6 @@ fn begin_040(at: u32) -> Walking040
     onward_040(Level::Root, false, at, 0)
 }
 
-// Only type 0 is invalid. `wp` is W of all three levels; S is bit 7 of the page.
-fn page_end(missing: FaultCause, wp: bool, page: u32) -> End040
-    ensures { λ r. ⌜ r ≡ pageEnd missing wp page ⌝ }
-{
-    if page % 4 == 0 {
-        return End040::Absent(missing);
-    }
-    let sup = bit(page, 7);
-    End040::Resident {
-        field: page,
-        wp,
-        sup,
-    }
-}
-
-// What a long decides, with W of the levels above it: type below 2 PointerA, or PointerB. Type 2 of a page table is indirect at
-// & FFFFFFFC, fetched once. W is bit 2 of any of the three, the target in place of the indirect one.
-fn decided(tc: u32, address: u32, level: Level, wp: bool, x: u32, asked: u32) -> Walking040
-    ensures { λ r. ⌜ r ≡ decidedOf tc address level wp x asked ⌝ }
-{
-    let w = bit(x, 2);
-    match level {
-        Level::Root => match x % 4 {
-            0..=1 => over_040(End040::Absent(FaultCause::PointerA), asked),
-            _ => onward_040(Level::Pointer, wp | w, pointer_at(x, address), asked),
-        },
-        Level::Pointer => match x % 4 {
-            0..=1 => over_040(End040::Absent(FaultCause::PointerB), asked),
-            _ => onward_040(Level::Page, wp | w, page_at(tc, x, address), asked),
-        },
-        Level::Page => match x % 4 {
-            2 => onward_040(Level::Target, wp, target_of(x), asked),
-            _ => over_040(page_end(FaultCause::PageFault, wp | w, x), asked),
-        },
-        Level::Target => over_040(page_end(FaultCause::Indirect, wp | w, x), asked),
-    }
-}
-
-// The long at `at` was asked for: it decides, or it failed.
-fn took_040(s: Walking040, tc: u32, address: u32, x: Fetched) -> Walking040
-    requires { ⌜ s .asked < 1000 ⌝ }
-    ensures { λ r. ⌜ r ≡ took040 tc address s x ⌝ }
-{
-    let asked = s.asked + 1;
-    match x {
-        Fetched::Failed => over_040(End040::Lost { at: s.at }, asked),
-        Fetched::Long(long) => {
-            let level = s.level;
-            decided(tc, address, level, s.wp, long, asked)
-        }
-    }
-}
-
-// Whether the walk has ended.
-fn is_over_040(s: Walking040) -> bool
-    ensures { λ r. ⌜ r ≡ s .over ⌝ }
-{
-    s.over
-}
-
-// How it ended.
-fn end_of_040(s: Walking040) -> End040
-    ensures { λ r. ⌜ r ≡ s .end ⌝ }
-{
-    let end = s.end;
-    end
-}
-
 // Where the next long stands.
 fn wanted_040(s: Walking040) -> u32
     ensures { λ r. ⌜ r ≡ s .at ⌝ }
@@ -790,13 +676,90 @@ fn wanted_040(s: Walking040) -> u32
     s.at
 }
 
-// How the walk ended, with the number of longs asked for.
+// Types 0 and 1 of the tables above a page table are invalid, and type 0 of a page.
+fn is_invalid_040(s: Walking040, x: u32) -> bool
+    ensures { λ r. ⌜ r ≡ invalid040 (s .level) x ⌝ }
+{
+    let level = s.level;
+    match level {
+        Level::Root => match x % 4 {
+            0..=1 => true,
+            _ => false,
+        },
+        Level::Pointer => match x % 4 {
+            0..=1 => true,
+            _ => false,
+        },
+        Level::Page => x % 4 == 0,
+        Level::Target => x % 4 == 0,
+    }
+}
+
+// What an invalid long of the level is called.
+fn missing_040(s: Walking040) -> FaultCause
+    ensures { λ r. ⌜ r ≡ missing040 (s .level) ⌝ }
+{
+    let level = s.level;
+    match level {
+        Level::Root => FaultCause::PointerA,
+        Level::Pointer => FaultCause::PointerB,
+        Level::Page => FaultCause::PageFault,
+        Level::Target => FaultCause::Indirect,
+    }
+}
+
+// A page table has pages, and indirect ones by type 2. The target of one is a page.
+fn is_page_040(s: Walking040, x: u32) -> bool
+    ensures { λ r. ⌜ r ≡ page040 (s .level) x ⌝ }
+{
+    let level = s.level;
+    match level {
+        Level::Root => false,
+        Level::Pointer => false,
+        Level::Page => x % 4 != 2,
+        Level::Target => true,
+    }
+}
+
+// W is bit 2 of any of the three, the target in place of the indirect one.
+fn w_040(s: Walking040, page: u32) -> bool
+    ensures { λ r. ⌜ r ≡ (s .wp || bitOf page 2) ⌝ }
+{
+    let w = bit(page, 2);
+    s.wp | w
+}
+
+// S is bit 7 of the page.
+fn s_040(page: u32) -> bool
+    ensures { λ r. ⌜ r ≡ bitOf page 7 ⌝ }
+{
+    bit(page, 7)
+}
+
+// Where the long leads: to the next table, or to the target at & FFFFFFFC, which is fetched once.
+fn next_040(s: Walking040, tc: u32, address: u32, x: u32) -> Walking040
+    requires { ⌜ s .asked < 1000 ⌝ }
+    ensures { λ r. ⌜ r ≡ next040 tc address (s .level) (s .wp) x (s .asked + 1) ⌝ }
+{
+    let w = bit(x, 2);
+    let asked = s.asked + 1;
+    let level = s.level;
+    match level {
+        Level::Root => onward_040(Level::Pointer, s.wp | w, pointer_at(x, address), asked),
+        Level::Pointer => onward_040(Level::Page, s.wp | w, page_at(tc, x, address), asked),
+        Level::Page => onward_040(Level::Target, s.wp, target_of(x), asked),
+        Level::Target => onward_040(Level::Target, s.wp, target_of(x), asked),
+    }
+}
+
+// How the walk ended at this long, with the number of longs asked for.
 fn answer_040(s: Walking040, end: End040) -> Walked040
+    requires { ⌜ s .asked < 1000 ⌝ }
     ensures { λ r. ⌜ r ≡ answered040 s end ⌝ }
 {
     Walked040 {
         end,
-        asked: s.asked,
+        asked: s.asked + 1,
     }
 }
 
@@ -813,12 +776,22 @@ pub fn walk_040(
 {
     let mut s = begin_040(first);
     let end = loop {
-        if is_over_040(s) {
-            break end_of_040(s);
-        }
         let at = wanted_040(s);
-        let x = fetch(longs, base, ranges, at);
-        s = took_040(s, tc, address, x);
+        match fetch(longs, base, ranges, at) {
+            Fetched::Failed => break End040::Lost { at },
+            Fetched::Long(x) => {
+                if is_invalid_040(s, x) {
+                    let cause = missing_040(s);
+                    break End040::Absent(cause);
+                }
+                if is_page_040(s, x) {
+                    let wp = w_040(s, x);
+                    let sup = s_040(x);
+                    break End040::Resident { field: x, wp, sup };
+                }
+                s = next_040(s, tc, address, x);
+            }
+        }
     };
     answer_040(s, end)
 }

@@ -6,54 +6,42 @@ use Rattle.tables.proofs.aim.Statement.{statement}
 use Rattle.tables.proofs.aim.Tie as tie
 
 returns : tie.Need-returns
-returns c = law.over _ _ _ _ _ (c .if1 .taken)
-
-returns-2 : tie.Need-returns-2
-returns-2 c = law.target _ _ _ _ _ (c .before .if1 .left) (c .if2 .taken)
-
-ended-requires : tie.Need-ended-requires
-ended-requires c κs = search needs
-
-returns-3 : tie.Need-returns-3
-returns-3 c = law.stop _ _ _ _ _ (c .before .before .before .before .if1 .left) (c .before .before .before .if2 .left) (omega (arith, c .before .if3 .taken)) (c .ended .ensures)
+returns c = law.target _ _ _ _ (c .if1 .taken)
 
 entry-requires : tie.Need-entry-requires
 entry-requires c κs = search needs
 
-returns-4 : tie.Need-returns-4
-returns-4 c = law.by-code _ _ _ _ _ (c .before .before .before .before .before .if1 .left) (c .before .before .before .before .if2 .left) (omega (arith, c .before .before .if3 .left)) (c .before .if4 .taken) (c .entry .ensures)
+returns-2 : tie.Need-returns-2
+returns-2 c = law.by-code _ _ _ _ (c .before .before .if1 .left) (c .before .if2 .taken) (c .entry .ensures)
 
 width-at-requires : tie.Need-width-at-requires
 width-at-requires c κs = search needs
 
 top-index-requires : tie.Need-top-index-requires
-top-index-requires c κs = rw (c .width-at .ensures) (c .before .before .before .before .before .before .pre .0 _)
+top-index-requires c κs = rw (c .width-at .ensures) (c .before .before .before .pre .0 _)
 
 entry-requires-2 : tie.Need-entry-requires-2
 entry-requires-2 c κs = search needs
 
 add-t : tie.Need-add-t
-add-t c = omega (arith, c .before .before .before .before .before .before .before .before .before .pre .1 (c .before .before .before .before .before .before .before .before .if1 .left) (c .before .before .before .before .before .before .before .if2 .left), c .before .before .before .before .before .before .before .before .before .pre .0 (c .before .before .before .before .before .before .before .before .before .args .s .k), c .before .before .before .width-at .ensures)
+add-t c = omega (arith, c .before .before .before .before .before .before .pre .1, c .before .before .before .before .before .before .pre .0 (c .before .before .before .before .before .before .args .s .k), c .before .before .before .width-at .ensures)
 
 next-k-requires : tie.Need-next-k-requires
 next-k-requires c κs = search needs
 
-returns-5 : tie.Need-returns-5
-returns-5 c = law.by-width _ _ _ _ _ (c .before .before .before .before .before .before .before .before .before .if1 .left) (c .before .before .before .before .before .before .before .before .if2 .left) (omega (arith, c .before .before .before .before .before .before .if3 .left)) (c .before .before .before .before .before .if4 .left) (c .before .before .before .before .width-at .ensures) (c .before .before .before .top-index .ensures) (c .before .before .entry2 .ensures) (c .next-k .ensures)
+returns-3 : tie.Need-returns-3
+returns-3 c = law.by-width _ _ _ _ (c .before .before .before .before .before .before .if1 .left) (c .before .before .before .before .before .if2 .left) (c .before .before .before .before .width-at .ensures) (c .before .before .before .top-index .ensures) (c .before .before .entry2 .ensures) (c .next-k .ensures)
 
 pub aim-spec : {M : Type 1} → statement M
 aim-spec =
     tie.close
     (tie.spec
     returns
-    returns-2
-    ended-requires
-    returns-3
     entry-requires
-    returns-4
+    returns-2
     width-at-requires
     top-index-requires
     entry-requires-2
     add-t
     next-k-requires
-    returns-5)
+    returns-3)

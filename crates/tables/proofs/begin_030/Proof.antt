@@ -12,12 +12,8 @@ bit-requires c κs = search needs
 table-of-requires : tie.Need-table-of-requires
 table-of-requires c κs = search needs
 
-no-walk-requires : tie.Need-no-walk-requires
-no-walk-requires c κs = search needs
-
 returns : tie.Need-returns
-returns c = rw (c .no-walk .ensures, c .before .table-of .ensures, c .before .before .bit .ensures, c .before .before .before .kind-of .ensures)
+returns c = rw (c .table-of .ensures, c .before .bit .ensures, c .before .before .kind-of .ensures)
 
 pub begin-030-spec : {M : Type 1} → statement M
-begin-030-spec =
-    tie.close (tie.spec kind-of-requires bit-requires table-of-requires no-walk-requires returns)
+begin-030-spec = tie.close (tie.spec kind-of-requires bit-requires table-of-requires returns)
