@@ -5,7 +5,7 @@ from text import list_of, nth, numbered, par, product_of, text_of, tuple_of
 from values import Facts, Type, Value
 from walk import Walk
 
-HOME = 'tables'      # the crate that has the laws of walks, Branching and Lending
+HOME = 'memory'      # the crate that has the laws of walks, Branching and Lending
 
 
 class Printer:

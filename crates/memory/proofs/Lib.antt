@@ -1,0 +1,9 @@
+pub mod Tests
+pub mod Widths
+pub mod Reading
+pub mod Shifts
+pub mod Frames
+pub mod Touching
+pub mod Searching
+pub mod Branching
+pub mod Lending

@@ -1,4 +1,0 @@
-pub mod Walked
-pub mod Machine030
-pub mod Machine040
-pub mod Choice

@@ -1,0 +1,2 @@
+pub mod Aiming
+pub mod Driving
