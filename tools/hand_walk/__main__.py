@@ -9,7 +9,7 @@ is named there, or of those that are given.
 A thin function has parameters that are numbers, bools, structs, enums and arrays by value, `&[T]` of numbers or structs, `&T`, and
 `&mut T` of a struct or an array. Its body has:
 - calls of proved functions, of this crate or another, on whole locals, and copies of locals;
-- `s.len()` and `s[i]` of a slice, numbers, `+`, `*`, `<`, `<=`, `==`;
+- `s.len()`, `s[i]` and `s[i].field` of a slice, numbers, `+`, `*`, `<`, `<=`, `==`;
 - `if c { .. return x; }` before the loop;
 - at most one loop, left by a `while`'s test or by `if c { .. break x; }`, as often as it is wanted;
 - in the loop, as the last statement of a turn, a `match` on a local that is an enum, an arm for each variant; an arm goes on or breaks;

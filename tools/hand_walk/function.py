@@ -1,4 +1,5 @@
 """One function: its walk, statement by statement, and the file around it."""
+from contract import field_names
 from logic import KIT, KIT_ARRAY, KIT_ENUM, KIT_LEND, KIT_MUT, KIT_SHARED, needed
 from sexp import arms, items, place, statements
 from text import list_of, nth, numbered, par, product_of, text_of, tuple_of
@@ -70,10 +71,10 @@ class Printer:
         if rvalue[0] == 'rvOpd':
             operand = rvalue[1]
             if operand[0] == 'copy' and any(p[0] == 'deref' for p in place(operand[1])[1]):
-                source = place(operand[1])[0]
+                source, (_, *fields) = place(operand[1])
                 if w.values[source].type.kind == 'mutref':
                     return self.behind(w, source, into=local)
-                return self.element(w, local, source)
+                return self.element(w, local, source, fields)
             step, value = w.operand(operand)
             return w.assign(local, f'of-opd ! ({step})', value, last)
         if rvalue[0] == 'addrOf':
@@ -250,8 +251,8 @@ class Printer:
         w.say('split !')
         w.push(name)
 
-    def element(self, w, local, pointer):
-        """`local` takes the element that `pointer` points to"""
+    def element(self, w, local, pointer, fields):
+        """`local` takes the element that `pointer` points to, or a field of it"""
         to = w.values[pointer]
         slice_ = w.values[to.slice]
         xs, i, elem, k = slice_.x, par(to.index), slice_.type.elem, slice_.type.lifetime
@@ -277,8 +278,14 @@ class Printer:
         machine = elem.value(x)
         if elem.declared:
             w.say(f'use1 W (‵ (fat {share} {mir} {at} ({machine}))) (W .laws .raw-at {share} {mir} {at} ({machine}))')
-        through = f'(from ! (hop ! (look ! {w.cell(pointer)} refl) (stop !)))'
-        w.assign(local, f'of-opd ! (load ! {through} (look ! 0 refl))', Value(elem, x, machine, g))
+        to_field = 'stop !'
+        look, value = 'look ! 0 refl', Value(elem, x, machine, g)
+        for _, field in fields:
+            type_, part = elem.fields[int(field)], f'{x} .{field_names(elem.crate, elem.path)[int(field)]}'
+            to_field, look = 'fld ! refl (stop !)', f'look-in ! 0 (sub ! {field} refl (whole !))'
+            value = Value(type_, part, type_.value(part), nth(f'LL.owed {elem.both} {par(x)} ({machine} ∷ []) {g}', int(field)))
+        through = f'(from ! (hop ! (look ! {w.cell(pointer)} refl) ({to_field})))'
+        w.assign(local, f'of-opd ! (load ! {through} ({look}))', value)
         if elem.declared:
             w.say(f'use1 W (‵ (cellAt {share} ({row} .mir) ({machine} ∷ []) {at})) (W .laws .at-raw {share} {mir} {at} ({machine}))')
         w.say(f'elem-back ! {row} {share} ({xs} .now) {i} {default} ({machine} ∷ []) {b} {o} {inside}')

@@ -1,32 +1,38 @@
 // The bus-error ranges: which of them a long touches, and whether one is crossed.
+// A search has no branch in its turn, and reads a range field by field: so the compiler takes several ranges at once.
 use definition::Range;
 ghost use mathlib.Core.Path.{_≡_};
 ghost use mathlib.Core.Bool.{_||_};
-ghost use Rattle.definition.specs.Memory.{inRanges, touchesOf};
+ghost use lib.Dec.{ltb};
+ghost use Rattle.definition.specs.Memory.{touchesOf, inRanges};
 ghost use Rattle.definition.specs.Refusal.{crossed};
 ghost use Rattle.definition.specs.Words.{anyOf};
+ghost use Rattle.memory.specs.Ranges.{lastByte};
+
+// The last byte of the long at `at` that an address names: there is none past FFFFFFFF.
+fn last_byte(at: u32) -> u32
+    ensures { λ r. ⌜ r ≡ lastByte at ⌝ }
+{
+    if at < 0xffff_fffd {
+        return at + 3;
+    }
+    0xffff_ffff
+}
 
 // Whether any of the four bytes of the long at `at` lies from `first` to `last`.
 fn touches(first: u32, last: u32, at: u32) -> bool
     ensures { λ r. ⌜ r ≡ touchesOf first last at ⌝ }
 {
-    if last < first {
-        return false;
-    }
-    if at as u64 + 3 < first as u64 {
-        return false;
-    }
-    at <= last
+    let top = last_byte(at);
+    (first <= last) & (first <= top) & (at <= last)
 }
 
 // The search for a range that has a byte of the long: one range more.
-fn hit_or(hit: bool, r: Range, at: u32) -> bool
-    ensures { λ y. ⌜ y ≡ (hit || touchesOf (r .first) (r .last) at) ⌝ }
+fn hit_or(hit: bool, first: u32, last: u32, at: u32) -> bool
+    ensures { λ r. ⌜ r ≡ (hit || touchesOf first last at) ⌝ }
 {
-    if hit {
-        return true;
-    }
-    touches(r.first, r.last, at)
+    let touched = touches(first, last, at);
+    hit | touched
 }
 
 // Whether any of the four bytes of the long at `at` lies in a range.
@@ -36,17 +42,19 @@ pub fn hits(ranges: &[Range], at: u32) -> bool
     let mut hit = false;
     let mut i = 0;
     while i < ranges.len() {
-        hit = hit_or(hit, ranges[i], at);
+        let first = ranges[i].first;
+        let last = ranges[i].last;
+        hit = hit_or(hit, first, last, at);
         i += 1;
     }
     hit
 }
 
 // The search for a range whose first is above its last: one range more.
-fn crossed_or(found: bool, r: Range) -> bool
-    ensures { λ y. ⌜ y ≡ (found || crossed r) ⌝ }
+fn crossed_or(found: bool, first: u32, last: u32) -> bool
+    ensures { λ r. ⌜ r ≡ (found || ltb last first) ⌝ }
 {
-    found | (r.last < r.first)
+    found | (last < first)
 }
 
 // Refusal 3: whether a range has its first above its last.
@@ -56,7 +64,9 @@ pub fn any_crossed(ranges: &[Range]) -> bool
     let mut found = false;
     let mut i = 0;
     while i < ranges.len() {
-        found = crossed_or(found, ranges[i]);
+        let first = ranges[i].first;
+        let last = ranges[i].last;
+        found = crossed_or(found, first, last);
         i += 1;
     }
     found

@@ -3,14 +3,11 @@ use borrow.Author.Needs.{needs}
 use Rattle.memory.proofs.ranges.hit_or.Statement.{statement}
 use Rattle.memory.proofs.ranges.hit_or.Tie as tie
 
-returns : tie.Need-returns
-returns c = search needs
-
 touches-requires : tie.Need-touches-requires
 touches-requires c κs = search needs
 
-returns-2 : tie.Need-returns-2
-returns-2 c = rw (c .before .if1 .left) (c .touches .ensures)
+returns : tie.Need-returns
+returns c = rw (c .touches .ensures)
 
 pub hit-or-spec : {M : Type 1} → statement M
-hit-or-spec = tie.close (tie.spec returns touches-requires returns-2)
+hit-or-spec = tie.close (tie.spec touches-requires returns)

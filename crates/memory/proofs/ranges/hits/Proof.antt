@@ -44,7 +44,7 @@ use denote.Triple.Clauses.{ensured, lasts}
 use denote.Exit.{yes}
 use Rattle.memory.proofs.Branching.{stays-if}
 use Rattle.memory.proofs.Searching as law
-use Rattle.definition.specs.Memory.{inRanges, touchesOf}
+use Rattle.definition.specs.Memory.{touchesOf, inRanges}
 use Rattle.definition.specs.declared.Range.{Range}
 use Rattle.definition.proofs.Range as row-Range
 use Rattle.definition.proofs.Range.Laws as law-Range
@@ -79,15 +79,15 @@ module _ {M : Type 1} (𝓤 : URA M) (H : Heap 𝓤) (A : Atoms 𝓤) (W : Given
       nothing ! $ move ! (1 ∷ 0 ∷ []) $ join ! $ frame ! $ nothing ! $ owned ! u32 (Is u32) (uint-makes 𝓤 H A W w32) x2 _ i2 $ fjoin ! $ move ! (1 ∷ 0 ∷ []) $ fjoin ! $ frame ! $ owned ! Boolean (Is Boolean) (bool-makes 𝓤 H A W) r _ is $ done !
 
   -- the call of `ranges.hit_or`: what it is passed, what it asks, and what is known of its result
-  abbrev to-0 : (a0 : Bool) (v0 : Val) (a1 : Range) (v1 : Val) (a2 : ℕ) (v2 : Val) → C0 𝓤 H A mem run .Ghost
-  to-0 a0 v0 a1 v1 a2 v2 = ((tt, tt, tt, (a0, (a1, (a2, tt))), (v0 ∷ [], (v1 ∷ [], (v2 ∷ [], tt)))), tt)
+  abbrev to-0 : (a0 : Bool) (v0 : Val) (a1 : ℕ) (v1 : Val) (a2 : ℕ) (v2 : Val) (a3 : ℕ) (v3 : Val) → C0 𝓤 H A mem run .Ghost
+  to-0 a0 v0 a1 v1 a2 v2 a3 v3 = ((tt, tt, tt, (a0, (a1, (a2, (a3, tt)))), (v0 ∷ [], (v1 ∷ [], (v2 ∷ [], (v3 ∷ [], tt))))), tt)
 
-  goes-0 : (a0 : Bool) (v0 : Val) (a1 : Range) (v1 : Val) (a2 : ℕ) (v2 : Val) (i0 : Is Boolean a0 (v0 ∷ [])) (i1 : Is row-Range.the-row a1 (v1 ∷ [])) (i2 : Is u32 a2 (v2 ∷ [])) → ent 𝓤 (emp 𝓤) (C0 𝓤 H A mem run .pre (to-0 a0 v0 a1 v1 a2 v2))
-  goes-0 a0 v0 a1 v1 a2 v2 i0 i1 i2 =
-      qed W ([]) ∵ nothing ! $ owned ! u32 (Is u32) (uint-makes 𝓤 H A W w32) a2 _ i2 $ fjoin ! $ owned ! row-Range.the-row (Is row-Range.the-row) (LL.makes row-Range.the-type law-Range.the-plain 𝓤 H A) a1 _ i1 $ fjoin ! $ owned ! Boolean (Is Boolean) (bool-makes 𝓤 H A W) a0 _ i0 $ fjoin ! $ nothing ! $ join ! $ frame ! $ done !
+  goes-0 : (a0 : Bool) (v0 : Val) (a1 : ℕ) (v1 : Val) (a2 : ℕ) (v2 : Val) (a3 : ℕ) (v3 : Val) (i0 : Is Boolean a0 (v0 ∷ [])) (i1 : Is u32 a1 (v1 ∷ [])) (i2 : Is u32 a2 (v2 ∷ [])) (i3 : Is u32 a3 (v3 ∷ [])) → ent 𝓤 (emp 𝓤) (C0 𝓤 H A mem run .pre (to-0 a0 v0 a1 v1 a2 v2 a3 v3))
+  goes-0 a0 v0 a1 v1 a2 v2 a3 v3 i0 i1 i2 i3 =
+      qed W ([]) ∵ nothing ! $ owned ! u32 (Is u32) (uint-makes 𝓤 H A W w32) a3 _ i3 $ fjoin ! $ owned ! u32 (Is u32) (uint-makes 𝓤 H A W w32) a2 _ i2 $ fjoin ! $ owned ! u32 (Is u32) (uint-makes 𝓤 H A W w32) a1 _ i1 $ fjoin ! $ owned ! Boolean (Is Boolean) (bool-makes 𝓤 H A W) a0 _ i0 $ fjoin ! $ nothing ! $ join ! $ frame ! $ done !
 
-  said-0 : (a0 : Bool) (a1 : Range) (a2 : ℕ) (r : Bool) → ent 𝓤 (ensured 𝓤 H A c0.ended (c0.clauses 𝓤 H A mem run) tt (a0, (a1, (a2, tt))) tt r) (fact 𝓤 (r ≡ (a0 || touchesOf (a1 .first) (a1 .last) a2)))
-  said-0 a0 a1 a2 r = exE 𝓤 _ (λ ws. snd∗ 𝓤 (sem 𝓤 H A (lasts c0.ended tt (a0, (a1, (a2, tt))) ws)) (fact 𝓤 (r ≡ (a0 || touchesOf (a1 .first) (a1 .last) a2))))
+  said-0 : (a0 : Bool) (a1 : ℕ) (a2 : ℕ) (a3 : ℕ) (r : Bool) → ent 𝓤 (ensured 𝓤 H A c0.ended (c0.clauses 𝓤 H A mem run) tt (a0, (a1, (a2, (a3, tt)))) tt r) (fact 𝓤 (r ≡ (a0 || touchesOf a1 a2 a3)))
+  said-0 a0 a1 a2 a3 r = exE 𝓤 _ (λ ws. snd∗ 𝓤 (sem 𝓤 H A (lasts c0.ended tt (a0, (a1, (a2, (a3, tt)))) ws)) (fact 𝓤 (r ≡ (a0 || touchesOf a1 a2 a3))))
 
   -- the loop's variant: what is known at its head, of the locals that change, ordered by what is left
   abbrev Turn : Type 0
@@ -109,12 +109,12 @@ module _ {M : Type 1} (𝓤 : URA M) (H : Heap 𝓤) (A : Atoms 𝓤) (W : Given
     fm : FmC 𝓤 H (W .laws) (𝓣 .C)
     fm = fmOf 𝓤 H (W .laws) 𝓣
 
-    module _ (l0 l1 l2 l3 l4 l5 l6 l7 l8 : ℕ) where
+    module _ (l0 l1 l2 l3 l4 l5 l6 l7 l8 l9 l10 : ℕ) where
       abbrev En : Env 𝓤 H
-      En = (tyBool, l0) ∷ ((sliceTy (tyRef (named 0) imm (pointee (row-Range.the-row .written)))), l1) ∷ ((tyInt w32), l2) ∷ (tyBool, l3) ∷ ((tyInt w64), l4) ∷ ((tyInt w64), l5) ∷ (tyBool, l6) ∷ (tyPtr, l7) ∷ (law-Range.mir, l8) ∷ []
+      En = (tyBool, l0) ∷ ((sliceTy (tyRef (named 0) imm (pointee (row-Range.the-row .written)))), l1) ∷ ((tyInt w32), l2) ∷ (tyBool, l3) ∷ ((tyInt w64), l4) ∷ ((tyInt w32), l5) ∷ ((tyInt w32), l6) ∷ ((tyInt w64), l7) ∷ (tyBool, l8) ∷ (tyPtr, l9) ∷ (tyPtr, l10) ∷ []
 
       abbrev At : Turn → List (Item 𝓤)
-      At t = ‵ (froom tyBool l0 0) ∷ ‵ (fat fullShare (sliceTy (tyRef (named 0) imm (pointee (row-Range.the-row .written)))) l1 0 (sliceVal (x1 .ptr) (length (x1 .now)))) ∷ ‵ (fat fullShare (tyInt w32) l2 0 (vint w32 x2)) ∷ ‵ (fat fullShare tyBool l3 0 (vbool (t .0 .hit))) ∷ ‵ (fat fullShare (tyInt w64) l4 0 (vint w64 (t .0 .i))) ∷ ‵ (froom (tyInt w64) l5 0) ∷ ‵ (froom tyBool l6 0) ∷ ‵ (froom tyPtr l7 0) ∷ ‵ (froom law-Range.mir l8 0) ∷ ‵ (fdies tyBool l0) ∷ ‵ (fdies (sliceTy (tyRef (named 0) imm (pointee (row-Range.the-row .written)))) l1) ∷ ‵ (fdies (tyInt w32) l2) ∷ ‵ (fdies tyBool l3) ∷ ‵ (fdies (tyInt w64) l4) ∷ ‵ (fdies (tyInt w64) l5) ∷ ‵ (fdies tyBool l6) ∷ ‵ (fdies tyPtr l7) ∷ ‵ (fdies law-Range.mir l8) ∷ ‵ (flft κ0 q0) ∷ ‵ ((ShrSlice (named 0) κ0 row-Range.the-row) .own x1 (sliceVal (x1 .ptr) (length (x1 .now)) ∷ [])) ∷ []
+      At t = ‵ (froom tyBool l0 0) ∷ ‵ (fat fullShare (sliceTy (tyRef (named 0) imm (pointee (row-Range.the-row .written)))) l1 0 (sliceVal (x1 .ptr) (length (x1 .now)))) ∷ ‵ (fat fullShare (tyInt w32) l2 0 (vint w32 x2)) ∷ ‵ (fat fullShare tyBool l3 0 (vbool (t .0 .hit))) ∷ ‵ (fat fullShare (tyInt w64) l4 0 (vint w64 (t .0 .i))) ∷ ‵ (froom (tyInt w32) l5 0) ∷ ‵ (froom (tyInt w32) l6 0) ∷ ‵ (froom (tyInt w64) l7 0) ∷ ‵ (froom tyBool l8 0) ∷ ‵ (froom tyPtr l9 0) ∷ ‵ (froom tyPtr l10 0) ∷ ‵ (fdies tyBool l0) ∷ ‵ (fdies (sliceTy (tyRef (named 0) imm (pointee (row-Range.the-row .written)))) l1) ∷ ‵ (fdies (tyInt w32) l2) ∷ ‵ (fdies tyBool l3) ∷ ‵ (fdies (tyInt w64) l4) ∷ ‵ (fdies (tyInt w32) l5) ∷ ‵ (fdies (tyInt w32) l6) ∷ ‵ (fdies (tyInt w64) l7) ∷ ‵ (fdies tyBool l8) ∷ ‵ (fdies tyPtr l9) ∷ ‵ (fdies tyPtr l10) ∷ ‵ (flft κ0 q0) ∷ ‵ ((ShrSlice (named 0) κ0 row-Range.the-row) .own x1 (sliceVal (x1 .ptr) (length (x1 .now)) ∷ [])) ∷ []
 
       abbrev Rest : Body
       Rest = parts.t-4
@@ -125,35 +125,46 @@ module _ {M : Type 1} (𝓤 : URA M) (H : Heap 𝓤) (A : Atoms 𝓤) (W : Given
       turns : (t : Turn) → Sq W (At t) (runs C Λ En parts.turn-1 (anyQ (Turned t)))
       unfolding afterTurn
       turns t =
-          assigns ! (of-opd ! (load ! (from ! (fld ! refl (stop !))) (look-in ! 1 (sub ! 1 refl (whole !))))) (from ! (stop !)) (init ! 5 refl (uint-lawful 𝓤 H A W w64 .typed (length (x1 .now)) _ (refl, i1 .0 .1 .0) .0)) $
-          assigns ! (bin ! (load ! (from ! (stop !)) (look ! 4 refl)) (load ! (from ! (stop !)) (look ! 5 refl)) tt) (from ! (stop !)) (init ! 6 refl (bool-lawful 𝓤 H A W .typed (ltb (t .0 .i) (length (x1 .now))) _ refl .0)) $
-          stays-if ! (load ! (from ! (stop !)) (look ! 6 refl))
-          (λ h1. assigns ! (bin ! (load ! (from ! (stop !)) (look ! 4 refl)) (lit ! tt) (record { fits = law.mul-fits (t .0) h1 (i1 .0 .1 .1) })) (from ! (stop !)) (store ! 5 refl (uint-lawful 𝓤 H A W w64 .typed ((t .0 .i) * 8) _ (refl, law.mul-fits (t .0) h1 (i1 .0 .1 .1)) .0)) $
-          assigns ! (bin ! (load ! (from ! (fld ! refl (stop !))) (look-in ! 1 (sub ! 0 refl (whole !)))) (load ! (from ! (stop !)) (look ! 5 refl)) tt) (from ! (stop !)) (init ! 7 refl (tt, tt)) $
-          rewrite ! 7 (λ (p : ℕ). ‵ (fat fullShare tyPtr l7 0 (vptr (x1 .ptr .0) p))) (sym (place-is 8 (x1 .ptr .1) (t .0 .i))) refl $ move ! (19 ∷ []) $
+          assigns ! (of-opd ! (load ! (from ! (fld ! refl (stop !))) (look-in ! 1 (sub ! 1 refl (whole !))))) (from ! (stop !)) (init ! 7 refl (uint-lawful 𝓤 H A W w64 .typed (length (x1 .now)) _ (refl, i1 .0 .1 .0) .0)) $
+          assigns ! (bin ! (load ! (from ! (stop !)) (look ! 4 refl)) (load ! (from ! (stop !)) (look ! 7 refl)) tt) (from ! (stop !)) (init ! 8 refl (bool-lawful 𝓤 H A W .typed (ltb (t .0 .i) (length (x1 .now))) _ refl .0)) $
+          stays-if ! (load ! (from ! (stop !)) (look ! 8 refl))
+          (λ h1. assigns ! (bin ! (load ! (from ! (stop !)) (look ! 4 refl)) (lit ! tt) (record { fits = law.mul-fits (t .0) h1 (i1 .0 .1 .1) })) (from ! (stop !)) (store ! 7 refl (uint-lawful 𝓤 H A W w64 .typed ((t .0 .i) * 8) _ (refl, law.mul-fits (t .0) h1 (i1 .0 .1 .1)) .0)) $
+          assigns ! (bin ! (load ! (from ! (fld ! refl (stop !))) (look-in ! 1 (sub ! 0 refl (whole !)))) (load ! (from ! (stop !)) (look ! 7 refl)) tt) (from ! (stop !)) (init ! 9 refl (tt, tt)) $
+          rewrite ! 9 (λ (p : ℕ). ‵ (fat fullShare tyPtr l9 0 (vptr (x1 .ptr .0) p))) (sym (place-is 8 (x1 .ptr .1) (t .0 .i))) refl $ move ! (23 ∷ []) $
           use1 W (‵ ((ShrSlice (named 0) κ0 row-Range.the-row) .own x1 (sliceVal (x1 .ptr) (length (x1 .now)) ∷ [])) ⊛ ‵ ((ShrSlice (named 0) κ0 row-Range.the-row) .own x1 (sliceVal (x1 .ptr) (length (x1 .now)) ∷ []))) (shr-slice-copy 𝓤 H A W (named 0) κ0 row-Range.the-row .twice x1 _) $
-          split ! $ fsplit ! $ drop ! $ fsplit ! $ drop ! $ move ! (0 ∷ 20 ∷ []) $
+          split ! $ fsplit ! $ drop ! $ fsplit ! $ drop ! $ move ! (0 ∷ 24 ∷ []) $
           looks-slice ! tt row-Range.the-row (Is row-Range.the-row) (shows 𝓤 H A row-Range.the-row) (LL.vals row-Range.the-type law-Range.the-laws) (LL.tells row-Range.the-type law-Range.the-laws) (LL.copy row-Range.the-type law-Range.the-copy 𝓤 H A W) (x1 .now) (x1 .ptr .0) (x1 .ptr .1) (λ s2. elem-out ! row-Range.the-row (Is row-Range.the-row) (shows 𝓤 H A row-Range.the-row) (LL.vals row-Range.the-type law-Range.the-laws) (LL.tells row-Range.the-type law-Range.the-laws) s2 (x1 .now) (t .0 .i) law.none (x1 .ptr .0) (x1 .ptr .1) (law.inside (t .0) h1) (λ g3.
           use1 W (‵ (fat s2 law-Range.mir (x1 .ptr .0) (place 8 (x1 .ptr .1) (t .0 .i)) (LL.val row-Range.the-type law-Range.the-laws (getD (x1 .now) (t .0 .i) law.none)))) (W .laws .raw-at s2 law-Range.mir (x1 .ptr .0) (place 8 (x1 .ptr .1) (t .0 .i)) (LL.val row-Range.the-type law-Range.the-laws (getD (x1 .now) (t .0 .i) law.none))) $
-          assigns ! (of-opd ! (load ! (from ! (hop ! (look ! 13 refl) (stop !))) (look ! 0 refl))) (from ! (stop !)) (init ! 14 refl (LL.lawful row-Range.the-type law-Range.the-laws 𝓤 H A W .typed (getD (x1 .now) (t .0 .i) law.none) _ g3 .0)) $
+          assigns ! (of-opd ! (load ! (from ! (hop ! (look ! 15 refl) (fld ! refl (stop !)))) (look-in ! 0 (sub ! 0 refl (whole !))))) (from ! (stop !)) (init ! 11 refl (uint-lawful 𝓤 H A W w32 .typed (getD (x1 .now) (t .0 .i) law.none .first) _ (LL.owed row-Range.the-type law-Range.the-laws (getD (x1 .now) (t .0 .i) law.none) (LL.val row-Range.the-type law-Range.the-laws (getD (x1 .now) (t .0 .i) law.none) ∷ []) g3 .0) .0)) $
           use1 W (‵ (cellAt s2 (row-Range.the-row .mir) (LL.val row-Range.the-type law-Range.the-laws (getD (x1 .now) (t .0 .i) law.none) ∷ []) (x1 .ptr .0) (place 8 (x1 .ptr .1) (t .0 .i)))) (W .laws .at-raw s2 law-Range.mir (x1 .ptr .0) (place 8 (x1 .ptr .1) (t .0 .i)) (LL.val row-Range.the-type law-Range.the-laws (getD (x1 .now) (t .0 .i) law.none))) $
           elem-back ! row-Range.the-row s2 (x1 .now) (t .0 .i) law.none (LL.val row-Range.the-type law-Range.the-laws (getD (x1 .now) (t .0 .i) law.none) ∷ []) (x1 .ptr .0) (x1 .ptr .1) (law.inside (t .0) h1) $
           shuts-slice ! tt row-Range.the-row s2 (x1 .now) (x1 .ptr .0) (x1 .ptr .1) $ move ! (1 ∷ []) $ drop ! $
-          use0 W (raw (C0 𝓤 H A mem run .pre (to-0 (t .0 .hit) (vbool (t .0 .hit)) (getD (x1 .now) (t .0 .i) law.none) (LL.val row-Range.the-type law-Range.the-laws (getD (x1 .now) (t .0 .i) law.none)) x2 (vint w32 x2)))) (goes-0 (t .0 .hit) (vbool (t .0 .hit)) (getD (x1 .now) (t .0 .i) law.none) (LL.val row-Range.the-type law-Range.the-laws (getD (x1 .now) (t .0 .i) law.none)) x2 (vint w32 x2) (t .1 .1 .0) g3 i2) $
-          calls-at ! fm (C0 𝓤 H A mem run) known-0 (to-0 (t .0 .hit) (vbool (t .0 .hit)) (getD (x1 .now) (t .0 .i) law.none) (LL.val row-Range.the-type law-Range.the-laws (getD (x1 .now) (t .0 .i) law.none)) x2 (vint w32 x2)) (and-then ! (load ! (from ! (stop !)) (look ! 6 refl)) (and-then ! (load ! (from ! (stop !)) (look ! 11 refl)) (and-then ! (load ! (from ! (stop !)) (look ! 5 refl)) (no-more !)))) (λ u4.
-          use1 W (later (some (λ (r : Bool). (‵ ftrue ⊛ ‵ (Boolean .own r (u4 ∷ []))) ⊛ raw (ensured 𝓤 H A c0.ended (c0.clauses 𝓤 H A mem run) tt (t .0 .hit, (getD (x1 .now) (t .0 .i) law.none, (x2, tt))) tt r)))) (id⊢ 𝓤 _) $ await ! tt $ choose ! (λ r5. split ! $ move ! (1 ∷ []) $ use1 W (raw (fact 𝓤 (r5 ≡ ((t .0 .hit) || touchesOf ((getD (x1 .now) (t .0 .i) law.none) .first) ((getD (x1 .now) (t .0 .i) law.none) .last) x2)))) (said-0 (t .0 .hit) (getD (x1 .now) (t .0 .i) law.none) x2 r5) $ heard ! (r5 ≡ ((t .0 .hit) || touchesOf ((getD (x1 .now) (t .0 .i) law.none) .first) ((getD (x1 .now) (t .0 .i) law.none) .last) x2)) (λ e6. split ! $
-          drop ! $ facts ! Boolean (Is Boolean) (shows 𝓤 H A Boolean) r5 (u4 ∷ []) (λ is7. land ! (from ! (stop !)) (store ! 5 refl (bool-lawful 𝓤 H A W .typed r5 _ is7 .0)) $
-          rewrite ! 5 (λ (u : Val). ‵ (fat fullShare tyBool l3 0 u)) (ap only (bool-tells r5 _ is7)) refl $
+          assigns ! (bin ! (load ! (from ! (stop !)) (look ! 6 refl)) (lit ! tt) (record { fits = law.mul-fits (t .0) h1 (i1 .0 .1 .1) })) (from ! (stop !)) (store ! 9 refl (uint-lawful 𝓤 H A W w64 .typed ((t .0 .i) * 8) _ (refl, law.mul-fits (t .0) h1 (i1 .0 .1 .1)) .0)) $
+          assigns ! (bin ! (load ! (from ! (fld ! refl (stop !))) (look-in ! 3 (sub ! 0 refl (whole !)))) (load ! (from ! (stop !)) (look ! 9 refl)) tt) (from ! (stop !)) (init ! 12 refl (tt, tt)) $
+          rewrite ! 12 (λ (p : ℕ). ‵ (fat fullShare tyPtr l10 0 (vptr (x1 .ptr .0) p))) (sym (place-is 8 (x1 .ptr .1) (t .0 .i))) refl $ move ! (1 ∷ []) $
+          use1 W (‵ ((ShrSlice (named 0) κ0 row-Range.the-row) .own x1 (sliceVal (x1 .ptr) (length (x1 .now)) ∷ [])) ⊛ ‵ ((ShrSlice (named 0) κ0 row-Range.the-row) .own x1 (sliceVal (x1 .ptr) (length (x1 .now)) ∷ []))) (shr-slice-copy 𝓤 H A W (named 0) κ0 row-Range.the-row .twice x1 _) $
+          split ! $ fsplit ! $ drop ! $ fsplit ! $ drop ! $ move ! (0 ∷ 2 ∷ []) $
+          looks-slice ! tt row-Range.the-row (Is row-Range.the-row) (shows 𝓤 H A row-Range.the-row) (LL.vals row-Range.the-type law-Range.the-laws) (LL.tells row-Range.the-type law-Range.the-laws) (LL.copy row-Range.the-type law-Range.the-copy 𝓤 H A W) (x1 .now) (x1 .ptr .0) (x1 .ptr .1) (λ s4. elem-out ! row-Range.the-row (Is row-Range.the-row) (shows 𝓤 H A row-Range.the-row) (LL.vals row-Range.the-type law-Range.the-laws) (LL.tells row-Range.the-type law-Range.the-laws) s4 (x1 .now) (t .0 .i) law.none (x1 .ptr .0) (x1 .ptr .1) (law.inside (t .0) h1) (λ g5.
+          use1 W (‵ (fat s4 law-Range.mir (x1 .ptr .0) (place 8 (x1 .ptr .1) (t .0 .i)) (LL.val row-Range.the-type law-Range.the-laws (getD (x1 .now) (t .0 .i) law.none)))) (W .laws .raw-at s4 law-Range.mir (x1 .ptr .0) (place 8 (x1 .ptr .1) (t .0 .i)) (LL.val row-Range.the-type law-Range.the-laws (getD (x1 .now) (t .0 .i) law.none))) $
+          assigns ! (of-opd ! (load ! (from ! (hop ! (look ! 16 refl) (fld ! refl (stop !)))) (look-in ! 0 (sub ! 1 refl (whole !))))) (from ! (stop !)) (init ! 12 refl (uint-lawful 𝓤 H A W w32 .typed (getD (x1 .now) (t .0 .i) law.none .last) _ (LL.owed row-Range.the-type law-Range.the-laws (getD (x1 .now) (t .0 .i) law.none) (LL.val row-Range.the-type law-Range.the-laws (getD (x1 .now) (t .0 .i) law.none) ∷ []) g5 .1 .0) .0)) $
+          use1 W (‵ (cellAt s4 (row-Range.the-row .mir) (LL.val row-Range.the-type law-Range.the-laws (getD (x1 .now) (t .0 .i) law.none) ∷ []) (x1 .ptr .0) (place 8 (x1 .ptr .1) (t .0 .i)))) (W .laws .at-raw s4 law-Range.mir (x1 .ptr .0) (place 8 (x1 .ptr .1) (t .0 .i)) (LL.val row-Range.the-type law-Range.the-laws (getD (x1 .now) (t .0 .i) law.none))) $
+          elem-back ! row-Range.the-row s4 (x1 .now) (t .0 .i) law.none (LL.val row-Range.the-type law-Range.the-laws (getD (x1 .now) (t .0 .i) law.none) ∷ []) (x1 .ptr .0) (x1 .ptr .1) (law.inside (t .0) h1) $
+          shuts-slice ! tt row-Range.the-row s4 (x1 .now) (x1 .ptr .0) (x1 .ptr .1) $ move ! (1 ∷ []) $ drop ! $
+          use0 W (raw (C0 𝓤 H A mem run .pre (to-0 (t .0 .hit) (vbool (t .0 .hit)) (getD (x1 .now) (t .0 .i) law.none .first) (vint w32 (getD (x1 .now) (t .0 .i) law.none .first)) (getD (x1 .now) (t .0 .i) law.none .last) (vint w32 (getD (x1 .now) (t .0 .i) law.none .last)) x2 (vint w32 x2)))) (goes-0 (t .0 .hit) (vbool (t .0 .hit)) (getD (x1 .now) (t .0 .i) law.none .first) (vint w32 (getD (x1 .now) (t .0 .i) law.none .first)) (getD (x1 .now) (t .0 .i) law.none .last) (vint w32 (getD (x1 .now) (t .0 .i) law.none .last)) x2 (vint w32 x2) (t .1 .1 .0) (LL.owed row-Range.the-type law-Range.the-laws (getD (x1 .now) (t .0 .i) law.none) (LL.val row-Range.the-type law-Range.the-laws (getD (x1 .now) (t .0 .i) law.none) ∷ []) g3 .0) (LL.owed row-Range.the-type law-Range.the-laws (getD (x1 .now) (t .0 .i) law.none) (LL.val row-Range.the-type law-Range.the-laws (getD (x1 .now) (t .0 .i) law.none) ∷ []) g5 .1 .0) i2) $
+          calls-at ! fm (C0 𝓤 H A mem run) known-0 (to-0 (t .0 .hit) (vbool (t .0 .hit)) (getD (x1 .now) (t .0 .i) law.none .first) (vint w32 (getD (x1 .now) (t .0 .i) law.none .first)) (getD (x1 .now) (t .0 .i) law.none .last) (vint w32 (getD (x1 .now) (t .0 .i) law.none .last)) x2 (vint w32 x2)) (and-then ! (load ! (from ! (stop !)) (look ! 6 refl)) (and-then ! (load ! (from ! (stop !)) (look ! 8 refl)) (and-then ! (load ! (from ! (stop !)) (look ! 9 refl)) (and-then ! (load ! (from ! (stop !)) (look ! 5 refl)) (no-more !))))) (λ u6.
+          use1 W (later (some (λ (r : Bool). (‵ ftrue ⊛ ‵ (Boolean .own r (u6 ∷ []))) ⊛ raw (ensured 𝓤 H A c0.ended (c0.clauses 𝓤 H A mem run) tt (t .0 .hit, (getD (x1 .now) (t .0 .i) law.none .first, (getD (x1 .now) (t .0 .i) law.none .last, (x2, tt)))) tt r)))) (id⊢ 𝓤 _) $ await ! tt $ choose ! (λ r7. split ! $ move ! (1 ∷ []) $ use1 W (raw (fact 𝓤 (r7 ≡ ((t .0 .hit) || touchesOf (getD (x1 .now) (t .0 .i) law.none .first) (getD (x1 .now) (t .0 .i) law.none .last) x2)))) (said-0 (t .0 .hit) (getD (x1 .now) (t .0 .i) law.none .first) (getD (x1 .now) (t .0 .i) law.none .last) x2 r7) $ heard ! (r7 ≡ ((t .0 .hit) || touchesOf (getD (x1 .now) (t .0 .i) law.none .first) (getD (x1 .now) (t .0 .i) law.none .last) x2)) (λ e8. split ! $
+          drop ! $ facts ! Boolean (Is Boolean) (shows 𝓤 H A Boolean) r7 (u6 ∷ []) (λ is9. land ! (from ! (stop !)) (store ! 5 refl (bool-lawful 𝓤 H A W .typed r7 _ is9 .0)) $
+          rewrite ! 5 (λ (u : Val). ‵ (fat fullShare tyBool l3 0 u)) (ap only (bool-tells r7 _ is9)) refl $
           assigns-last ! (bin ! (load ! (from ! (stop !)) (look ! 6 refl)) (lit ! tt) (record { fits = law.add-fits (t .0) h1 (i1 .0 .1 .0) })) (from ! (stop !)) (store ! 6 refl (uint-lawful 𝓤 H A W w64 .typed ((t .0 .i) + 1) _ (refl, law.add-fits (t .0) h1 (i1 .0 .1 .0)) .0)) $
-          forget ! 7 refl $ forget ! 8 refl $ forget ! 9 refl $ forget ! 10 refl $
-          keep ! (2 ∷ 3 ∷ 4 ∷ 5 ∷ 6 ∷ 7 ∷ 8 ∷ 9 ∷ 10 ∷ 11 ∷ 12 ∷ 13 ∷ 14 ∷ 15 ∷ 16 ∷ 17 ∷ 18 ∷ 19 ∷ 0 ∷ 1 ∷ []) $
-          again ! Nearer At t (law.next (t .0) h1 r5 e6, ((refl, law.add-fits (t .0) h1 (i1 .0 .1 .0)), ((subst (Is Boolean r5) (bool-tells r5 _ is7) is7), tt))) (law.less (t .0) h1))))))))
+          forget ! 7 refl $ forget ! 8 refl $ forget ! 9 refl $ forget ! 10 refl $ forget ! 11 refl $ forget ! 12 refl $
+          keep ! (2 ∷ 3 ∷ 4 ∷ 5 ∷ 6 ∷ 7 ∷ 8 ∷ 9 ∷ 10 ∷ 11 ∷ 12 ∷ 13 ∷ 14 ∷ 15 ∷ 16 ∷ 17 ∷ 18 ∷ 19 ∷ 20 ∷ 21 ∷ 22 ∷ 23 ∷ 0 ∷ 1 ∷ []) $
+          again ! Nearer At t (law.next (t .0) h1 r7 e8, ((refl, law.add-fits (t .0) h1 (i1 .0 .1 .0)), ((subst (Is Boolean r7) (bool-tells r7 _ is9) is9), tt))) (law.less (t .0) h1))))))))))
           (λ h1. jumps ! $ exec ! C Λ En Rest (atRet En Post) $
           assigns ! (of-opd ! (load ! (from ! (stop !)) (look ! 3 refl))) (from ! (stop !)) (init ! 0 refl (bool-lawful 𝓤 H A W .typed (t .0 .hit) _ (t .1 .1 .0) .0)) $
-          returns ! (look ! 0 refl) $ forget ! 0 refl $ forget ! 1 refl $ forget ! 2 refl $ forget ! 3 refl $ forget ! 4 refl $ forget ! 5 refl $ forget ! 6 refl $
-          move ! (0 ∷ 9 ∷ []) $ free1 ! $ move ! (0 ∷ 8 ∷ []) $ free1 ! $ move ! (0 ∷ 7 ∷ []) $ free1 ! $ move ! (0 ∷ 6 ∷ []) $ free1 ! $ move ! (0 ∷ 5 ∷ []) $ free1 ! $
-          move ! (0 ∷ 4 ∷ []) $ free1 ! $ move ! (0 ∷ 3 ∷ []) $ free1 ! $ move ! (0 ∷ 2 ∷ []) $ free1 ! $ free1 ! $ free0 ! $ keep ! (0 ∷ 1 ∷ []) $
-          by ! (exits (t .0 .hit) (vbool (t .0 .hit)) (t .1 .1 .0) (law.ends (t .0) h1)))
+          returns ! (look ! 0 refl) $ forget ! 0 refl $ forget ! 1 refl $ forget ! 2 refl $ forget ! 3 refl $ forget ! 4 refl $ forget ! 7 refl $ forget ! 8 refl $
+          move ! (0 ∷ 11 ∷ []) $ free1 ! $ move ! (0 ∷ 10 ∷ []) $ free1 ! $ move ! (0 ∷ 9 ∷ []) $ free1 ! $ move ! (0 ∷ 8 ∷ []) $ free1 ! $ move ! (0 ∷ 7 ∷ []) $ free1 ! $
+          move ! (0 ∷ 6 ∷ []) $ free1 ! $ move ! (0 ∷ 5 ∷ []) $ free1 ! $ move ! (0 ∷ 4 ∷ []) $ free1 ! $ move ! (0 ∷ 3 ∷ []) $ free1 ! $ move ! (0 ∷ 2 ∷ []) $ free1 ! $ free1 ! $
+          free0 ! $ keep ! (0 ∷ 1 ∷ []) $ by ! (exits (t .0 .hit) (vbool (t .0 .hit)) (t .1 .1 .0) (law.ends (t .0) h1)))
 
       looped : (t : Turn) → Sq W (At t) (runs C Λ En parts.t-3 (atRet En Post))
       looped t = first ! $ blocks ! $ loops ! 𝓣 Nearer Nearer-wf At turns t
@@ -161,13 +172,13 @@ module _ {M : Type 1} (𝓤 : URA M) (H : Heap 𝓤) (A : Atoms 𝓤) (W : Given
     walk : ent 𝓤 (onEntry 𝓤 H A self.signature (κ0, tt) (q0, tt) (x1, (x2, tt)) at-entry) (WpFn 𝓤 H (𝓣 .C) (𝓣 .Λ) code.function ((sliceVal (x1 .ptr) (length (x1 .now))) ∷ (vint w32 x2) ∷ []) Post)
     walk =
         qed W ((‵ (flft κ0 q0) ⊛ ‵ ftrue) ∷ ‵ (owns ((ShrSlice (named 0) κ0 row-Range.the-row) ∷ u32 ∷ []) (x1, (x2, tt)) at-entry) ∷ []) ∵ enter ! (𝓣 .C) (𝓣 .Λ) code.function ((sliceVal (x1 .ptr) (length (x1 .now))) ∷ (vint w32 x2) ∷ []) _ $
-        alloc1 ! (λ l0. alloc1 ! (λ l1. alloc1 ! (λ l2. alloc1 ! (λ l3. alloc1 ! (λ l4. alloc1 ! (λ l5. alloc1 ! (λ l6. alloc1 ! (λ l7. alloc1 ! (λ l8. alloc0 ! $ params1 ! $
-        pass1 ! (init ! 14 refl (shr-slice-lawful 𝓤 H A W (named 0) κ0 row-Range.the-row .typed x1 _ i1 .0)) $ pass1 ! (init ! 12 refl (uint-lawful 𝓤 H A W w32 .typed x2 _ i2 .0)) $ pass0 ! $
-        move ! (19 ∷ []) $ fsplit ! $ move ! (1 ∷ []) $ fsplit ! $ drop ! $ drop ! $ move ! (19 ∷ []) $ split ! $ move ! (1 ∷ []) $ drop ! $
-        assigns ! (of-opd ! (false-lit !)) (from ! (stop !)) (init ! 12 refl (bool-lawful 𝓤 H A W .typed false _ refl .0)) $
-        assigns ! (of-opd ! (lit ! tt)) (from ! (stop !)) (init ! 10 refl (uint-lawful 𝓤 H A W w64 .typed 0 _ (refl, lit< tt) .0)) $
-        keep ! (18 ∷ 16 ∷ 14 ∷ 12 ∷ 10 ∷ 8 ∷ 6 ∷ 4 ∷ 2 ∷ 19 ∷ 17 ∷ 15 ∷ 13 ∷ 11 ∷ 9 ∷ 7 ∷ 5 ∷ 3 ∷ 0 ∷ 1 ∷ []) $
-        looped l0 l1 l2 l3 l4 l5 l6 l7 l8 (law.start, ((refl, lit< tt), (refl, tt))))))))))))
+        alloc1 ! (λ l0. alloc1 ! (λ l1. alloc1 ! (λ l2. alloc1 ! (λ l3. alloc1 ! (λ l4. alloc1 ! (λ l5. alloc1 ! (λ l6. alloc1 ! (λ l7. alloc1 ! (λ l8. alloc1 ! (λ l9. alloc1 ! (λ l10. alloc0 ! $ params1 ! $
+        pass1 ! (init ! 18 refl (shr-slice-lawful 𝓤 H A W (named 0) κ0 row-Range.the-row .typed x1 _ i1 .0)) $ pass1 ! (init ! 16 refl (uint-lawful 𝓤 H A W w32 .typed x2 _ i2 .0)) $ pass0 ! $
+        move ! (23 ∷ []) $ fsplit ! $ move ! (1 ∷ []) $ fsplit ! $ drop ! $ drop ! $ move ! (23 ∷ []) $ split ! $ move ! (1 ∷ []) $ drop ! $
+        assigns ! (of-opd ! (false-lit !)) (from ! (stop !)) (init ! 16 refl (bool-lawful 𝓤 H A W .typed false _ refl .0)) $
+        assigns ! (of-opd ! (lit ! tt)) (from ! (stop !)) (init ! 14 refl (uint-lawful 𝓤 H A W w64 .typed 0 _ (refl, lit< tt) .0)) $
+        keep ! (22 ∷ 20 ∷ 18 ∷ 16 ∷ 14 ∷ 12 ∷ 10 ∷ 8 ∷ 6 ∷ 4 ∷ 2 ∷ 23 ∷ 21 ∷ 19 ∷ 17 ∷ 15 ∷ 13 ∷ 11 ∷ 9 ∷ 7 ∷ 5 ∷ 3 ∷ 0 ∷ 1 ∷ []) $
+        looped l0 l1 l2 l3 l4 l5 l6 l7 l8 l9 l10 (law.start, ((refl, lit< tt), (refl, tt))))))))))))))
 
 module _ {M : Type 1} (𝓤 : URA M) (H : Heap 𝓤) (A : Atoms 𝓤) (W : Given 𝓤 H A) (mem : Memory → SProp 𝓤) (run : Routine → Fun 𝓤) (𝓣 : Tables 𝓤 H) where
   self-walks : Triple 𝓤 (𝓣 .C #memory·ranges·hit-or) (C0 𝓤 H A mem run) → AllWalks 𝓤 H A self.ended stayed (WpFn 𝓤 H (𝓣 .C) (𝓣 .Λ) code.function) (self.clauses 𝓤 H A mem run)
