@@ -22,6 +22,7 @@ class Printer:
         self.facts = Facts()
         self.lent = None             # the array that is lent until the next call has returned
         self.lends = False
+        self.onward = None           # the step to what follows a `match`, until it is taken
         self.made = self.f.lifetimes      # the next lifetime that is made here
         self.names = 0
         numbers = range(1, self.f.nparams + 1)
@@ -81,6 +82,8 @@ class Printer:
             source, through = place(rvalue[1])
             if through:
                 return self.again(w, local, source, last)
+            if self.f.locals[local].kind == 'again':
+                return w.assign(local, 'addr ! (from ! (stop !))', Value(self.f.locals[local], None, f'vptr l{source} 0', None, whole=source), last)
             return w.assign(local, 'addr ! (from ! (stop !))', Value(Type('ptr'), None, None, None, array=source), last)
         if rvalue[0] == 'aggregate':
             if self.f.locals[local].kind == 'enum':
@@ -191,13 +194,49 @@ class Printer:
         w.replace(3, f'obs{i}', f'bor{i}', f'T{k}')
         w.values[i] = w.values[i].but(now=last)
 
+    def lend_local(self, w, source, to, made, name):
+        """the local `source` is lent as `&mut` for a lifetime that is made here, as `to` of the callee; its value there"""
+        self.lends = True
+        local, row, mir, b = w.values[source], to.elem.row(), to.elem.mir(), f'l{source}'
+        w.say(f'lft-new ! tt (λ α{made}.', opens=1)
+        w.push(f'T{made}')
+        w.move(f'L{source}')
+        w.say(f'use1 W (‵ (cellAt fullShare ({row} .mir) ({local.v} ∷ []) {b} 0)) (W .laws .at-raw fullShare {mir} {b} 0 ({local.v})) $ '
+              f'owned ! {row} (Is {row}) {to.elem.makes()} {par(local.x)} _ {par(local.i)} $ move ! (1 ∷ 0 ∷ []) $ '
+              f'use2 W (‵ (mem-of {row} .lies {par(local.x)} {b} 0)) (lending.lies 𝓤 H A W {row} {par(local.x)} ({local.v} ∷ []) {b} 0)')
+        new = self.fresh('δ')
+        x = f'(record {{ ptr = ({b}, 0); name = {new}; now = {local.x} }})'
+        lent = f'‵ ({to.row(f"(α{made} ∷ [])")} .own {x} (vptr {b} 0 ∷ [])) ⊛ ‵ (flent (α{made} ∷ []) (Behind (mem-of {row}) {b} 0 {new}))'
+        w.say(f'use1 W (later (some (λ ({new} : GName). {lent}))) (lends-ref 𝓤 H A W {row} (named {to.lifetime}) (α{made} ∷ []) {par(local.x)} {b} 0) $ '
+              f'await ! tt $ choose ! (λ {new}. split !', opens=1)
+        w.replace(1, name, f'lent{source}')
+        return Value(to, x, f'vptr {b} 0', None, param=f'l{source}', new=new, made=made, local=source)
+
+    def local_back(self, w, lent, last):
+        """the call has returned, and left `last` in the local that it was lent"""
+        source, elem = lent.local, lent.type.elem
+        row, mir, b, machine = elem.row(), elem.mir(), f'l{source}', elem.value(last)
+        common = f'{row} (Is {row}) (shows 𝓤 H A {row})'
+        vs, g = self.fresh('vs'), self.fresh('g')
+        w.move(f'T{lent.made}')
+        w.say('lft-end ! tt')
+        w.replace(1, 'dead')
+        w.move('dead', f'lent{source}', f'resl{source}')
+        w.say(f'use3 W (later (‵ (mem-of {row} .lies {last} {b} 0))) (ref-back 𝓤 H A W {row} (α{lent.made} ∷ []) {lent.new} {last} {b} 0) $ await ! tt $ '
+              f'lending.lying ! {row} {last} {b} 0 (λ {vs}. spelt ! {common} ({elem.values()}) ({elem.tells()}) fullShare {last} {vs} {b} 0 $ '
+              f'use1 W (‵ (fat fullShare {mir} {b} 0 ({machine}))) (W .laws .raw-at fullShare {mir} {b} 0 ({machine})) $ move ! (1 ∷ []) $ '
+              f'facts ! {common} {last} ({machine} ∷ []) (λ {g}.', opens=2)
+        w.replace(3, f'L{source}')
+        w.values[source] = Value(elem, last, machine, g)
+
     def lend(self, w, local, parts):
         """`local` takes the slice of a local array's first elements, lent for a lifetime that is made here, until the next call has returned"""
         self.lends = True
         (step1, pointer), (step2, count) = w.operand(parts[0]), w.operand(parts[1])
         source = pointer.array
         array = w.values[source]
-        elem, j, b = array.type.elem, self.f.lifetimes, f'l{source}'
+        elem, j, b = array.type.elem, self.made, f'l{source}'
+        self.made += 1
         row, n, xs = elem.row(), par(count.x), par(array.x)
         firsts, others = f'(take {n} {xs})', f'(drop-of {n} {xs})'
         w.say(f'assigns ! (agg ! (and-then ! ({step1}) (and-then ! ({step2}) (no-more !)))) (from ! (stop !)) '
@@ -327,7 +366,10 @@ class Printer:
         lifetimes = {}
         for j, p in enumerate(params):
             if p.kind == 'mutref':
-                values[j] = self.lend_again(w, values[j].param, p, self.made, f'c{j}')
+                if hasattr(values[j], 'whole'):
+                    values[j] = self.lend_local(w, values[j].whole, p, self.made, f'c{j}')
+                else:
+                    values[j] = self.lend_again(w, values[j].param, p, self.made, f'c{j}')
                 lifetimes[p.lifetime] = self.made
                 self.made += 1
             elif p.shared:
@@ -389,13 +431,16 @@ class Printer:
         w.say(f'facts ! {result.row()} (Is {result.row()}) (shows 𝓤 H A {result.row()}) {r} ({u} ∷ []) (λ {is_}.', opens=1)
         w.pop()
         w.append(f' {"land-last" if last else "land"} ! (from ! (stop !)) {w.write(into, Value(result, r, u, is_))}')
+        if last:
+            self.go_on(w)
         # the machine value is spelled out, so that a loop's record can name it
         spelled = f'({result.tells()} {r} _ {is_})'
         w.say(f'rewrite ! {w.cell(into)} (λ (u : Val). ‵ (fat fullShare {result.mir()} l{into} 0 u)) (ap only {spelled}) refl')
         w.values[into] = Value(result, r, result.value(r), f'(subst (Is {result.row()} {r}) {spelled} {is_})')
         self.facts.append((f.bare, r, e))
         for j in muts:
-            self.comes_back(w, values[j], par(nth(ws, j)))
+            back = self.local_back if hasattr(values[j], 'local') else self.comes_back
+            back(w, values[j], par(nth(ws, j)))
         if self.lent and made:
             self.unlend(w)
 
@@ -536,6 +581,9 @@ class Printer:
             if s[0] == 'block':
                 self.loop(w, statements(s[1][1]), body[k + 1:])
                 break
+            if s[0] == 'switch':
+                self.concluding(w, s, body[k + 1:], f'parts.t-{k + 2}')
+                break
             if s[0] == 'if':
                 self.returning(w, s)
             else:
@@ -627,7 +675,34 @@ class Printer:
         w.say(f'{"leaves-if" if leaves_first else "stays-if"} ! ({w.look(test)})\n        (λ {h}. {yes.text()})\n        (λ {h}. {no.text()})')
 
     def matching(self, w, s, h, order, others):
-        """a `match` on an enum in a local, an arm for each variant; each arm is what is left of the turn"""
+        """a `match` at the end of a turn; each arm is what is left of it"""
+        self.match(w, s, lambda arm, body: self.turning(arm, body, h, order, others))
+
+    def concluding(self, w, s, rest, named):
+        """a `match` outside the loop, and what follows it, which each arm walks on to by itself"""
+        environment = list_of(f'({t.mir()}, l{i})' for i, t in enumerate(self.f.locals))
+
+        def arm_of(arm, body):
+            for s2 in body[:-1]:
+                self.statement(arm, s2)
+            self.onward = f'exec ! C Λ ({environment}) {named} (atRet ({environment}) Post)'
+            self.statement(arm, body[-1], last=True)
+            self.go_on(arm)
+            for s2 in rest[:-1]:
+                self.statement(arm, s2)
+            self.leave(arm, self.own['ends'](self.facts))
+
+        w.say('first !')
+        self.match(w, s, arm_of)
+
+    def go_on(self, w):
+        """the last statement of an arm is done: to what follows the `match`. What a call was lent comes back there"""
+        if self.onward:
+            w.say(self.onward)
+            self.onward = None
+
+    def match(self, w, s, walk):
+        """a `match` on an enum in a local, an arm for each variant, which `walk` walks"""
         local = place(s[1][1])[0]
         enum, cell, facts = w.values[local], w.cell(local), self.facts
         type_ = enum.type
@@ -644,7 +719,7 @@ class Printer:
             i = f'(subst (λ (u : {type_.denotation()}). Is {row} u ({value} ∷ [])) {is_} {par(enum.i)})'
             arm.values[local] = Value(type_, x, type_.value(x), i, variant=int(keys[0]), fields=fields)
             self.facts = Facts([*facts, ('match', None, is_)])
-            self.turning(arm, statements(body), h, order, others)
+            walk(arm, statements(body))
             texts.append(f'(λ {tag}. {arm.text()})')
         operand = f'load ! (from ! (vrt ! refl (fld ! refl (stop !)))) (look-tag ! {cell} (whole !))'
         w.say(f'by-variants ! {cell} (whole !) ({operand}) tt\n        {tuple_of(texts)}')
@@ -694,7 +769,7 @@ class Printer:
         types = self.types()
         widths = sorted({t.bits for t in types if t.kind == 'int'} | {64})
         lines = [line.replace('WIDTHS', ', '.join(f'w{b}' for b in widths)).replace('UINTS', ', '.join(f'u{b}' for b in widths)) for line in KIT]
-        if self.muts:
+        if any(t.kind == 'mutref' for t in types):
             lines += KIT_MUT
         if any(t.kind == 'shrref' for t in types):
             lines += KIT_SHARED
@@ -719,8 +794,7 @@ class Printer:
             lines += [f'use {where} as c{k}', f'use {where}.Symbol as c{k}-def', f'use {where}.Symbol.{{name as #{f.key}}}', f'use {where}.Met as c{k}-thm']
         here = f'{self.proofs(self.crate)}.{self.name}'
         lines += [f'use {here}.Key.{{name as #{self.f.key}}}', f'use {here} as self', f'use {here}.Statement as stated', f'use {here}.Code as code']
-        if self.turn:
-            lines.append(f'use {here}.Code.Mir as parts')
+        lines.append(f'use {here}.Code.Mir as parts')
         return lines
 
     # what is another crate's is named through that crate's facade

@@ -97,7 +97,7 @@ KIT_ENUM = '''use types.Part.{agg}
 use types.Match.{vrt, in-variant, look-tag, by-variants}
 use borrow.Enum.Known.{at as variant-at, lives-at}'''.split('\n')
 
-KIT_LEND = '''use denote.Lend.{lends-shr-slice}
+KIT_LEND = '''use denote.Lend.{lends-shr-slice, lends-ref, ref-back}
 use denote.Memory.{shares}
 use denote.Index.{row}
 use types.Share.{arr-parts}
