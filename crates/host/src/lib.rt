@@ -41,8 +41,8 @@ fn registers_of(numbers: &[u32; 13]) -> Registers
     ensures { λ r. ⌜ r ≡ registersOf (now (numbers .entry)) ⌝ }
 {
     let flags = numbers[1];
-    let present = tables::bit(flags, 0);
-    let enabled = tables::bit(flags, 1);
+    let present = memory::bits::bit(flags, 0);
+    let enabled = memory::bits::bit(flags, 1);
     let crp = Root {
         limit: numbers[3],
         address: numbers[4],
@@ -81,11 +81,11 @@ fn override_of(code: u32) -> Override
 fn access_of(flags: u32, code: u32, address: u32) -> Access
     ensures { λ r. ⌜ r ≡ accessOf flags code address ⌝ }
 {
-    let write = tables::bit(flags, 0);
-    let supervisor = tables::bit(flags, 1);
-    let instruction = tables::bit(flags, 2);
-    let own = tables::bit(flags, 3);
-    let recorded = tables::bit(flags, 4);
+    let write = memory::bits::bit(flags, 0);
+    let supervisor = memory::bits::bit(flags, 1);
+    let instruction = memory::bits::bit(flags, 2);
+    let own = memory::bits::bit(flags, 3);
+    let recorded = memory::bits::bit(flags, 4);
     let code = override_of(code);
     Access {
         address,
@@ -256,9 +256,9 @@ pub extern "C" fn mmu_probe(
     ensures { λ _. ⌜ now (out .exit) ≡ probeNumbers (probeOf (registersOf (now (registers .entry))) (bitOf flags 3) (bitOf flags 2) (bitOf flags 0) address (cachesOf (now (c030 .entry)) (now (c040 .entry)))) ⌝ }
 {
     let g = registers_of(registers);
-    let own = tables::bit(flags, 3);
-    let instruction = tables::bit(flags, 2);
-    let write = tables::bit(flags, 0);
+    let own = memory::bits::bit(flags, 3);
+    let instruction = memory::bits::bit(flags, 2);
+    let write = memory::bits::bit(flags, 0);
     let answer = probe::probe_in(c030, c040, g, own, instruction, write, address);
     tell_probe(out, answer)
 }

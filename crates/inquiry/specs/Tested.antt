@@ -11,9 +11,9 @@ use Rattle.definition.specs.Refusal.{noFamily, not030, aboveSeven, refusalOf}
 use Rattle.definition.specs.Test.{Tested, flag, mmusrOf}
 use Rattle.definition.specs.declared.Registers.{Registers}
 use Rattle.definition.specs.declared.Test.{Test}
-use Rattle.tables.specs.declared.Way.{Way}
-use Rattle.tables.specs.declared.Walks.{Walks}
-use Rattle.tables.specs.declared.Walks.the-variants as walks
+use Rattle.walks.specs.declared.Way.{Way}
+use Rattle.walks.specs.declared.Walks.{Walks}
+use Rattle.walks.specs.declared.Walks.the-variants as walks
 use Rattle.plan.specs.declared.Plan.{Plan}
 use Rattle.plan.specs.declared.Plan.the-variants as plan
 use Rattle.plan.specs.Plans.{checksOf}

@@ -22,12 +22,12 @@ fn probe_030(c030: &Atc030, tc: u32, code: u32, write: bool, address: u32) -> Pr
     requires { ⌜ code < 8 ⌝ }
     ensures { λ r. ⌜ r ≡ probe030 (cacheOf (now (c030 .entry))) code write address (shiftOf tc) ⌝ }
 {
-    match tables::page_shift(tc) {
+    match memory::page030::page_shift(tc) {
         Shift::NoPage => Probe::Nothing,
         Shift::Bits(shift) => {
             let page = address >> shift;
             match atc030::probe(c030, code, page, shift, write) {
-                Hit::At(base) => Probe::Address(tables::hit_address(base, address, shift)),
+                Hit::At(base) => Probe::Address(memory::page030::hit_address(base, address, shift)),
                 Hit::Miss => Probe::Nothing,
             }
         }
@@ -39,10 +39,10 @@ fn probe_040(c040: &Atc040, g: Registers, own: bool, write: bool, address: u32) 
     ensures { λ r. ⌜ r ≡ probe040 g (cache040Of (now (c040 .entry))) own write address ⌝ }
 {
     let tc = g.tc;
-    let bits = tables::page_bits(tc);
+    let bits = memory::page040::page_bits(tc);
     let frame = address >> bits;
     match atc040::look_040(c040, frame, own, write) {
-        Hit::At(base) => Probe::Address(tables::joined_040(tc, base, address)),
+        Hit::At(base) => Probe::Address(memory::page040::joined_040(tc, base, address)),
         Hit::Miss => Probe::Nothing,
     }
 }

@@ -5,9 +5,9 @@ use definition::Registers;
 use definition::Test;
 use plan::Plan;
 use plan::checks;
-use tables::Walked;
-use tables::Walks;
-use tables::Way;
+use walk030::Walked;
+use walks::Walks;
+use walks::Way;
 ghost use mathlib.Core.Path.{_≡_};
 ghost use lib.ListN.{take};
 ghost use Rattle.definition.specs.Words.{anyOf};
@@ -137,9 +137,9 @@ pub fn test_in(
 ) -> TestOutcome
     ensures { λ r. ⌜ (three ≡ anyOf crossed (take n list) → TestedIn (shownTested (test g code write level address (memory (now (longs .entry)) base (take n list)))) (r .answer) (r .count)) ⌝ }
 {
-    let two = tables::bad_base(longs.len(), base);
+    let two = memory::longs::bad_base(longs.len(), base);
     let plan = plan_test(two, three, g, code, level, address);
     let way = plan::way_of(plan);
-    let walks = tables::walk_kept(longs, base, list, n, g, address, way);
+    let walks = walks::walk_kept(longs, base, list, n, g, address, way);
     conclude_test(code, plan, walks)
 }

@@ -15,11 +15,11 @@ use Rattle.definition.specs.declared.Registers.{Registers}
 use Rattle.definition.specs.declared.Root.{Root}
 use Rattle.definition.specs.declared.Access.{Access}
 use Rattle.definition.specs.declared.Translation.{Translation}
-use Rattle.tables.specs.Walked.{walks030, walksOf}
-use Rattle.tables.specs.Choice.{rootBy}
-use Rattle.tables.specs.declared.Way.{Way}
-use Rattle.tables.specs.declared.Way.the-variants as ways
-use Rattle.tables.specs.declared.Walks.{Walks}
+use Rattle.walks.specs.Walked.{walks030, walksOf}
+use Rattle.walks.specs.Choice.{rootBy}
+use Rattle.walks.specs.declared.Way.{Way}
+use Rattle.walks.specs.declared.Way.the-variants as ways
+use Rattle.walks.specs.declared.Walks.{Walks}
 use Rattle.cache.specs.Atc030.{cacheOf}
 use Rattle.plan.specs.declared.Plan.{Plan}
 use Rattle.plan.specs.declared.Plan.the-variants as plan

@@ -9,7 +9,7 @@ use definition::Translation;
 use load::LoadOutcome;
 use plan::Plan;
 use plan::checks;
-use tables::Walks;
+use walks::Walks;
 use translate::Outcome;
 ghost use mathlib.Core.Path.{_≡_};
 ghost use Prim.Native.Nat.{_%_};
@@ -92,7 +92,7 @@ pub fn translate_lent(
     ensures { λ r. ⌜ AnsweredIn (shownTranslated (translateOf g a (memory (now (longs .entry)) base (now (ranges .entry))) (cachesOf (now (c030 .entry)) (now (c040 .entry))))) (r .answer) (r .count) (now (c030 .exit)) (now (c040 .exit)) ⌝ }
 {
     let two = checks::bad_longs(longs, base);
-    let three = tables::any_crossed(ranges);
+    let three = memory::ranges::any_crossed(ranges);
     let plan = planned(c030, c040, two, three, g, a);
     let done = is_settled(plan);
     if done {
@@ -100,7 +100,7 @@ pub fn translate_lent(
     }
     let address = address_of(a);
     let way = plan::way_of(plan);
-    let walks = tables::walk_for(longs, base, ranges, g, address, way);
+    let walks = walks::walk_for(longs, base, ranges, g, address, way);
     translate::conclude_access(c030, c040, g, a, plan, walks)
 }
 
@@ -149,11 +149,11 @@ pub fn load_lent(
     ensures { λ r. ⌜ ((k : Cache040) → LoadedIn (shownLoaded (loadOf g code write address (memory (now (longs .entry)) base (now (ranges .entry))) (pairWith (cacheOf (now (c030 .entry))) k))) (r .answer) (r .count) (now (c030 .exit))) ⌝ }
 {
     let two = checks::bad_longs(longs, base);
-    let three = tables::any_crossed(ranges);
+    let three = memory::ranges::any_crossed(ranges);
     let plan = planned_load(c030, two, three, g, code, address);
     let way = plan::way_of(plan);
-    let tc = tables::tc_of(g);
-    let root = tables::root_for(g, way);
-    let walks = tables::walk_030_for(longs, base, ranges, tc, root, address, way);
+    let tc = walks::tc_of(g);
+    let root = walks::root_for(g, way);
+    let walks = walks::walk_030_for(longs, base, ranges, tc, root, address, way);
     concluded_load(c030, g, code, write, address, plan, walks)
 }

@@ -15,9 +15,9 @@ use Rattle.definition.specs.Refusal.{noFamily, not030, aboveSeven, badCache, re
 use Rattle.definition.specs.Load.{Loaded, stopped}
 use Rattle.definition.specs.declared.Registers.{Registers}
 use Rattle.definition.specs.declared.Load.{Load}
-use Rattle.tables.specs.declared.Way.{Way}
-use Rattle.tables.specs.declared.Walks.{Walks}
-use Rattle.tables.specs.declared.Walks.the-variants as walks
+use Rattle.walks.specs.declared.Way.{Way}
+use Rattle.walks.specs.declared.Walks.{Walks}
+use Rattle.walks.specs.declared.Walks.the-variants as walks
 use Rattle.cache.specs.Atc030.{cacheOf}
 use Rattle.plan.specs.declared.Plan.{Plan}
 use Rattle.plan.specs.declared.Plan.the-variants as plan

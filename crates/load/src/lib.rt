@@ -8,8 +8,8 @@ use definition::Registers;
 use definition::Shift;
 use plan::Plan;
 use plan::checks;
-use tables::Walks;
-use tables::Way;
+use walks::Walks;
+use walks::Way;
 ghost use mathlib.Core.Path.{_≡_};
 ghost use Prim.Native.Nat.{_%_};
 ghost use lib.ListN.{length, take};
@@ -35,7 +35,7 @@ pub struct LoadOutcome {
 fn stops(g: Registers, address: u32, code: u32) -> bool
     ensures { λ r. ⌜ r ≡ stopped (shiftOf (g .tc)) (transparent030 g address code) ⌝ }
 {
-    match tables::page_shift(g.tc) {
+    match memory::page030::page_shift(g.tc) {
         Shift::NoPage => true,
         Shift::Bits(_) => transparent::transparent_030(g, address, code),
     }
@@ -151,9 +151,9 @@ pub fn load_in(
 ) -> LoadOutcome
     ensures { λ r. ⌜ ((k : Cache040) → three ≡ anyOf crossed (take n list) → LoadedIn (shownLoaded (load g code write address (memory (now (longs .entry)) base (take n list)) (pairWith (cacheOf (now (c030 .entry))) k))) (r .answer) (r .count) (now (c030 .exit))) ⌝ }
 {
-    let two = tables::bad_base(longs.len(), base);
+    let two = memory::longs::bad_base(longs.len(), base);
     let plan = plan_load(c030, two, three, g, code, address);
     let way = plan::way_of(plan);
-    let walks = tables::walk_kept(longs, base, list, n, g, address, way);
+    let walks = walks::walk_kept(longs, base, list, n, g, address, way);
     conclude_load(c030, g.tc, code, address, write, plan, walks)
 }

@@ -13,11 +13,11 @@ use Rattle.definition.specs.declared.Access.{Access}
 use Rattle.definition.specs.declared.Root.{Root}
 use Rattle.definition.specs.declared.Test.{Test}
 use Rattle.definition.specs.Test.{test}
-use Rattle.tables.specs.Walked.{walks030, walksOf}
-use Rattle.tables.specs.Choice.{rootBy}
-use Rattle.tables.specs.declared.Way.{Way}
-use Rattle.tables.specs.declared.Way.the-variants as ways
-use Rattle.tables.specs.declared.Walks.{Walks}
+use Rattle.walks.specs.Walked.{walks030, walksOf}
+use Rattle.walks.specs.Choice.{rootBy}
+use Rattle.walks.specs.declared.Way.{Way}
+use Rattle.walks.specs.declared.Way.the-variants as ways
+use Rattle.walks.specs.declared.Walks.{Walks}
 use Rattle.cache.specs.Pair.{pairOf}
 use Rattle.cache.specs.declared.CachePair.{CachePair}
 use Rattle.plan.specs.declared.Plan.{Plan}

@@ -10,8 +10,8 @@ use inquiry::test;
 use inquiry::test::TestOutcome;
 use plan::Plan;
 use plan::checks;
-use tables::Walks;
-use tables::Way;
+use walks::Walks;
+use walks::Way;
 ghost use mathlib.Core.Path.{_≡_};
 ghost use Prim.Native.Nat.{_%_};
 ghost use Rattle.definition.specs.Memory.{memory};
@@ -106,11 +106,11 @@ pub fn translate(
     ensures { λ r. ⌜ TranslatedBy (translateOf g a (memory (now (longs .entry)) base (now (ranges .entry))) (pairOf caches)) r ⌝ }
 {
     let two = checks::bad_longs(longs, base);
-    let three = tables::any_crossed(ranges);
+    let three = memory::ranges::any_crossed(ranges);
     let p = planned(two, three, g, a, caches);
     let address = address_of(a);
     let way = wanted(p);
-    let walks = tables::walk_for(longs, base, ranges, g, address, way);
+    let walks = walks::walk_for(longs, base, ranges, g, address, way);
     concluded(g, a, p, walks)
 }
 
@@ -174,10 +174,10 @@ pub fn load(
     ensures { λ r. ⌜ LoadedBy (loadOf g code write address (memory (now (longs .entry)) base (now (ranges .entry))) (pairOf caches)) r ⌝ }
 {
     let two = checks::bad_longs(longs, base);
-    let three = tables::any_crossed(ranges);
+    let three = memory::ranges::any_crossed(ranges);
     let p = planned_load(two, three, g, code, address, caches);
     let way = wanted(p);
-    let walks = tables::walk_for(longs, base, ranges, g, address, way);
+    let walks = walks::walk_for(longs, base, ranges, g, address, way);
     concluded_load(g, code, write, address, p, walks)
 }
 
@@ -197,11 +197,11 @@ pub fn test(
     ensures { λ r. ⌜ TestedIn (shownTested (testOf g code write level address (memory (now (longs .entry)) base (now (ranges .entry))))) (r .answer) (r .count) ⌝ }
 {
     let two = checks::bad_longs(longs, base);
-    let three = tables::any_crossed(ranges);
+    let three = memory::ranges::any_crossed(ranges);
     let plan = test::plan_test(two, three, g, code, level, address);
     let way = plan::way_of(plan);
-    let tc = tables::tc_of(g);
-    let root = tables::root_for(g, way);
-    let walks = tables::walk_030_for(longs, base, ranges, tc, root, address, way);
+    let tc = walks::tc_of(g);
+    let root = walks::root_for(g, way);
+    let walks = walks::walk_030_for(longs, base, ranges, tc, root, address, way);
     test::conclude_test(code, plan, walks)
 }

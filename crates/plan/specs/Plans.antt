@@ -1,8 +1,8 @@
 -- What the plans of the calls share: the checks that may refuse, and the walk that a plan wants.
 use mathlib.Core.Bool.{Bool, false}
 use Rattle.definition.specs.Refusal.{Checks}
-use Rattle.tables.specs.declared.Way.{Way}
-use Rattle.tables.specs.declared.Way.the-variants as way
+use Rattle.walks.specs.declared.Way.{Way}
+use Rattle.walks.specs.declared.Way.the-variants as way
 use Rattle.plan.specs.declared.Plan.{Plan}
 use Rattle.plan.specs.declared.Plan.the-variants as plan
 

@@ -20,7 +20,7 @@ pub fn no_family(family: u32) -> bool
 pub fn bad_longs(longs: &[u32], base: u32) -> bool
     ensures { λ r. ⌜ r ≡ badBase (memory (now (longs .entry)) base []) ⌝ }
 {
-    tables::bad_base(longs.len(), base)
+    memory::longs::bad_base(longs.len(), base)
 }
 
 // 6: PLOAD or PTEST on family 40 or 60.

@@ -2,7 +2,7 @@
 // A call that walks has three stages: it plans (refusals, transparent registers, cache), walks, and concludes (fault or address, insert).
 pub mod checks;
 
-use tables::Way;
+use walks::Way;
 ghost use mathlib.Core.Path.{_≡_};
 ghost use Rattle.plan.specs.Plans.{wayOf};
 

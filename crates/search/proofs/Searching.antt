@@ -15,8 +15,8 @@ use Rattle.definition.specs.declared.End.{End}
 use Rattle.definition.specs.declared.End.the-variants as end
 use Rattle.definition.specs.declared.FaultCause.{FaultCause}
 use Rattle.definition.specs.declared.Translation.{Translation}
-use Rattle.tables.specs.declared.Way.{Way}
-use Rattle.tables.specs.declared.Walked.{Walked}
+use Rattle.walks.specs.declared.Way.{Way}
+use Rattle.walk030.specs.declared.Walked.{Walked}
 use Rattle.cache.specs.Atc030.{cacheOf, Stepped, Looked}
 use Rattle.plan.specs.declared.Plan.{Plan}
 use Rattle.plan.proofs.Bounds.{in-three-bits}

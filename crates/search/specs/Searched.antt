@@ -16,8 +16,8 @@ use Rattle.definition.specs.declared.Hit.the-variants.{At, Miss}
 use Rattle.definition.specs.declared.FaultCause.{FaultCause}
 use Rattle.definition.specs.declared.FaultCause.the-variants as cause
 use Rattle.definition.specs.declared.Translation.{Translation}
-use Rattle.tables.specs.declared.Way.{Way}
-use Rattle.tables.specs.declared.Walked.{Walked}
+use Rattle.walks.specs.declared.Way.{Way}
+use Rattle.walk030.specs.declared.Walked.{Walked}
 use Rattle.cache.specs.Atc030.{cacheOf}
 use Rattle.plan.specs.declared.Plan.{Plan}
 

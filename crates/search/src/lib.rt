@@ -10,8 +10,8 @@ use definition::Shift;
 use definition::Translation;
 use plan::Plan;
 use plan::checks;
-use tables::Walked;
-use tables::Way;
+use walk030::Walked;
+use walks::Way;
 ghost use lib.ListN.{length};
 ghost use mathlib.Core.Path.{_≡_};
 ghost use Prim.Native.Nat.{_%_, _<_};
@@ -27,7 +27,7 @@ fn looked(hit: Hit, code: u32, address: u32, shift: u32) -> Plan
     ensures { λ r. ⌜ r ≡ lookPlan code address shift hit ⌝ }
 {
     match hit {
-        Hit::At(base) => Plan::Settled(tables::hit_address(base, address, shift)),
+        Hit::At(base) => Plan::Settled(memory::page030::hit_address(base, address, shift)),
         Hit::Miss => Plan::Walk(Way::By030 { code, limit: 5 }),
     }
 }
@@ -45,7 +45,7 @@ pub fn plan_030(
 {
     checks::sized(c030);
     let code = code % 8;
-    match tables::page_shift(tc) {
+    match memory::page030::page_shift(tc) {
         Shift::NoPage => Plan::Walk(Way::By030 { code, limit: 5 }),
         Shift::Bits(shift) => {
             let page = address >> shift;
@@ -103,11 +103,11 @@ fn cache_page(c030: &mut Atc030, tc: u32, code: u32, address: u32, physical: u32
     requires { ⌜ (code < 8) × (length (now c030) ≡ 69) ⌝ }
     ensures { λ _. ⌜ Stepped (λ (c : Cache030). cached (shiftOf tc) c code address physical wp) (now (c030 .entry)) (now (c030 .exit)) ⌝ }
 {
-    match tables::page_shift(tc) {
+    match memory::page030::page_shift(tc) {
         Shift::NoPage => {}
         Shift::Bits(shift) => {
             let page = address >> shift;
-            let base = tables::page_base(physical, address, shift);
+            let base = memory::page030::page_base(physical, address, shift);
             insert(c030, code, page, shift, base, wp);
         }
     }
@@ -179,7 +179,7 @@ pub fn end_030(
     let end = w.end;
     match end {
         End::Page { field, consumed } => {
-            let to = tables::physical(field, consumed, address);
+            let to = memory::page030::physical(field, consumed, address);
             page_found(c030, tc, code % 8, address, write, w.wp, w.sup, to)
         }
         End::Invalid { indirect } => fault(missing_cause(indirect), address),

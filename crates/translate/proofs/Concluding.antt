@@ -15,11 +15,11 @@ use Rattle.definition.specs.declared.End040.the-variants as end
 use Rattle.definition.specs.declared.FaultCause.{FaultCause}
 use Rattle.definition.specs.declared.FaultCause.the-variants as cause
 use Rattle.definition.specs.declared.Translation.{Translation}
-use Rattle.tables.specs.declared.Walks.{Walks}
-use Rattle.tables.specs.declared.Walks.the-variants as walks
-use Rattle.tables.specs.declared.Walked.{Walked}
-use Rattle.tables.specs.declared.Walked040.{Walked040}
-use Rattle.tables.specs.declared.Way.{Way}
+use Rattle.walks.specs.declared.Walks.{Walks}
+use Rattle.walks.specs.declared.Walks.the-variants as walks
+use Rattle.walk030.specs.declared.Walked.{Walked}
+use Rattle.walk040.specs.declared.Walked040.{Walked040}
+use Rattle.walks.specs.declared.Way.{Way}
 use Rattle.cache.specs.Atc030.{cacheOf}
 use Rattle.cache.specs.Atc040.{cache040Of, Stepped040}
 use Rattle.plan.specs.declared.Plan.{Plan}

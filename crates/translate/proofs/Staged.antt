@@ -23,8 +23,8 @@ use Rattle.definition.specs.declared.Hit.the-variants.{At, Miss}
 use Rattle.definition.specs.declared.End040.{End040}
 use Rattle.definition.specs.declared.End040.the-variants as end040′
 use Rattle.definition.specs.declared.Translation.{Translation}
-use Rattle.tables.specs.Walked.{walksOf}
-use Rattle.tables.specs.declared.Way.{Way}
+use Rattle.walks.specs.Walked.{walksOf}
+use Rattle.walks.specs.declared.Way.{Way}
 use Rattle.plan.specs.declared.Plan.{Plan}
 use Rattle.translate.specs.InPlace.{AnsweredIn}
 use Rattle.plan.specs.Plans.{wayOf}

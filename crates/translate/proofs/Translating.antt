@@ -9,9 +9,9 @@ use Rattle.definition.specs.Translate.{Caches, translate}
 use Rattle.definition.specs.declared.Registers.{Registers}
 use Rattle.definition.specs.declared.Access.{Access}
 use Rattle.definition.specs.declared.Translation.{Translation}
-use Rattle.tables.specs.Walked.{walksOf}
-use Rattle.tables.specs.declared.Way.{Way}
-use Rattle.tables.specs.declared.Walks.{Walks}
+use Rattle.walks.specs.Walked.{walksOf}
+use Rattle.walks.specs.declared.Way.{Way}
+use Rattle.walks.specs.declared.Walks.{Walks}
 use Rattle.plan.specs.declared.Plan.{Plan}
 use Rattle.plan.specs.declared.Plan.the-variants as plan
 use Rattle.plan.specs.Plans.{wayOf}

@@ -21,9 +21,9 @@ use Rattle.definition.specs.declared.End040.{End040}
 use Rattle.definition.specs.declared.End040.the-variants as ends
 use Rattle.definition.specs.declared.FaultCause.the-variants as cause
 use Rattle.definition.specs.declared.Translation.{Translation}
-use Rattle.tables.specs.declared.Way.{Way}
-use Rattle.tables.specs.declared.Walks.{Walks}
-use Rattle.tables.specs.declared.Walks.the-variants as walks
+use Rattle.walks.specs.declared.Way.{Way}
+use Rattle.walks.specs.declared.Walks.{Walks}
+use Rattle.walks.specs.declared.Walks.the-variants as walks
 use Rattle.plan.specs.declared.Plan.{Plan}
 use Rattle.plan.specs.declared.Plan.the-variants as plan
 use Rattle.plan.specs.Plans.{checksOf}

@@ -13,8 +13,8 @@ use definition::Registers;
 use definition::Translation;
 use plan::Plan;
 use plan::checks;
-use tables::Walks;
-use tables::Way;
+use walks::Walks;
+use walks::Way;
 ghost use mathlib.Core.Path.{_≡_};
 ghost use lib.ListN.{length, take};
 ghost use Rattle.definition.specs.Words.{anyOf};
@@ -42,7 +42,7 @@ fn looked_040(hit: Hit, tc: u32, address: u32, supervisor: bool) -> Plan
     ensures { λ r. ⌜ r ≡ lookPlan040 tc address supervisor hit ⌝ }
 {
     match hit {
-        Hit::At(base) => Plan::Settled(tables::joined_040(tc, base, address)),
+        Hit::At(base) => Plan::Settled(memory::page040::joined_040(tc, base, address)),
         Hit::Miss => Plan::Walk(Way::By040 { supervisor }),
     }
 }
@@ -51,7 +51,7 @@ fn looked_040(hit: Hit, tc: u32, address: u32, supervisor: bool) -> Plan
 fn plan_040(c040: &Atc040, tc: u32, address: u32, supervisor: bool, write: bool) -> Plan
     ensures { λ r. ⌜ r ≡ lookPlan040 tc address supervisor (hit040 (cache040Of (now (c040 .entry))) (address / 2 ^ pageBits tc) supervisor write) ⌝ }
 {
-    let bits = tables::page_bits(tc);
+    let bits = memory::page040::page_bits(tc);
     let frame = address >> bits;
     let hit = look_040(c040, frame, supervisor, write);
     looked_040(hit, tc, address, supervisor)
@@ -124,11 +124,11 @@ fn resident(
     if !supervisor & sup {
         return search::fault(FaultCause::SupervisorProtect, address);
     }
-    let bits = tables::page_bits(tc);
+    let bits = memory::page040::page_bits(tc);
     let frame = address >> bits;
-    let base = tables::frame_base(tc, field);
+    let base = memory::page040::frame_base(tc, field);
     insert_040(c040, frame, supervisor, base, wp, sup);
-    Translation::Address(tables::physical_040(tc, field, address))
+    Translation::Address(memory::page040::physical_040(tc, field, address))
 }
 
 // What a 68040 walk's end gives.
@@ -231,7 +231,7 @@ pub fn translate_in(
 ) -> Outcome
     ensures { λ r. ⌜ (three ≡ anyOf crossed (take n list) → AnsweredIn (shownTranslated (translate g a (memory (now (longs .entry)) base (take n list)) (cachesOf (now (c030 .entry)) (now (c040 .entry))))) (r .answer) (r .count) (now (c030 .exit)) (now (c040 .exit))) ⌝ }
 {
-    let two = tables::bad_base(longs.len(), base);
+    let two = memory::longs::bad_base(longs.len(), base);
     let plan = plan_access(c030, c040, two, three, g, a);
     match plan {
         Plan::Refused(number) => Outcome {
@@ -243,7 +243,7 @@ pub fn translate_in(
             count: 0,
         },
         Plan::Walk(way) => {
-            let walks = tables::walk_kept(longs, base, list, n, g, a.address, way);
+            let walks = walks::walk_kept(longs, base, list, n, g, a.address, way);
             walked(c030, c040, g, a, walks)
         }
     }

@@ -60,8 +60,8 @@ use Rattle.search.specs.Searched.{PlannedIn030}
 use Rattle.definition.specs.Refusal.{badBase}
 use Rattle.definition.specs.Words.{anyOf}
 use Rattle.definition.specs.Refusal.{crossed}
-use Rattle.tables.specs.Walked.{walks030}
-use Rattle.tables.specs.Choice.{rootBy}
+use Rattle.walks.specs.Walked.{walks030}
+use Rattle.walks.specs.Choice.{rootBy}
 use Rattle.plan.specs.Plans.{wayOf}
 use Rattle.definition.specs.declared.Range.{Range}
 use Rattle.definition.proofs.Range as row-Range
@@ -77,12 +77,12 @@ use Rattle.load.proofs.LoadOutcome.Laws as law-LoadOutcome
 use Rattle.plan.specs.declared.Plan.{Plan}
 use Rattle.plan.proofs.Plan as row-Plan
 use Rattle.plan.proofs.Plan.Laws as law-Plan
-use Rattle.tables.specs.declared.Walks.{Walks}
-use Rattle.tables.proofs.Walks as row-Walks
-use Rattle.tables.proofs.Walks.Laws as law-Walks
-use Rattle.tables.specs.declared.Way.{Way}
-use Rattle.tables.proofs.Way as row-Way
-use Rattle.tables.proofs.Way.Laws as law-Way
+use Rattle.walks.specs.declared.Walks.{Walks}
+use Rattle.walks.proofs.Walks as row-Walks
+use Rattle.walks.proofs.Walks.Laws as law-Walks
+use Rattle.walks.specs.declared.Way.{Way}
+use Rattle.walks.proofs.Way as row-Way
+use Rattle.walks.proofs.Way.Laws as law-Way
 use Rattle.plan.proofs.checks.bad_longs as c0
 use Rattle.plan.proofs.checks.bad_longs.Symbol as c0-def
 use Rattle.plan.proofs.checks.bad_longs.Symbol.{name as #plan·checks·bad-longs}

@@ -60,7 +60,7 @@ use Rattle.translate.specs.InPlace.{PlannedIn, AnsweredIn}
 use Rattle.definition.specs.Refusal.{badBase}
 use Rattle.definition.specs.Words.{anyOf}
 use Rattle.definition.specs.Refusal.{crossed}
-use Rattle.tables.specs.Walked.{walksOf}
+use Rattle.walks.specs.Walked.{walksOf}
 use Rattle.plan.specs.Plans.{wayOf}
 use Rattle.translate.specs.Stages.{concludeAccess}
 use Rattle.definition.specs.declared.Access.{Access}
@@ -74,12 +74,12 @@ use Rattle.definition.proofs.Registers.Laws as law-Registers
 use Rattle.plan.specs.declared.Plan.{Plan}
 use Rattle.plan.proofs.Plan as row-Plan
 use Rattle.plan.proofs.Plan.Laws as law-Plan
-use Rattle.tables.specs.declared.Walks.{Walks}
-use Rattle.tables.proofs.Walks as row-Walks
-use Rattle.tables.proofs.Walks.Laws as law-Walks
-use Rattle.tables.specs.declared.Way.{Way}
-use Rattle.tables.proofs.Way as row-Way
-use Rattle.tables.proofs.Way.Laws as law-Way
+use Rattle.walks.specs.declared.Walks.{Walks}
+use Rattle.walks.proofs.Walks as row-Walks
+use Rattle.walks.proofs.Walks.Laws as law-Walks
+use Rattle.walks.specs.declared.Way.{Way}
+use Rattle.walks.proofs.Way as row-Way
+use Rattle.walks.proofs.Way.Laws as law-Way
 use Rattle.translate.specs.declared.Outcome.{Outcome}
 use Rattle.translate.proofs.Outcome as row-Outcome
 use Rattle.translate.proofs.Outcome.Laws as law-Outcome

@@ -1,8 +1,8 @@
 use mathlib.Core.Path.{subst}
 use borrow.Author.Needs.{needs}
-use Rattle.tables_cases.specs.Rows.{Room}
-use Rattle.tables_cases.proofs.is_same.Statement.{statement}
-use Rattle.tables_cases.proofs.is_same.Tie as tie
+use Rattle.walk_cases.specs.Rows.{Room}
+use Rattle.walk_cases.proofs.is_same.Statement.{statement}
+use Rattle.walk_cases.proofs.is_same.Tie as tie
 
 parts-of-requires : tie.Need-parts-of-requires
 parts-of-requires c κs = search needs

@@ -4,7 +4,7 @@ use definition::Range;
 use definition::Registers;
 use definition::Root;
 ghost use Prim.Native.Nat.{_+_, _*_, _^_, _≤_, _<_};
-ghost use Rattle.tables_cases.specs.Rows.{Room};
+ghost use Rattle.walk_cases.specs.Rows.{Room};
 
 // How many pairs and ranges a row has, if it has a row's length.
 pub enum Parts {

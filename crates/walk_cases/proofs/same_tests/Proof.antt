@@ -1,7 +1,7 @@
 use borrow.Author.Needs.{needs}
 use Prim.Native.Nat.{_-_, _≤_}
-use Rattle.tables_cases.proofs.same_tests.Statement.{statement}
-use Rattle.tables_cases.proofs.same_tests.Tie as tie
+use Rattle.walk_cases.proofs.same_tests.Statement.{statement}
+use Rattle.walk_cases.proofs.same_tests.Tie as tie
 
 abbrev Inv-loop : tie.InvT-loop
 Inv-loop row at longs c k₀ k = k ≤ 7

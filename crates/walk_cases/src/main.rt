@@ -8,9 +8,9 @@ mod rows;
 use definition::Translation;
 use rows::Case;
 use rows::Parts;
-use tables::Walked;
-use tables::Walks;
-use tables::Way;
+use walk030::Walked;
+use walks::Walks;
+use walks::Way;
 use vectors::Progress;
 ghost use Prim.Native.Nat.{_+_, _*_, _≤_};
 
@@ -28,7 +28,7 @@ fn way_of(family: u32, code: u32) -> Way {
 fn walked(longs: &[u32], c: Case, way: Way) -> Walks {
     let list = c.list;
     let g = c.registers;
-    tables::walk_kept(longs, c.base, list, c.ranges, g, c.address, way)
+    walks::walk_kept(longs, c.base, list, c.ranges, g, c.address, way)
 }
 
 // Whether the five numbers at `at` are this answer: fault address kind cause count.
@@ -170,5 +170,5 @@ fn every_row() -> Progress {
 }
 
 fn main() {
-    every_row().print(b"tables");
+    every_row().print(b"walks");
 }

@@ -1,6 +1,6 @@
 use borrow.Author.Needs.{needs}
-use Rattle.tables_cases.proofs.every_row.Statement.{statement}
-use Rattle.tables_cases.proofs.every_row.Tie as tie
+use Rattle.walk_cases.proofs.every_row.Statement.{statement}
+use Rattle.walk_cases.proofs.every_row.Tie as tie
 
 abbrev Inv-loop : tie.InvT-loop
 Inv-loop buf₀ row₀ p₀ turns₀ buf row p turns = Unit {0}

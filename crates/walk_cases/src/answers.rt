@@ -4,8 +4,8 @@ use definition::End040;
 use definition::FaultCause;
 use definition::FaultKind;
 use definition::Translation;
-use tables::Walked;
-use tables::Walked040;
+use walk030::Walked;
+use walk040::Walked040;
 ghost use Prim.Native.Nat.{_≤_};
 
 // Faults but for bus errors and configurations.
@@ -56,7 +56,7 @@ pub fn translated_030(w: Walked, code: u32, write: bool, address: u32) -> Transl
     let end = w.end;
     match end {
         End::Page { field, consumed } => {
-            let physical = tables::physical(field, consumed, address);
+            let physical = memory::page030::physical(field, consumed, address);
             page_030(w, code, write, address, physical)
         }
         End::Invalid { indirect } => {
@@ -83,7 +83,7 @@ pub fn translated_040(w: Walked040, tc: u32, code: u32, write: bool, address: u3
             if sup & !is_supervisor(code) {
                 return violation(FaultCause::SupervisorProtect, address);
             }
-            Translation::Address(tables::physical_040(tc, field, address))
+            Translation::Address(memory::page040::physical_040(tc, field, address))
         }
         End040::Absent(missing) => violation(missing, address),
         End040::Lost { at } => bus_error(at),
