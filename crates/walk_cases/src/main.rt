@@ -8,10 +8,10 @@ mod rows;
 use definition::Translation;
 use rows::Case;
 use rows::Parts;
+use vectors::Progress;
 use walk030::Walked;
 use walks::Walks;
 use walks::Way;
-use vectors::Progress;
 ghost use Prim.Native.Nat.{_+_, _*_, _≤_};
 
 // The walk of a translation: every level of the 68030's, or the 68040's.

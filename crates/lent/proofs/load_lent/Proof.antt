@@ -58,11 +58,11 @@ use Rattle.load.specs.Loaded.{planLoad, concludeLoad, shownLoaded, LoadedIn}
 use Rattle.cache.specs.Pair.{pairWith}
 use Rattle.search.specs.Searched.{PlannedIn030}
 use Rattle.definition.specs.Refusal.{badBase}
-use Rattle.definition.specs.Words.{anyOf}
 use Rattle.definition.specs.Refusal.{crossed}
-use Rattle.walks.specs.Walked.{walks030}
-use Rattle.walks.specs.Choice.{rootBy}
+use Rattle.definition.specs.Words.{anyOf}
 use Rattle.plan.specs.Plans.{wayOf}
+use Rattle.walks.specs.Choice.{rootBy}
+use Rattle.walks.specs.Walked.{walks030}
 use Rattle.definition.specs.declared.Range.{Range}
 use Rattle.definition.proofs.Range as row-Range
 use Rattle.definition.specs.declared.Registers.{Registers}
@@ -87,10 +87,10 @@ use Rattle.plan.proofs.checks.bad_longs as c0
 use Rattle.plan.proofs.checks.bad_longs.Symbol as c0-def
 use Rattle.plan.proofs.checks.bad_longs.Symbol.{name as #plan·checks·bad-longs}
 use Rattle.plan.proofs.checks.bad_longs.Met as c0-thm
-use Rattle.tables.proofs.any_crossed as c1
-use Rattle.tables.proofs.any_crossed.Symbol as c1-def
-use Rattle.tables.proofs.any_crossed.Symbol.{name as #tables·any-crossed}
-use Rattle.tables.proofs.any_crossed.Met as c1-thm
+use Rattle.memory.proofs.ranges.any_crossed as c1
+use Rattle.memory.proofs.ranges.any_crossed.Symbol as c1-def
+use Rattle.memory.proofs.ranges.any_crossed.Symbol.{name as #memory·ranges·any-crossed}
+use Rattle.memory.proofs.ranges.any_crossed.Met as c1-thm
 use Rattle.lent.proofs.planned_load as c2
 use Rattle.lent.proofs.planned_load.Symbol as c2-def
 use Rattle.lent.proofs.planned_load.Symbol.{name as #lent·planned-load}
@@ -99,18 +99,18 @@ use Rattle.plan.proofs.way_of as c3
 use Rattle.plan.proofs.way_of.Symbol as c3-def
 use Rattle.plan.proofs.way_of.Symbol.{name as #plan·way-of}
 use Rattle.plan.proofs.way_of.Met as c3-thm
-use Rattle.tables.proofs.tc_of as c4
-use Rattle.tables.proofs.tc_of.Symbol as c4-def
-use Rattle.tables.proofs.tc_of.Symbol.{name as #tables·tc-of}
-use Rattle.tables.proofs.tc_of.Met as c4-thm
-use Rattle.tables.proofs.root_for as c5
-use Rattle.tables.proofs.root_for.Symbol as c5-def
-use Rattle.tables.proofs.root_for.Symbol.{name as #tables·root-for}
-use Rattle.tables.proofs.root_for.Met as c5-thm
-use Rattle.tables.proofs.walk_030_for as c6
-use Rattle.tables.proofs.walk_030_for.Symbol as c6-def
-use Rattle.tables.proofs.walk_030_for.Symbol.{name as #tables·walk-030-for}
-use Rattle.tables.proofs.walk_030_for.Met as c6-thm
+use Rattle.walks.proofs.tc_of as c4
+use Rattle.walks.proofs.tc_of.Symbol as c4-def
+use Rattle.walks.proofs.tc_of.Symbol.{name as #walks·tc-of}
+use Rattle.walks.proofs.tc_of.Met as c4-thm
+use Rattle.walks.proofs.root_for as c5
+use Rattle.walks.proofs.root_for.Symbol as c5-def
+use Rattle.walks.proofs.root_for.Symbol.{name as #walks·root-for}
+use Rattle.walks.proofs.root_for.Met as c5-thm
+use Rattle.walks.proofs.walk_030_for as c6
+use Rattle.walks.proofs.walk_030_for.Symbol as c6-def
+use Rattle.walks.proofs.walk_030_for.Symbol.{name as #walks·walk-030-for}
+use Rattle.walks.proofs.walk_030_for.Met as c6-thm
 use Rattle.lent.proofs.concluded_load as c7
 use Rattle.lent.proofs.concluded_load.Symbol as c7-def
 use Rattle.lent.proofs.concluded_load.Symbol.{name as #lent·concluded-load}
@@ -172,7 +172,7 @@ module _ {M : Type 1} (𝓤 : URA M) (H : Heap 𝓤) (A : Atoms 𝓤) (W : Given
   said-0 : (a0 : RefT (List ℕ)) (a1 : ℕ) (r : Bool) → ent 𝓤 (ensured 𝓤 H A c0.ended (c0.clauses 𝓤 H A mem run) (κ1, tt) (a0, (a1, tt)) tt r) (fact 𝓤 (r ≡ badBase (memory (now a0) a1 [])))
   said-0 a0 a1 r = exE 𝓤 _ (λ ws. snd∗ 𝓤 (sem 𝓤 H A (lasts c0.ended (κ1, tt) (a0, (a1, tt)) ws)) (fact 𝓤 (r ≡ badBase (memory (now a0) a1 []))))
 
-  -- the call of `any_crossed`: what it is passed, what it asks, and what is known of its result
+  -- the call of `ranges.any_crossed`: what it is passed, what it asks, and what is known of its result
   abbrev to-1 : (a0 : RefT (List Range)) (v0 : Val) → C1 𝓤 H A mem run .Ghost
   to-1 a0 v0 = (((κ2, tt), (q2, tt), tt, (a0, tt), (v0 ∷ [], tt)), tt)
 
@@ -243,7 +243,7 @@ module _ {M : Type 1} (𝓤 : URA M) (H : Heap 𝓤) (A : Atoms 𝓤) (W : Given
   goes-7 κ4 q4 a0 v0 a1 v1 a2 v2 a3 v3 a4 v4 a5 v5 a6 v6 i1 i2 i3 i4 i5 i6 =
       qed W (‵ (flft κ4 q4) ∷ ‵ ((MutRef (named 0) κ4 (Array u64 69)) .own a0 (v0 ∷ [])) ∷ []) ∵ nothing ! $ owned ! row-Walks.the-row (Is row-Walks.the-row) (EL.makes row-Walks.the-type law-Walks.the-plain 𝓤 H A) a6 _ i6 $ fjoin ! $ owned ! row-Plan.the-row (Is row-Plan.the-row) (EL.makes row-Plan.the-type law-Plan.the-plain 𝓤 H A) a5 _ i5 $ fjoin ! $ owned ! u32 (Is u32) (uint-makes 𝓤 H A W w32) a4 _ i4 $ fjoin ! $ owned ! Boolean (Is Boolean) (bool-makes 𝓤 H A W) a3 _ i3 $ fjoin ! $ owned ! u32 (Is u32) (uint-makes 𝓤 H A W w32) a2 _ i2 $ fjoin ! $ owned ! row-Registers.the-row (Is row-Registers.the-row) (LL.makes row-Registers.the-type law-Registers.the-plain 𝓤 H A) a1 _ i1 $ fjoin ! $ move ! (2 ∷ 0 ∷ []) $ fjoin ! $ nothing ! $ move ! (2 ∷ 0 ∷ []) $ join ! $ join ! $ frame ! $ done !
 
-  module _ (𝓣 : Tables 𝓤 H) (known-0 : Triple 𝓤 (𝓣 .C #plan·checks·bad-longs) (C0 𝓤 H A mem run)) (known-1 : Triple 𝓤 (𝓣 .C #tables·any-crossed) (C1 𝓤 H A mem run)) (known-2 : Triple 𝓤 (𝓣 .C #lent·planned-load) (C2 𝓤 H A mem run)) (known-3 : Triple 𝓤 (𝓣 .C #plan·way-of) (C3 𝓤 H A mem run)) (known-4 : Triple 𝓤 (𝓣 .C #tables·tc-of) (C4 𝓤 H A mem run)) (known-5 : Triple 𝓤 (𝓣 .C #tables·root-for) (C5 𝓤 H A mem run)) (known-6 : Triple 𝓤 (𝓣 .C #tables·walk-030-for) (C6 𝓤 H A mem run)) (known-7 : Triple 𝓤 (𝓣 .C #lent·concluded-load) (C7 𝓤 H A mem run)) where
+  module _ (𝓣 : Tables 𝓤 H) (known-0 : Triple 𝓤 (𝓣 .C #plan·checks·bad-longs) (C0 𝓤 H A mem run)) (known-1 : Triple 𝓤 (𝓣 .C #memory·ranges·any-crossed) (C1 𝓤 H A mem run)) (known-2 : Triple 𝓤 (𝓣 .C #lent·planned-load) (C2 𝓤 H A mem run)) (known-3 : Triple 𝓤 (𝓣 .C #plan·way-of) (C3 𝓤 H A mem run)) (known-4 : Triple 𝓤 (𝓣 .C #walks·tc-of) (C4 𝓤 H A mem run)) (known-5 : Triple 𝓤 (𝓣 .C #walks·root-for) (C5 𝓤 H A mem run)) (known-6 : Triple 𝓤 (𝓣 .C #walks·walk-030-for) (C6 𝓤 H A mem run)) (known-7 : Triple 𝓤 (𝓣 .C #lent·concluded-load) (C7 𝓤 H A mem run)) where
     abbrev C : Calls 𝓤 H
     C = 𝓣 .C
 
@@ -340,11 +340,11 @@ module _ {M : Type 1} (𝓤 : URA M) (H : Heap 𝓤) (A : Atoms 𝓤) (W : Given
         by ! (exits (ws36 .0) r33 (LL.val row-LoadOutcome.the-type law-LoadOutcome.the-laws r33) (subst (Is row-LoadOutcome.the-row r33) (LL.tells row-LoadOutcome.the-type law-LoadOutcome.the-laws r33 _ is35) is35) (law.loads x5 x6 x8 (cacheOf (now x1)) _ _ e12 x7 (memory (now x2) x3 (now x4)) e3 e7 e17 e21 e25 e29 e34))))))))))))))))))))))))))))))))))))))))))))))))))))))))))
 
 module _ {M : Type 1} (𝓤 : URA M) (H : Heap 𝓤) (A : Atoms 𝓤) (W : Given 𝓤 H A) (mem : Memory → SProp 𝓤) (run : Routine → Fun 𝓤) (𝓣 : Tables 𝓤 H) where
-  self-walks : Triple 𝓤 (𝓣 .C #plan·checks·bad-longs) (C0 𝓤 H A mem run) → Triple 𝓤 (𝓣 .C #tables·any-crossed) (C1 𝓤 H A mem run) → Triple 𝓤 (𝓣 .C #lent·planned-load) (C2 𝓤 H A mem run) → Triple 𝓤 (𝓣 .C #plan·way-of) (C3 𝓤 H A mem run) → Triple 𝓤 (𝓣 .C #tables·tc-of) (C4 𝓤 H A mem run) → Triple 𝓤 (𝓣 .C #tables·root-for) (C5 𝓤 H A mem run) → Triple 𝓤 (𝓣 .C #tables·walk-030-for) (C6 𝓤 H A mem run) → Triple 𝓤 (𝓣 .C #lent·concluded-load) (C7 𝓤 H A mem run) → AllWalks 𝓤 H A self.ended stayed (WpFn 𝓤 H (𝓣 .C) (𝓣 .Λ) code.function) (self.clauses 𝓤 H A mem run)
+  self-walks : Triple 𝓤 (𝓣 .C #plan·checks·bad-longs) (C0 𝓤 H A mem run) → Triple 𝓤 (𝓣 .C #memory·ranges·any-crossed) (C1 𝓤 H A mem run) → Triple 𝓤 (𝓣 .C #lent·planned-load) (C2 𝓤 H A mem run) → Triple 𝓤 (𝓣 .C #plan·way-of) (C3 𝓤 H A mem run) → Triple 𝓤 (𝓣 .C #walks·tc-of) (C4 𝓤 H A mem run) → Triple 𝓤 (𝓣 .C #walks·root-for) (C5 𝓤 H A mem run) → Triple 𝓤 (𝓣 .C #walks·walk-030-for) (C6 𝓤 H A mem run) → Triple 𝓤 (𝓣 .C #lent·concluded-load) (C7 𝓤 H A mem run) → AllWalks 𝓤 H A self.ended stayed (WpFn 𝓤 H (𝓣 .C) (𝓣 .Λ) code.function) (self.clauses 𝓤 H A mem run)
   self-walks known-0 known-1 known-2 known-3 known-4 known-5 known-6 known-7 = walked 𝓤 H A self.ended stayed (self.clauses 𝓤 H A mem run) (WpFn 𝓤 H (𝓣 .C) (𝓣 .Λ) code.function) (λ κs. (ptr-vals, (slice-vals, (uint-vals w32, (slice-vals, (LL.vals row-Registers.the-type law-Registers.the-laws, (uint-vals w32, (bool-vals, (uint-vals w32, tt))))))))) (λ κs. (mut-tells (named 0) (κs .0) (Array u64 69), (shr-slice-tells (named 1) (κs .1 .0) u32, (uint-tells w32, (shr-slice-tells (named 2) (κs .1 .1 .0) row-Range.the-row, (LL.tells row-Registers.the-type law-Registers.the-laws, (uint-tells w32, (bool-tells, (uint-tells w32, tt)))))))))
       (λ κs qs bounds a g are. via 𝓤 _ (fst∗ 𝓤 _ (emp 𝓤)) (walk 𝓤 H A W mem run (κs .0) (κs .1 .0) (κs .1 .1 .0) (qs .0) (qs .1 .0) (qs .1 .1 .0) (a .0) (a .1 .0) (a .1 .1 .0) (a .1 .1 .1 .0) (a .1 .1 .1 .1 .0) (a .1 .1 .1 .1 .1 .0) (a .1 .1 .1 .1 .1 .1 .0) (a .1 .1 .1 .1 .1 .1 .1 .0) (are .0) (are .1 .0) (are .1 .1 .0) (are .1 .1 .1 .0) (are .1 .1 .1 .1 .0) (are .1 .1 .1 .1 .1 .0) (are .1 .1 .1 .1 .1 .1 .0) (are .1 .1 .1 .1 .1 .1 .1 .0) 𝓣 known-0 known-1 known-2 known-3 known-4 known-5 known-6 known-7))
 
-  self-meets : Triple 𝓤 (𝓣 .C #plan·checks·bad-longs) (C0 𝓤 H A mem run) → Triple 𝓤 (𝓣 .C #tables·any-crossed) (C1 𝓤 H A mem run) → Triple 𝓤 (𝓣 .C #lent·planned-load) (C2 𝓤 H A mem run) → Triple 𝓤 (𝓣 .C #plan·way-of) (C3 𝓤 H A mem run) → Triple 𝓤 (𝓣 .C #tables·tc-of) (C4 𝓤 H A mem run) → Triple 𝓤 (𝓣 .C #tables·root-for) (C5 𝓤 H A mem run) → Triple 𝓤 (𝓣 .C #tables·walk-030-for) (C6 𝓤 H A mem run) → Triple 𝓤 (𝓣 .C #lent·concluded-load) (C7 𝓤 H A mem run) → Meets 𝓤 H A self.signature (WpFn 𝓤 H (𝓣 .C) (𝓣 .Λ) code.function) (self.spec 𝓤 H A mem run)
+  self-meets : Triple 𝓤 (𝓣 .C #plan·checks·bad-longs) (C0 𝓤 H A mem run) → Triple 𝓤 (𝓣 .C #memory·ranges·any-crossed) (C1 𝓤 H A mem run) → Triple 𝓤 (𝓣 .C #lent·planned-load) (C2 𝓤 H A mem run) → Triple 𝓤 (𝓣 .C #plan·way-of) (C3 𝓤 H A mem run) → Triple 𝓤 (𝓣 .C #walks·tc-of) (C4 𝓤 H A mem run) → Triple 𝓤 (𝓣 .C #walks·root-for) (C5 𝓤 H A mem run) → Triple 𝓤 (𝓣 .C #walks·walk-030-for) (C6 𝓤 H A mem run) → Triple 𝓤 (𝓣 .C #lent·concluded-load) (C7 𝓤 H A mem run) → Meets 𝓤 H A self.signature (WpFn 𝓤 H (𝓣 .C) (𝓣 .Λ) code.function) (self.spec 𝓤 H A mem run)
   self-meets known-0 known-1 known-2 known-3 known-4 known-5 known-6 known-7 = walk-meets 𝓤 H A self.ended stayed W (goes-ref 𝓤 H A W 3 0 tt (plain (λ _. (Array u64 69))), (goes-none-slice 𝓤 H A W 3 (1 ∷ []) tt (plain (λ _. u32)) yes, (goes-none 𝓤 H A W 3 (λ _. u32) yes (λ κs x f. refl), (goes-none-slice 𝓤 H A W 3 (2 ∷ []) tt (plain (λ _. row-Range.the-row)) yes, (goes-none 𝓤 H A W 3 (λ _. row-Registers.the-row) yes (λ κs x f. refl), (goes-none 𝓤 H A W 3 (λ _. u32) yes (λ κs x f. refl), (goes-none 𝓤 H A W 3 (λ _. Boolean) yes (λ κs x f. refl), (goes-none 𝓤 H A W 3 (λ _. u32) yes (λ κs x f. refl), tt)))))))) (self.clauses 𝓤 H A mem run) (WpFn 𝓤 H (𝓣 .C) (𝓣 .Λ) code.function) (WpFn-mono 𝓤 H (W .laws) 𝓣 code.function) (self-walks known-0 known-1 known-2 known-3 known-4 known-5 known-6 known-7)
 
 pub load-lent-spec : {M : Type 1} → stated.statement M
@@ -354,10 +354,10 @@ load-lent-spec 𝓤 H 𝓜 𝓖 𝓡 =
     (tables 𝓤 H 𝓜 𝓡 code.env .C) (tables 𝓤 H 𝓜 𝓡 code.env .Λ) #lent·load-lent code.function (code.unfolded 𝓤 H 𝓜 𝓡)
     (self-meets 𝓤 H (𝓖 .A) (givenOf 𝓤 H 𝓜 𝓖) (𝓜 .mem) (𝓡 .run) (tablesOf 𝓤 H 𝓜 (tables 𝓤 H 𝓜 𝓡 code.env))
     (cited 𝓤 H (C0 𝓤 H (𝓖 .A) (𝓜 .mem) (𝓡 .run)) 𝓜 𝓡 code.env #plan·checks·bad-longs c0-def.routine code.calls-plan·checks·bad-longs (c0-thm.met 𝓤 H 𝓜 𝓖 𝓡))
-    (cited 𝓤 H (C1 𝓤 H (𝓖 .A) (𝓜 .mem) (𝓡 .run)) 𝓜 𝓡 code.env #tables·any-crossed c1-def.routine code.calls-tables·any-crossed (c1-thm.met 𝓤 H 𝓜 𝓖 𝓡))
+    (cited 𝓤 H (C1 𝓤 H (𝓖 .A) (𝓜 .mem) (𝓡 .run)) 𝓜 𝓡 code.env #memory·ranges·any-crossed c1-def.routine code.calls-memory·ranges·any-crossed (c1-thm.met 𝓤 H 𝓜 𝓖 𝓡))
     (cited 𝓤 H (C2 𝓤 H (𝓖 .A) (𝓜 .mem) (𝓡 .run)) 𝓜 𝓡 code.env #lent·planned-load c2-def.routine code.calls-lent·planned-load (c2-thm.met 𝓤 H 𝓜 𝓖 𝓡))
     (cited 𝓤 H (C3 𝓤 H (𝓖 .A) (𝓜 .mem) (𝓡 .run)) 𝓜 𝓡 code.env #plan·way-of c3-def.routine code.calls-plan·way-of (c3-thm.met 𝓤 H 𝓜 𝓖 𝓡))
-    (cited 𝓤 H (C4 𝓤 H (𝓖 .A) (𝓜 .mem) (𝓡 .run)) 𝓜 𝓡 code.env #tables·tc-of c4-def.routine code.calls-tables·tc-of (c4-thm.met 𝓤 H 𝓜 𝓖 𝓡))
-    (cited 𝓤 H (C5 𝓤 H (𝓖 .A) (𝓜 .mem) (𝓡 .run)) 𝓜 𝓡 code.env #tables·root-for c5-def.routine code.calls-tables·root-for (c5-thm.met 𝓤 H 𝓜 𝓖 𝓡))
-    (cited 𝓤 H (C6 𝓤 H (𝓖 .A) (𝓜 .mem) (𝓡 .run)) 𝓜 𝓡 code.env #tables·walk-030-for c6-def.routine code.calls-tables·walk-030-for (c6-thm.met 𝓤 H 𝓜 𝓖 𝓡))
+    (cited 𝓤 H (C4 𝓤 H (𝓖 .A) (𝓜 .mem) (𝓡 .run)) 𝓜 𝓡 code.env #walks·tc-of c4-def.routine code.calls-walks·tc-of (c4-thm.met 𝓤 H 𝓜 𝓖 𝓡))
+    (cited 𝓤 H (C5 𝓤 H (𝓖 .A) (𝓜 .mem) (𝓡 .run)) 𝓜 𝓡 code.env #walks·root-for c5-def.routine code.calls-walks·root-for (c5-thm.met 𝓤 H 𝓜 𝓖 𝓡))
+    (cited 𝓤 H (C6 𝓤 H (𝓖 .A) (𝓜 .mem) (𝓡 .run)) 𝓜 𝓡 code.env #walks·walk-030-for c6-def.routine code.calls-walks·walk-030-for (c6-thm.met 𝓤 H 𝓜 𝓖 𝓡))
     (cited 𝓤 H (C7 𝓤 H (𝓖 .A) (𝓜 .mem) (𝓡 .run)) 𝓜 𝓡 code.env #lent·concluded-load c7-def.routine code.calls-lent·concluded-load (c7-thm.met 𝓤 H 𝓜 𝓖 𝓡)))

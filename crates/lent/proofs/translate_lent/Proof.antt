@@ -49,7 +49,7 @@ use types.SemTy.{Body as Behind}
 use types.Kit.{feqI, fsplit3, fjoin3}
 use base.Fml.{fobs, fbor}
 use denote.Array.{Array}
-use Rattle.tables.proofs.Branching.{leaves-if}
+use Rattle.memory.proofs.Branching.{leaves-if}
 use Rattle.lent.proofs.Lent as law
 use Rattle.definition.specs.Memory.{memory}
 use Rattle.definition.specs.Translate.{translate as translateOf}
@@ -58,10 +58,10 @@ use Rattle.lent.specs.Settled.{isSettled, settledAnswer}
 use Rattle.cache.specs.Pair.{cachesOf}
 use Rattle.translate.specs.InPlace.{PlannedIn, AnsweredIn}
 use Rattle.definition.specs.Refusal.{badBase}
-use Rattle.definition.specs.Words.{anyOf}
 use Rattle.definition.specs.Refusal.{crossed}
-use Rattle.walks.specs.Walked.{walksOf}
+use Rattle.definition.specs.Words.{anyOf}
 use Rattle.plan.specs.Plans.{wayOf}
+use Rattle.walks.specs.Walked.{walksOf}
 use Rattle.translate.specs.Stages.{concludeAccess}
 use Rattle.definition.specs.declared.Access.{Access}
 use Rattle.definition.proofs.Access as row-Access
@@ -74,23 +74,23 @@ use Rattle.definition.proofs.Registers.Laws as law-Registers
 use Rattle.plan.specs.declared.Plan.{Plan}
 use Rattle.plan.proofs.Plan as row-Plan
 use Rattle.plan.proofs.Plan.Laws as law-Plan
+use Rattle.translate.specs.declared.Outcome.{Outcome}
+use Rattle.translate.proofs.Outcome as row-Outcome
+use Rattle.translate.proofs.Outcome.Laws as law-Outcome
 use Rattle.walks.specs.declared.Walks.{Walks}
 use Rattle.walks.proofs.Walks as row-Walks
 use Rattle.walks.proofs.Walks.Laws as law-Walks
 use Rattle.walks.specs.declared.Way.{Way}
 use Rattle.walks.proofs.Way as row-Way
 use Rattle.walks.proofs.Way.Laws as law-Way
-use Rattle.translate.specs.declared.Outcome.{Outcome}
-use Rattle.translate.proofs.Outcome as row-Outcome
-use Rattle.translate.proofs.Outcome.Laws as law-Outcome
 use Rattle.plan.proofs.checks.bad_longs as c0
 use Rattle.plan.proofs.checks.bad_longs.Symbol as c0-def
 use Rattle.plan.proofs.checks.bad_longs.Symbol.{name as #plan·checks·bad-longs}
 use Rattle.plan.proofs.checks.bad_longs.Met as c0-thm
-use Rattle.tables.proofs.any_crossed as c1
-use Rattle.tables.proofs.any_crossed.Symbol as c1-def
-use Rattle.tables.proofs.any_crossed.Symbol.{name as #tables·any-crossed}
-use Rattle.tables.proofs.any_crossed.Met as c1-thm
+use Rattle.memory.proofs.ranges.any_crossed as c1
+use Rattle.memory.proofs.ranges.any_crossed.Symbol as c1-def
+use Rattle.memory.proofs.ranges.any_crossed.Symbol.{name as #memory·ranges·any-crossed}
+use Rattle.memory.proofs.ranges.any_crossed.Met as c1-thm
 use Rattle.lent.proofs.planned as c2
 use Rattle.lent.proofs.planned.Symbol as c2-def
 use Rattle.lent.proofs.planned.Symbol.{name as #lent·planned}
@@ -111,10 +111,10 @@ use Rattle.plan.proofs.way_of as c6
 use Rattle.plan.proofs.way_of.Symbol as c6-def
 use Rattle.plan.proofs.way_of.Symbol.{name as #plan·way-of}
 use Rattle.plan.proofs.way_of.Met as c6-thm
-use Rattle.tables.proofs.walk_for as c7
-use Rattle.tables.proofs.walk_for.Symbol as c7-def
-use Rattle.tables.proofs.walk_for.Symbol.{name as #tables·walk-for}
-use Rattle.tables.proofs.walk_for.Met as c7-thm
+use Rattle.walks.proofs.walk_for as c7
+use Rattle.walks.proofs.walk_for.Symbol as c7-def
+use Rattle.walks.proofs.walk_for.Symbol.{name as #walks·walk-for}
+use Rattle.walks.proofs.walk_for.Met as c7-thm
 use Rattle.translate.proofs.conclude_access as c8
 use Rattle.translate.proofs.conclude_access.Symbol as c8-def
 use Rattle.translate.proofs.conclude_access.Symbol.{name as #translate·conclude-access}
@@ -179,7 +179,7 @@ module _ {M : Type 1} (𝓤 : URA M) (H : Heap 𝓤) (A : Atoms 𝓤) (W : Given
   said-0 : (a0 : RefT (List ℕ)) (a1 : ℕ) (r : Bool) → ent 𝓤 (ensured 𝓤 H A c0.ended (c0.clauses 𝓤 H A mem run) (κ2, tt) (a0, (a1, tt)) tt r) (fact 𝓤 (r ≡ badBase (memory (now a0) a1 [])))
   said-0 a0 a1 r = exE 𝓤 _ (λ ws. snd∗ 𝓤 (sem 𝓤 H A (lasts c0.ended (κ2, tt) (a0, (a1, tt)) ws)) (fact 𝓤 (r ≡ badBase (memory (now a0) a1 []))))
 
-  -- the call of `any_crossed`: what it is passed, what it asks, and what is known of its result
+  -- the call of `ranges.any_crossed`: what it is passed, what it asks, and what is known of its result
   abbrev to-1 : (a0 : RefT (List Range)) (v0 : Val) → C1 𝓤 H A mem run .Ghost
   to-1 a0 v0 = (((κ3, tt), (q3, tt), tt, (a0, tt), (v0 ∷ [], tt)), tt)
 
@@ -261,7 +261,7 @@ module _ {M : Type 1} (𝓤 : URA M) (H : Heap 𝓤) (A : Atoms 𝓤) (W : Given
   goes-8 κ6 q6 κ7 q7 a0 v0 a1 v1 a2 v2 a3 v3 a4 v4 a5 v5 i2 i3 i4 i5 =
       qed W (‵ (flft κ6 q6) ∷ ‵ (flft κ7 q7) ∷ ‵ ((MutRef (named 0) κ6 (Array u64 69)) .own a0 (v0 ∷ [])) ∷ ‵ ((MutRef (named 1) κ7 (Array u64 128)) .own a1 (v1 ∷ [])) ∷ []) ∵ nothing ! $ owned ! row-Walks.the-row (Is row-Walks.the-row) (EL.makes row-Walks.the-type law-Walks.the-plain 𝓤 H A) a5 _ i5 $ fjoin ! $ owned ! row-Plan.the-row (Is row-Plan.the-row) (EL.makes row-Plan.the-type law-Plan.the-plain 𝓤 H A) a4 _ i4 $ fjoin ! $ owned ! row-Access.the-row (Is row-Access.the-row) (LL.makes row-Access.the-type law-Access.the-plain 𝓤 H A) a3 _ i3 $ fjoin ! $ owned ! row-Registers.the-row (Is row-Registers.the-row) (LL.makes row-Registers.the-type law-Registers.the-plain 𝓤 H A) a2 _ i2 $ fjoin ! $ move ! (4 ∷ 0 ∷ []) $ fjoin ! $ move ! (3 ∷ 0 ∷ []) $ fjoin ! $ nothing ! $ move ! (3 ∷ 0 ∷ []) $ join ! $ move ! (2 ∷ 0 ∷ []) $ join ! $ join ! $ frame ! $ done !
 
-  module _ (𝓣 : Tables 𝓤 H) (known-0 : Triple 𝓤 (𝓣 .C #plan·checks·bad-longs) (C0 𝓤 H A mem run)) (known-1 : Triple 𝓤 (𝓣 .C #tables·any-crossed) (C1 𝓤 H A mem run)) (known-2 : Triple 𝓤 (𝓣 .C #lent·planned) (C2 𝓤 H A mem run)) (known-3 : Triple 𝓤 (𝓣 .C #lent·is-settled) (C3 𝓤 H A mem run)) (known-4 : Triple 𝓤 (𝓣 .C #lent·settled) (C4 𝓤 H A mem run)) (known-5 : Triple 𝓤 (𝓣 .C #lent·address-of) (C5 𝓤 H A mem run)) (known-6 : Triple 𝓤 (𝓣 .C #plan·way-of) (C6 𝓤 H A mem run)) (known-7 : Triple 𝓤 (𝓣 .C #tables·walk-for) (C7 𝓤 H A mem run)) (known-8 : Triple 𝓤 (𝓣 .C #translate·conclude-access) (C8 𝓤 H A mem run)) where
+  module _ (𝓣 : Tables 𝓤 H) (known-0 : Triple 𝓤 (𝓣 .C #plan·checks·bad-longs) (C0 𝓤 H A mem run)) (known-1 : Triple 𝓤 (𝓣 .C #memory·ranges·any-crossed) (C1 𝓤 H A mem run)) (known-2 : Triple 𝓤 (𝓣 .C #lent·planned) (C2 𝓤 H A mem run)) (known-3 : Triple 𝓤 (𝓣 .C #lent·is-settled) (C3 𝓤 H A mem run)) (known-4 : Triple 𝓤 (𝓣 .C #lent·settled) (C4 𝓤 H A mem run)) (known-5 : Triple 𝓤 (𝓣 .C #lent·address-of) (C5 𝓤 H A mem run)) (known-6 : Triple 𝓤 (𝓣 .C #plan·way-of) (C6 𝓤 H A mem run)) (known-7 : Triple 𝓤 (𝓣 .C #walks·walk-for) (C7 𝓤 H A mem run)) (known-8 : Triple 𝓤 (𝓣 .C #translate·conclude-access) (C8 𝓤 H A mem run)) where
     abbrev C : Calls 𝓤 H
     C = 𝓣 .C
 
@@ -386,11 +386,11 @@ module _ {M : Type 1} (𝓤 : URA M) (H : Heap 𝓤) (A : Atoms 𝓤) (W : Given
         by ! (exits (ws43 .0) (ws43 .1 .0) r40 (LL.val row-Outcome.the-type law-Outcome.the-laws r40) (subst (Is row-Outcome.the-row r40) (LL.tells row-Outcome.the-type law-Outcome.the-laws r40 _ is42) is42) (law.translates x6 x7 (memory (now x3) x4 (now x5)) _ e3 e7 e13 e27 e31 e35 e41)))))))))))))))))))))))))))))))))))))))))))))))))))))))))))))))))
 
 module _ {M : Type 1} (𝓤 : URA M) (H : Heap 𝓤) (A : Atoms 𝓤) (W : Given 𝓤 H A) (mem : Memory → SProp 𝓤) (run : Routine → Fun 𝓤) (𝓣 : Tables 𝓤 H) where
-  self-walks : Triple 𝓤 (𝓣 .C #plan·checks·bad-longs) (C0 𝓤 H A mem run) → Triple 𝓤 (𝓣 .C #tables·any-crossed) (C1 𝓤 H A mem run) → Triple 𝓤 (𝓣 .C #lent·planned) (C2 𝓤 H A mem run) → Triple 𝓤 (𝓣 .C #lent·is-settled) (C3 𝓤 H A mem run) → Triple 𝓤 (𝓣 .C #lent·settled) (C4 𝓤 H A mem run) → Triple 𝓤 (𝓣 .C #lent·address-of) (C5 𝓤 H A mem run) → Triple 𝓤 (𝓣 .C #plan·way-of) (C6 𝓤 H A mem run) → Triple 𝓤 (𝓣 .C #tables·walk-for) (C7 𝓤 H A mem run) → Triple 𝓤 (𝓣 .C #translate·conclude-access) (C8 𝓤 H A mem run) → AllWalks 𝓤 H A self.ended stayed (WpFn 𝓤 H (𝓣 .C) (𝓣 .Λ) code.function) (self.clauses 𝓤 H A mem run)
+  self-walks : Triple 𝓤 (𝓣 .C #plan·checks·bad-longs) (C0 𝓤 H A mem run) → Triple 𝓤 (𝓣 .C #memory·ranges·any-crossed) (C1 𝓤 H A mem run) → Triple 𝓤 (𝓣 .C #lent·planned) (C2 𝓤 H A mem run) → Triple 𝓤 (𝓣 .C #lent·is-settled) (C3 𝓤 H A mem run) → Triple 𝓤 (𝓣 .C #lent·settled) (C4 𝓤 H A mem run) → Triple 𝓤 (𝓣 .C #lent·address-of) (C5 𝓤 H A mem run) → Triple 𝓤 (𝓣 .C #plan·way-of) (C6 𝓤 H A mem run) → Triple 𝓤 (𝓣 .C #walks·walk-for) (C7 𝓤 H A mem run) → Triple 𝓤 (𝓣 .C #translate·conclude-access) (C8 𝓤 H A mem run) → AllWalks 𝓤 H A self.ended stayed (WpFn 𝓤 H (𝓣 .C) (𝓣 .Λ) code.function) (self.clauses 𝓤 H A mem run)
   self-walks known-0 known-1 known-2 known-3 known-4 known-5 known-6 known-7 known-8 = walked 𝓤 H A self.ended stayed (self.clauses 𝓤 H A mem run) (WpFn 𝓤 H (𝓣 .C) (𝓣 .Λ) code.function) (λ κs. (ptr-vals, (ptr-vals, (slice-vals, (uint-vals w32, (slice-vals, (LL.vals row-Registers.the-type law-Registers.the-laws, (LL.vals row-Access.the-type law-Access.the-laws, tt)))))))) (λ κs. (mut-tells (named 0) (κs .0) (Array u64 69), (mut-tells (named 1) (κs .1 .0) (Array u64 128), (shr-slice-tells (named 2) (κs .1 .1 .0) u32, (uint-tells w32, (shr-slice-tells (named 3) (κs .1 .1 .1 .0) row-Range.the-row, (LL.tells row-Registers.the-type law-Registers.the-laws, (LL.tells row-Access.the-type law-Access.the-laws, tt))))))))
       (λ κs qs bounds a g are. via 𝓤 _ (fst∗ 𝓤 _ (emp 𝓤)) (walk 𝓤 H A W mem run (κs .0) (κs .1 .0) (κs .1 .1 .0) (κs .1 .1 .1 .0) (qs .0) (qs .1 .0) (qs .1 .1 .0) (qs .1 .1 .1 .0) (a .0) (a .1 .0) (a .1 .1 .0) (a .1 .1 .1 .0) (a .1 .1 .1 .1 .0) (a .1 .1 .1 .1 .1 .0) (a .1 .1 .1 .1 .1 .1 .0) (are .0) (are .1 .0) (are .1 .1 .0) (are .1 .1 .1 .0) (are .1 .1 .1 .1 .0) (are .1 .1 .1 .1 .1 .0) (are .1 .1 .1 .1 .1 .1 .0) 𝓣 known-0 known-1 known-2 known-3 known-4 known-5 known-6 known-7 known-8))
 
-  self-meets : Triple 𝓤 (𝓣 .C #plan·checks·bad-longs) (C0 𝓤 H A mem run) → Triple 𝓤 (𝓣 .C #tables·any-crossed) (C1 𝓤 H A mem run) → Triple 𝓤 (𝓣 .C #lent·planned) (C2 𝓤 H A mem run) → Triple 𝓤 (𝓣 .C #lent·is-settled) (C3 𝓤 H A mem run) → Triple 𝓤 (𝓣 .C #lent·settled) (C4 𝓤 H A mem run) → Triple 𝓤 (𝓣 .C #lent·address-of) (C5 𝓤 H A mem run) → Triple 𝓤 (𝓣 .C #plan·way-of) (C6 𝓤 H A mem run) → Triple 𝓤 (𝓣 .C #tables·walk-for) (C7 𝓤 H A mem run) → Triple 𝓤 (𝓣 .C #translate·conclude-access) (C8 𝓤 H A mem run) → Meets 𝓤 H A self.signature (WpFn 𝓤 H (𝓣 .C) (𝓣 .Λ) code.function) (self.spec 𝓤 H A mem run)
+  self-meets : Triple 𝓤 (𝓣 .C #plan·checks·bad-longs) (C0 𝓤 H A mem run) → Triple 𝓤 (𝓣 .C #memory·ranges·any-crossed) (C1 𝓤 H A mem run) → Triple 𝓤 (𝓣 .C #lent·planned) (C2 𝓤 H A mem run) → Triple 𝓤 (𝓣 .C #lent·is-settled) (C3 𝓤 H A mem run) → Triple 𝓤 (𝓣 .C #lent·settled) (C4 𝓤 H A mem run) → Triple 𝓤 (𝓣 .C #lent·address-of) (C5 𝓤 H A mem run) → Triple 𝓤 (𝓣 .C #plan·way-of) (C6 𝓤 H A mem run) → Triple 𝓤 (𝓣 .C #walks·walk-for) (C7 𝓤 H A mem run) → Triple 𝓤 (𝓣 .C #translate·conclude-access) (C8 𝓤 H A mem run) → Meets 𝓤 H A self.signature (WpFn 𝓤 H (𝓣 .C) (𝓣 .Λ) code.function) (self.spec 𝓤 H A mem run)
   self-meets known-0 known-1 known-2 known-3 known-4 known-5 known-6 known-7 known-8 = walk-meets 𝓤 H A self.ended stayed W (goes-ref 𝓤 H A W 4 0 tt (plain (λ _. (Array u64 69))), (goes-ref 𝓤 H A W 4 1 tt (plain (λ _. (Array u64 128))), (goes-none-slice 𝓤 H A W 4 (2 ∷ []) tt (plain (λ _. u32)) yes, (goes-none 𝓤 H A W 4 (λ _. u32) yes (λ κs x f. refl), (goes-none-slice 𝓤 H A W 4 (3 ∷ []) tt (plain (λ _. row-Range.the-row)) yes, (goes-none 𝓤 H A W 4 (λ _. row-Registers.the-row) yes (λ κs x f. refl), (goes-none 𝓤 H A W 4 (λ _. row-Access.the-row) yes (λ κs x f. refl), tt))))))) (self.clauses 𝓤 H A mem run) (WpFn 𝓤 H (𝓣 .C) (𝓣 .Λ) code.function) (WpFn-mono 𝓤 H (W .laws) 𝓣 code.function) (self-walks known-0 known-1 known-2 known-3 known-4 known-5 known-6 known-7 known-8)
 
 pub translate-lent-spec : {M : Type 1} → stated.statement M
@@ -400,11 +400,11 @@ translate-lent-spec 𝓤 H 𝓜 𝓖 𝓡 =
     (tables 𝓤 H 𝓜 𝓡 code.env .C) (tables 𝓤 H 𝓜 𝓡 code.env .Λ) #lent·translate-lent code.function (code.unfolded 𝓤 H 𝓜 𝓡)
     (self-meets 𝓤 H (𝓖 .A) (givenOf 𝓤 H 𝓜 𝓖) (𝓜 .mem) (𝓡 .run) (tablesOf 𝓤 H 𝓜 (tables 𝓤 H 𝓜 𝓡 code.env))
     (cited 𝓤 H (C0 𝓤 H (𝓖 .A) (𝓜 .mem) (𝓡 .run)) 𝓜 𝓡 code.env #plan·checks·bad-longs c0-def.routine code.calls-plan·checks·bad-longs (c0-thm.met 𝓤 H 𝓜 𝓖 𝓡))
-    (cited 𝓤 H (C1 𝓤 H (𝓖 .A) (𝓜 .mem) (𝓡 .run)) 𝓜 𝓡 code.env #tables·any-crossed c1-def.routine code.calls-tables·any-crossed (c1-thm.met 𝓤 H 𝓜 𝓖 𝓡))
+    (cited 𝓤 H (C1 𝓤 H (𝓖 .A) (𝓜 .mem) (𝓡 .run)) 𝓜 𝓡 code.env #memory·ranges·any-crossed c1-def.routine code.calls-memory·ranges·any-crossed (c1-thm.met 𝓤 H 𝓜 𝓖 𝓡))
     (cited 𝓤 H (C2 𝓤 H (𝓖 .A) (𝓜 .mem) (𝓡 .run)) 𝓜 𝓡 code.env #lent·planned c2-def.routine code.calls-lent·planned (c2-thm.met 𝓤 H 𝓜 𝓖 𝓡))
     (cited 𝓤 H (C3 𝓤 H (𝓖 .A) (𝓜 .mem) (𝓡 .run)) 𝓜 𝓡 code.env #lent·is-settled c3-def.routine code.calls-lent·is-settled (c3-thm.met 𝓤 H 𝓜 𝓖 𝓡))
     (cited 𝓤 H (C4 𝓤 H (𝓖 .A) (𝓜 .mem) (𝓡 .run)) 𝓜 𝓡 code.env #lent·settled c4-def.routine code.calls-lent·settled (c4-thm.met 𝓤 H 𝓜 𝓖 𝓡))
     (cited 𝓤 H (C5 𝓤 H (𝓖 .A) (𝓜 .mem) (𝓡 .run)) 𝓜 𝓡 code.env #lent·address-of c5-def.routine code.calls-lent·address-of (c5-thm.met 𝓤 H 𝓜 𝓖 𝓡))
     (cited 𝓤 H (C6 𝓤 H (𝓖 .A) (𝓜 .mem) (𝓡 .run)) 𝓜 𝓡 code.env #plan·way-of c6-def.routine code.calls-plan·way-of (c6-thm.met 𝓤 H 𝓜 𝓖 𝓡))
-    (cited 𝓤 H (C7 𝓤 H (𝓖 .A) (𝓜 .mem) (𝓡 .run)) 𝓜 𝓡 code.env #tables·walk-for c7-def.routine code.calls-tables·walk-for (c7-thm.met 𝓤 H 𝓜 𝓖 𝓡))
+    (cited 𝓤 H (C7 𝓤 H (𝓖 .A) (𝓜 .mem) (𝓡 .run)) 𝓜 𝓡 code.env #walks·walk-for c7-def.routine code.calls-walks·walk-for (c7-thm.met 𝓤 H 𝓜 𝓖 𝓡))
     (cited 𝓤 H (C8 𝓤 H (𝓖 .A) (𝓜 .mem) (𝓡 .run)) 𝓜 𝓡 code.env #translate·conclude-access c8-def.routine code.calls-translate·conclude-access (c8-thm.met 𝓤 H 𝓜 𝓖 𝓡)))

@@ -46,8 +46,8 @@ use Rattle.load.specs.Loaded.{planLoad, concludeLoad, LoadedIn}
 use Rattle.search.specs.Searched.{PlannedIn030}
 use Rattle.mmu.specs.ByValue.{LoadedBy, Beside}
 use Rattle.definition.specs.Refusal.{badBase}
-use Rattle.definition.specs.Words.{anyOf}
 use Rattle.definition.specs.Refusal.{crossed}
+use Rattle.definition.specs.Words.{anyOf}
 use Rattle.walks.specs.Walked.{walksOf}
 use Rattle.cache.specs.declared.CachePair.{CachePair}
 use Rattle.cache.proofs.CachePair as row-CachePair
@@ -73,10 +73,10 @@ use Rattle.plan.proofs.checks.bad_longs as c0
 use Rattle.plan.proofs.checks.bad_longs.Symbol as c0-def
 use Rattle.plan.proofs.checks.bad_longs.Symbol.{name as #plan·checks·bad-longs}
 use Rattle.plan.proofs.checks.bad_longs.Met as c0-thm
-use Rattle.tables.proofs.any_crossed as c1
-use Rattle.tables.proofs.any_crossed.Symbol as c1-def
-use Rattle.tables.proofs.any_crossed.Symbol.{name as #tables·any-crossed}
-use Rattle.tables.proofs.any_crossed.Met as c1-thm
+use Rattle.memory.proofs.ranges.any_crossed as c1
+use Rattle.memory.proofs.ranges.any_crossed.Symbol as c1-def
+use Rattle.memory.proofs.ranges.any_crossed.Symbol.{name as #memory·ranges·any-crossed}
+use Rattle.memory.proofs.ranges.any_crossed.Met as c1-thm
 use Rattle.mmu.proofs.by_value.planned_load as c2
 use Rattle.mmu.proofs.by_value.planned_load.Symbol as c2-def
 use Rattle.mmu.proofs.by_value.planned_load.Symbol.{name as #mmu·by-value·planned-load}
@@ -85,10 +85,10 @@ use Rattle.mmu.proofs.by_value.wanted as c3
 use Rattle.mmu.proofs.by_value.wanted.Symbol as c3-def
 use Rattle.mmu.proofs.by_value.wanted.Symbol.{name as #mmu·by-value·wanted}
 use Rattle.mmu.proofs.by_value.wanted.Met as c3-thm
-use Rattle.tables.proofs.walk_for as c4
-use Rattle.tables.proofs.walk_for.Symbol as c4-def
-use Rattle.tables.proofs.walk_for.Symbol.{name as #tables·walk-for}
-use Rattle.tables.proofs.walk_for.Met as c4-thm
+use Rattle.walks.proofs.walk_for as c4
+use Rattle.walks.proofs.walk_for.Symbol as c4-def
+use Rattle.walks.proofs.walk_for.Symbol.{name as #walks·walk-for}
+use Rattle.walks.proofs.walk_for.Met as c4-thm
 use Rattle.mmu.proofs.by_value.concluded_load as c5
 use Rattle.mmu.proofs.by_value.concluded_load.Symbol as c5-def
 use Rattle.mmu.proofs.by_value.concluded_load.Symbol.{name as #mmu·by-value·concluded-load}
@@ -144,7 +144,7 @@ module _ {M : Type 1} (𝓤 : URA M) (H : Heap 𝓤) (A : Atoms 𝓤) (W : Given
   said-0 : (a0 : RefT (List ℕ)) (a1 : ℕ) (r : Bool) → ent 𝓤 (ensured 𝓤 H A c0.ended (c0.clauses 𝓤 H A mem run) (κ0, tt) (a0, (a1, tt)) tt r) (fact 𝓤 (r ≡ badBase (memory (now a0) a1 [])))
   said-0 a0 a1 r = exE 𝓤 _ (λ ws. snd∗ 𝓤 (sem 𝓤 H A (lasts c0.ended (κ0, tt) (a0, (a1, tt)) ws)) (fact 𝓤 (r ≡ badBase (memory (now a0) a1 []))))
 
-  -- the call of `any_crossed`: what it is passed, what it asks, and what is known of its result
+  -- the call of `ranges.any_crossed`: what it is passed, what it asks, and what is known of its result
   abbrev to-1 : (a0 : RefT (List Range)) (v0 : Val) → C1 𝓤 H A mem run .Ghost
   to-1 a0 v0 = (((κ1, tt), (q1, tt), tt, (a0, tt), (v0 ∷ [], tt)), tt)
 
@@ -199,7 +199,7 @@ module _ {M : Type 1} (𝓤 : URA M) (H : Heap 𝓤) (A : Atoms 𝓤) (W : Given
   said-5 : (a0 : Registers) (a1 : ℕ) (a2 : Bool) (a3 : ℕ) (a4 : PlannedPair) (a5 : Walks) (r : Loaded) → ent 𝓤 (ensured 𝓤 H A c5.ended (c5.clauses 𝓤 H A mem run) tt (a0, (a1, (a2, (a3, (a4, (a5, tt)))))) tt r) (fact 𝓤 (LoadedIn (concludeLoad (a0 .tc) (a1 % 8) a3 a2 (pairOf (a4 .caches) .c030) (a4 .plan) a5) (r .answer) (r .count) (r .caches .c030) × Beside (a4 .caches) (r .caches)))
   said-5 a0 a1 a2 a3 a4 a5 r = exE 𝓤 _ (λ ws. snd∗ 𝓤 (sem 𝓤 H A (lasts c5.ended tt (a0, (a1, (a2, (a3, (a4, (a5, tt)))))) ws)) (fact 𝓤 (LoadedIn (concludeLoad (a0 .tc) (a1 % 8) a3 a2 (pairOf (a4 .caches) .c030) (a4 .plan) a5) (r .answer) (r .count) (r .caches .c030) × Beside (a4 .caches) (r .caches))))
 
-  module _ (𝓣 : Tables 𝓤 H) (known-0 : Triple 𝓤 (𝓣 .C #plan·checks·bad-longs) (C0 𝓤 H A mem run)) (known-1 : Triple 𝓤 (𝓣 .C #tables·any-crossed) (C1 𝓤 H A mem run)) (known-2 : Triple 𝓤 (𝓣 .C #mmu·by-value·planned-load) (C2 𝓤 H A mem run)) (known-3 : Triple 𝓤 (𝓣 .C #mmu·by-value·wanted) (C3 𝓤 H A mem run)) (known-4 : Triple 𝓤 (𝓣 .C #tables·walk-for) (C4 𝓤 H A mem run)) (known-5 : Triple 𝓤 (𝓣 .C #mmu·by-value·concluded-load) (C5 𝓤 H A mem run)) where
+  module _ (𝓣 : Tables 𝓤 H) (known-0 : Triple 𝓤 (𝓣 .C #plan·checks·bad-longs) (C0 𝓤 H A mem run)) (known-1 : Triple 𝓤 (𝓣 .C #memory·ranges·any-crossed) (C1 𝓤 H A mem run)) (known-2 : Triple 𝓤 (𝓣 .C #mmu·by-value·planned-load) (C2 𝓤 H A mem run)) (known-3 : Triple 𝓤 (𝓣 .C #mmu·by-value·wanted) (C3 𝓤 H A mem run)) (known-4 : Triple 𝓤 (𝓣 .C #walks·walk-for) (C4 𝓤 H A mem run)) (known-5 : Triple 𝓤 (𝓣 .C #mmu·by-value·concluded-load) (C5 𝓤 H A mem run)) where
     abbrev C : Calls 𝓤 H
     C = 𝓣 .C
 
@@ -268,11 +268,11 @@ module _ {M : Type 1} (𝓤 : URA M) (H : Heap 𝓤) (A : Atoms 𝓤) (W : Given
         by ! (exits r22 (LL.val row-Loaded.the-type law-Loaded.the-laws r22) (subst (Is row-Loaded.the-row r22) (LL.tells row-Loaded.the-type law-Loaded.the-laws r22 _ is24) is24) (law.loads x4 x5 x7 x8 _ _ e11 x6 (memory (now x1) x2 (now x3)) e3 e7 e15 e19 e23))))))))))))))))))))))))))))))))))))))))
 
 module _ {M : Type 1} (𝓤 : URA M) (H : Heap 𝓤) (A : Atoms 𝓤) (W : Given 𝓤 H A) (mem : Memory → SProp 𝓤) (run : Routine → Fun 𝓤) (𝓣 : Tables 𝓤 H) where
-  self-walks : Triple 𝓤 (𝓣 .C #plan·checks·bad-longs) (C0 𝓤 H A mem run) → Triple 𝓤 (𝓣 .C #tables·any-crossed) (C1 𝓤 H A mem run) → Triple 𝓤 (𝓣 .C #mmu·by-value·planned-load) (C2 𝓤 H A mem run) → Triple 𝓤 (𝓣 .C #mmu·by-value·wanted) (C3 𝓤 H A mem run) → Triple 𝓤 (𝓣 .C #tables·walk-for) (C4 𝓤 H A mem run) → Triple 𝓤 (𝓣 .C #mmu·by-value·concluded-load) (C5 𝓤 H A mem run) → AllWalks 𝓤 H A self.ended stayed (WpFn 𝓤 H (𝓣 .C) (𝓣 .Λ) code.function) (self.clauses 𝓤 H A mem run)
+  self-walks : Triple 𝓤 (𝓣 .C #plan·checks·bad-longs) (C0 𝓤 H A mem run) → Triple 𝓤 (𝓣 .C #memory·ranges·any-crossed) (C1 𝓤 H A mem run) → Triple 𝓤 (𝓣 .C #mmu·by-value·planned-load) (C2 𝓤 H A mem run) → Triple 𝓤 (𝓣 .C #mmu·by-value·wanted) (C3 𝓤 H A mem run) → Triple 𝓤 (𝓣 .C #walks·walk-for) (C4 𝓤 H A mem run) → Triple 𝓤 (𝓣 .C #mmu·by-value·concluded-load) (C5 𝓤 H A mem run) → AllWalks 𝓤 H A self.ended stayed (WpFn 𝓤 H (𝓣 .C) (𝓣 .Λ) code.function) (self.clauses 𝓤 H A mem run)
   self-walks known-0 known-1 known-2 known-3 known-4 known-5 = walked 𝓤 H A self.ended stayed (self.clauses 𝓤 H A mem run) (WpFn 𝓤 H (𝓣 .C) (𝓣 .Λ) code.function) (λ κs. (slice-vals, (uint-vals w32, (slice-vals, (LL.vals row-Registers.the-type law-Registers.the-laws, (uint-vals w32, (bool-vals, (uint-vals w32, (LL.vals row-CachePair.the-type law-CachePair.the-laws, tt))))))))) (λ κs. (shr-slice-tells (named 0) (κs .0) u32, (uint-tells w32, (shr-slice-tells (named 1) (κs .1 .0) row-Range.the-row, (LL.tells row-Registers.the-type law-Registers.the-laws, (uint-tells w32, (bool-tells, (uint-tells w32, (LL.tells row-CachePair.the-type law-CachePair.the-laws, tt)))))))))
       (λ κs qs bounds a g are. via 𝓤 _ (fst∗ 𝓤 _ (emp 𝓤)) (walk 𝓤 H A W mem run (κs .0) (κs .1 .0) (qs .0) (qs .1 .0) (a .0) (a .1 .0) (a .1 .1 .0) (a .1 .1 .1 .0) (a .1 .1 .1 .1 .0) (a .1 .1 .1 .1 .1 .0) (a .1 .1 .1 .1 .1 .1 .0) (a .1 .1 .1 .1 .1 .1 .1 .0) (are .0) (are .1 .0) (are .1 .1 .0) (are .1 .1 .1 .0) (are .1 .1 .1 .1 .0) (are .1 .1 .1 .1 .1 .0) (are .1 .1 .1 .1 .1 .1 .0) (are .1 .1 .1 .1 .1 .1 .1 .0) 𝓣 known-0 known-1 known-2 known-3 known-4 known-5))
 
-  self-meets : Triple 𝓤 (𝓣 .C #plan·checks·bad-longs) (C0 𝓤 H A mem run) → Triple 𝓤 (𝓣 .C #tables·any-crossed) (C1 𝓤 H A mem run) → Triple 𝓤 (𝓣 .C #mmu·by-value·planned-load) (C2 𝓤 H A mem run) → Triple 𝓤 (𝓣 .C #mmu·by-value·wanted) (C3 𝓤 H A mem run) → Triple 𝓤 (𝓣 .C #tables·walk-for) (C4 𝓤 H A mem run) → Triple 𝓤 (𝓣 .C #mmu·by-value·concluded-load) (C5 𝓤 H A mem run) → Meets 𝓤 H A self.signature (WpFn 𝓤 H (𝓣 .C) (𝓣 .Λ) code.function) (self.spec 𝓤 H A mem run)
+  self-meets : Triple 𝓤 (𝓣 .C #plan·checks·bad-longs) (C0 𝓤 H A mem run) → Triple 𝓤 (𝓣 .C #memory·ranges·any-crossed) (C1 𝓤 H A mem run) → Triple 𝓤 (𝓣 .C #mmu·by-value·planned-load) (C2 𝓤 H A mem run) → Triple 𝓤 (𝓣 .C #mmu·by-value·wanted) (C3 𝓤 H A mem run) → Triple 𝓤 (𝓣 .C #walks·walk-for) (C4 𝓤 H A mem run) → Triple 𝓤 (𝓣 .C #mmu·by-value·concluded-load) (C5 𝓤 H A mem run) → Meets 𝓤 H A self.signature (WpFn 𝓤 H (𝓣 .C) (𝓣 .Λ) code.function) (self.spec 𝓤 H A mem run)
   self-meets known-0 known-1 known-2 known-3 known-4 known-5 = walk-meets 𝓤 H A self.ended stayed W (goes-none-slice 𝓤 H A W 2 (0 ∷ []) tt (plain (λ _. u32)) yes, (goes-none 𝓤 H A W 2 (λ _. u32) yes (λ κs x f. refl), (goes-none-slice 𝓤 H A W 2 (1 ∷ []) tt (plain (λ _. row-Range.the-row)) yes, (goes-none 𝓤 H A W 2 (λ _. row-Registers.the-row) yes (λ κs x f. refl), (goes-none 𝓤 H A W 2 (λ _. u32) yes (λ κs x f. refl), (goes-none 𝓤 H A W 2 (λ _. Boolean) yes (λ κs x f. refl), (goes-none 𝓤 H A W 2 (λ _. u32) yes (λ κs x f. refl), (goes-none 𝓤 H A W 2 (λ _. row-CachePair.the-row) yes (λ κs x f. refl), tt)))))))) (self.clauses 𝓤 H A mem run) (WpFn 𝓤 H (𝓣 .C) (𝓣 .Λ) code.function) (WpFn-mono 𝓤 H (W .laws) 𝓣 code.function) (self-walks known-0 known-1 known-2 known-3 known-4 known-5)
 
 pub load-spec : {M : Type 1} → stated.statement M
@@ -282,8 +282,8 @@ load-spec 𝓤 H 𝓜 𝓖 𝓡 =
     (tables 𝓤 H 𝓜 𝓡 code.env .C) (tables 𝓤 H 𝓜 𝓡 code.env .Λ) #mmu·by-value·load code.function (code.unfolded 𝓤 H 𝓜 𝓡)
     (self-meets 𝓤 H (𝓖 .A) (givenOf 𝓤 H 𝓜 𝓖) (𝓜 .mem) (𝓡 .run) (tablesOf 𝓤 H 𝓜 (tables 𝓤 H 𝓜 𝓡 code.env))
     (cited 𝓤 H (C0 𝓤 H (𝓖 .A) (𝓜 .mem) (𝓡 .run)) 𝓜 𝓡 code.env #plan·checks·bad-longs c0-def.routine code.calls-plan·checks·bad-longs (c0-thm.met 𝓤 H 𝓜 𝓖 𝓡))
-    (cited 𝓤 H (C1 𝓤 H (𝓖 .A) (𝓜 .mem) (𝓡 .run)) 𝓜 𝓡 code.env #tables·any-crossed c1-def.routine code.calls-tables·any-crossed (c1-thm.met 𝓤 H 𝓜 𝓖 𝓡))
+    (cited 𝓤 H (C1 𝓤 H (𝓖 .A) (𝓜 .mem) (𝓡 .run)) 𝓜 𝓡 code.env #memory·ranges·any-crossed c1-def.routine code.calls-memory·ranges·any-crossed (c1-thm.met 𝓤 H 𝓜 𝓖 𝓡))
     (cited 𝓤 H (C2 𝓤 H (𝓖 .A) (𝓜 .mem) (𝓡 .run)) 𝓜 𝓡 code.env #mmu·by-value·planned-load c2-def.routine code.calls-mmu·by-value·planned-load (c2-thm.met 𝓤 H 𝓜 𝓖 𝓡))
     (cited 𝓤 H (C3 𝓤 H (𝓖 .A) (𝓜 .mem) (𝓡 .run)) 𝓜 𝓡 code.env #mmu·by-value·wanted c3-def.routine code.calls-mmu·by-value·wanted (c3-thm.met 𝓤 H 𝓜 𝓖 𝓡))
-    (cited 𝓤 H (C4 𝓤 H (𝓖 .A) (𝓜 .mem) (𝓡 .run)) 𝓜 𝓡 code.env #tables·walk-for c4-def.routine code.calls-tables·walk-for (c4-thm.met 𝓤 H 𝓜 𝓖 𝓡))
+    (cited 𝓤 H (C4 𝓤 H (𝓖 .A) (𝓜 .mem) (𝓡 .run)) 𝓜 𝓡 code.env #walks·walk-for c4-def.routine code.calls-walks·walk-for (c4-thm.met 𝓤 H 𝓜 𝓖 𝓡))
     (cited 𝓤 H (C5 𝓤 H (𝓖 .A) (𝓜 .mem) (𝓡 .run)) 𝓜 𝓡 code.env #mmu·by-value·concluded-load c5-def.routine code.calls-mmu·by-value·concluded-load (c5-thm.met 𝓤 H 𝓜 𝓖 𝓡)))

@@ -46,8 +46,8 @@ use Rattle.translate.specs.Stages.{planAccess, concludeAccess}
 use Rattle.translate.specs.InPlace.{PlannedIn, AnsweredIn}
 use Rattle.mmu.specs.ByValue.{TranslatedBy}
 use Rattle.definition.specs.Refusal.{badBase}
-use Rattle.definition.specs.Words.{anyOf}
 use Rattle.definition.specs.Refusal.{crossed}
+use Rattle.definition.specs.Words.{anyOf}
 use Rattle.walks.specs.Walked.{walksOf}
 use Rattle.cache.specs.declared.CachePair.{CachePair}
 use Rattle.cache.proofs.CachePair as row-CachePair
@@ -76,10 +76,10 @@ use Rattle.plan.proofs.checks.bad_longs as c0
 use Rattle.plan.proofs.checks.bad_longs.Symbol as c0-def
 use Rattle.plan.proofs.checks.bad_longs.Symbol.{name as #plan·checks·bad-longs}
 use Rattle.plan.proofs.checks.bad_longs.Met as c0-thm
-use Rattle.tables.proofs.any_crossed as c1
-use Rattle.tables.proofs.any_crossed.Symbol as c1-def
-use Rattle.tables.proofs.any_crossed.Symbol.{name as #tables·any-crossed}
-use Rattle.tables.proofs.any_crossed.Met as c1-thm
+use Rattle.memory.proofs.ranges.any_crossed as c1
+use Rattle.memory.proofs.ranges.any_crossed.Symbol as c1-def
+use Rattle.memory.proofs.ranges.any_crossed.Symbol.{name as #memory·ranges·any-crossed}
+use Rattle.memory.proofs.ranges.any_crossed.Met as c1-thm
 use Rattle.mmu.proofs.by_value.planned as c2
 use Rattle.mmu.proofs.by_value.planned.Symbol as c2-def
 use Rattle.mmu.proofs.by_value.planned.Symbol.{name as #mmu·by-value·planned}
@@ -92,10 +92,10 @@ use Rattle.mmu.proofs.by_value.wanted as c4
 use Rattle.mmu.proofs.by_value.wanted.Symbol as c4-def
 use Rattle.mmu.proofs.by_value.wanted.Symbol.{name as #mmu·by-value·wanted}
 use Rattle.mmu.proofs.by_value.wanted.Met as c4-thm
-use Rattle.tables.proofs.walk_for as c5
-use Rattle.tables.proofs.walk_for.Symbol as c5-def
-use Rattle.tables.proofs.walk_for.Symbol.{name as #tables·walk-for}
-use Rattle.tables.proofs.walk_for.Met as c5-thm
+use Rattle.walks.proofs.walk_for as c5
+use Rattle.walks.proofs.walk_for.Symbol as c5-def
+use Rattle.walks.proofs.walk_for.Symbol.{name as #walks·walk-for}
+use Rattle.walks.proofs.walk_for.Met as c5-thm
 use Rattle.mmu.proofs.by_value.concluded as c6
 use Rattle.mmu.proofs.by_value.concluded.Symbol as c6-def
 use Rattle.mmu.proofs.by_value.concluded.Symbol.{name as #mmu·by-value·concluded}
@@ -154,7 +154,7 @@ module _ {M : Type 1} (𝓤 : URA M) (H : Heap 𝓤) (A : Atoms 𝓤) (W : Given
   said-0 : (a0 : RefT (List ℕ)) (a1 : ℕ) (r : Bool) → ent 𝓤 (ensured 𝓤 H A c0.ended (c0.clauses 𝓤 H A mem run) (κ0, tt) (a0, (a1, tt)) tt r) (fact 𝓤 (r ≡ badBase (memory (now a0) a1 [])))
   said-0 a0 a1 r = exE 𝓤 _ (λ ws. snd∗ 𝓤 (sem 𝓤 H A (lasts c0.ended (κ0, tt) (a0, (a1, tt)) ws)) (fact 𝓤 (r ≡ badBase (memory (now a0) a1 []))))
 
-  -- the call of `any_crossed`: what it is passed, what it asks, and what is known of its result
+  -- the call of `ranges.any_crossed`: what it is passed, what it asks, and what is known of its result
   abbrev to-1 : (a0 : RefT (List Range)) (v0 : Val) → C1 𝓤 H A mem run .Ghost
   to-1 a0 v0 = (((κ1, tt), (q1, tt), tt, (a0, tt), (v0 ∷ [], tt)), tt)
 
@@ -220,7 +220,7 @@ module _ {M : Type 1} (𝓤 : URA M) (H : Heap 𝓤) (A : Atoms 𝓤) (W : Given
   said-6 : (a0 : Registers) (a1 : Access) (a2 : PlannedPair) (a3 : Walks) (r : Translated) → ent 𝓤 (ensured 𝓤 H A c6.ended (c6.clauses 𝓤 H A mem run) tt (a0, (a1, (a2, (a3, tt)))) tt r) (fact 𝓤 (AnsweredIn (concludeAccess a0 a1 (pairOf (a2 .caches)) (a2 .plan) a3) (r .answer) (r .count) (r .caches .c030) (r .caches .c040)))
   said-6 a0 a1 a2 a3 r = exE 𝓤 _ (λ ws. snd∗ 𝓤 (sem 𝓤 H A (lasts c6.ended tt (a0, (a1, (a2, (a3, tt)))) ws)) (fact 𝓤 (AnsweredIn (concludeAccess a0 a1 (pairOf (a2 .caches)) (a2 .plan) a3) (r .answer) (r .count) (r .caches .c030) (r .caches .c040))))
 
-  module _ (𝓣 : Tables 𝓤 H) (known-0 : Triple 𝓤 (𝓣 .C #plan·checks·bad-longs) (C0 𝓤 H A mem run)) (known-1 : Triple 𝓤 (𝓣 .C #tables·any-crossed) (C1 𝓤 H A mem run)) (known-2 : Triple 𝓤 (𝓣 .C #mmu·by-value·planned) (C2 𝓤 H A mem run)) (known-3 : Triple 𝓤 (𝓣 .C #mmu·by-value·address-of) (C3 𝓤 H A mem run)) (known-4 : Triple 𝓤 (𝓣 .C #mmu·by-value·wanted) (C4 𝓤 H A mem run)) (known-5 : Triple 𝓤 (𝓣 .C #tables·walk-for) (C5 𝓤 H A mem run)) (known-6 : Triple 𝓤 (𝓣 .C #mmu·by-value·concluded) (C6 𝓤 H A mem run)) where
+  module _ (𝓣 : Tables 𝓤 H) (known-0 : Triple 𝓤 (𝓣 .C #plan·checks·bad-longs) (C0 𝓤 H A mem run)) (known-1 : Triple 𝓤 (𝓣 .C #memory·ranges·any-crossed) (C1 𝓤 H A mem run)) (known-2 : Triple 𝓤 (𝓣 .C #mmu·by-value·planned) (C2 𝓤 H A mem run)) (known-3 : Triple 𝓤 (𝓣 .C #mmu·by-value·address-of) (C3 𝓤 H A mem run)) (known-4 : Triple 𝓤 (𝓣 .C #mmu·by-value·wanted) (C4 𝓤 H A mem run)) (known-5 : Triple 𝓤 (𝓣 .C #walks·walk-for) (C5 𝓤 H A mem run)) (known-6 : Triple 𝓤 (𝓣 .C #mmu·by-value·concluded) (C6 𝓤 H A mem run)) where
     abbrev C : Calls 𝓤 H
     C = 𝓣 .C
 
@@ -294,11 +294,11 @@ module _ {M : Type 1} (𝓤 : URA M) (H : Heap 𝓤) (A : Atoms 𝓤) (W : Given
         by ! (exits r26 (LL.val row-Translated.the-type law-Translated.the-laws r26) (subst (Is row-Translated.the-row r26) (LL.tells row-Translated.the-type law-Translated.the-laws r26 _ is28) is28) (law.translates x4 x5 (memory (now x1) x2 (now x3)) x6 e3 e7 e11 e15 e19 e23 e27)))))))))))))))))))))))))))))))))))))))))))
 
 module _ {M : Type 1} (𝓤 : URA M) (H : Heap 𝓤) (A : Atoms 𝓤) (W : Given 𝓤 H A) (mem : Memory → SProp 𝓤) (run : Routine → Fun 𝓤) (𝓣 : Tables 𝓤 H) where
-  self-walks : Triple 𝓤 (𝓣 .C #plan·checks·bad-longs) (C0 𝓤 H A mem run) → Triple 𝓤 (𝓣 .C #tables·any-crossed) (C1 𝓤 H A mem run) → Triple 𝓤 (𝓣 .C #mmu·by-value·planned) (C2 𝓤 H A mem run) → Triple 𝓤 (𝓣 .C #mmu·by-value·address-of) (C3 𝓤 H A mem run) → Triple 𝓤 (𝓣 .C #mmu·by-value·wanted) (C4 𝓤 H A mem run) → Triple 𝓤 (𝓣 .C #tables·walk-for) (C5 𝓤 H A mem run) → Triple 𝓤 (𝓣 .C #mmu·by-value·concluded) (C6 𝓤 H A mem run) → AllWalks 𝓤 H A self.ended stayed (WpFn 𝓤 H (𝓣 .C) (𝓣 .Λ) code.function) (self.clauses 𝓤 H A mem run)
+  self-walks : Triple 𝓤 (𝓣 .C #plan·checks·bad-longs) (C0 𝓤 H A mem run) → Triple 𝓤 (𝓣 .C #memory·ranges·any-crossed) (C1 𝓤 H A mem run) → Triple 𝓤 (𝓣 .C #mmu·by-value·planned) (C2 𝓤 H A mem run) → Triple 𝓤 (𝓣 .C #mmu·by-value·address-of) (C3 𝓤 H A mem run) → Triple 𝓤 (𝓣 .C #mmu·by-value·wanted) (C4 𝓤 H A mem run) → Triple 𝓤 (𝓣 .C #walks·walk-for) (C5 𝓤 H A mem run) → Triple 𝓤 (𝓣 .C #mmu·by-value·concluded) (C6 𝓤 H A mem run) → AllWalks 𝓤 H A self.ended stayed (WpFn 𝓤 H (𝓣 .C) (𝓣 .Λ) code.function) (self.clauses 𝓤 H A mem run)
   self-walks known-0 known-1 known-2 known-3 known-4 known-5 known-6 = walked 𝓤 H A self.ended stayed (self.clauses 𝓤 H A mem run) (WpFn 𝓤 H (𝓣 .C) (𝓣 .Λ) code.function) (λ κs. (slice-vals, (uint-vals w32, (slice-vals, (LL.vals row-Registers.the-type law-Registers.the-laws, (LL.vals row-Access.the-type law-Access.the-laws, (LL.vals row-CachePair.the-type law-CachePair.the-laws, tt))))))) (λ κs. (shr-slice-tells (named 0) (κs .0) u32, (uint-tells w32, (shr-slice-tells (named 1) (κs .1 .0) row-Range.the-row, (LL.tells row-Registers.the-type law-Registers.the-laws, (LL.tells row-Access.the-type law-Access.the-laws, (LL.tells row-CachePair.the-type law-CachePair.the-laws, tt)))))))
       (λ κs qs bounds a g are. via 𝓤 _ (fst∗ 𝓤 _ (emp 𝓤)) (walk 𝓤 H A W mem run (κs .0) (κs .1 .0) (qs .0) (qs .1 .0) (a .0) (a .1 .0) (a .1 .1 .0) (a .1 .1 .1 .0) (a .1 .1 .1 .1 .0) (a .1 .1 .1 .1 .1 .0) (are .0) (are .1 .0) (are .1 .1 .0) (are .1 .1 .1 .0) (are .1 .1 .1 .1 .0) (are .1 .1 .1 .1 .1 .0) 𝓣 known-0 known-1 known-2 known-3 known-4 known-5 known-6))
 
-  self-meets : Triple 𝓤 (𝓣 .C #plan·checks·bad-longs) (C0 𝓤 H A mem run) → Triple 𝓤 (𝓣 .C #tables·any-crossed) (C1 𝓤 H A mem run) → Triple 𝓤 (𝓣 .C #mmu·by-value·planned) (C2 𝓤 H A mem run) → Triple 𝓤 (𝓣 .C #mmu·by-value·address-of) (C3 𝓤 H A mem run) → Triple 𝓤 (𝓣 .C #mmu·by-value·wanted) (C4 𝓤 H A mem run) → Triple 𝓤 (𝓣 .C #tables·walk-for) (C5 𝓤 H A mem run) → Triple 𝓤 (𝓣 .C #mmu·by-value·concluded) (C6 𝓤 H A mem run) → Meets 𝓤 H A self.signature (WpFn 𝓤 H (𝓣 .C) (𝓣 .Λ) code.function) (self.spec 𝓤 H A mem run)
+  self-meets : Triple 𝓤 (𝓣 .C #plan·checks·bad-longs) (C0 𝓤 H A mem run) → Triple 𝓤 (𝓣 .C #memory·ranges·any-crossed) (C1 𝓤 H A mem run) → Triple 𝓤 (𝓣 .C #mmu·by-value·planned) (C2 𝓤 H A mem run) → Triple 𝓤 (𝓣 .C #mmu·by-value·address-of) (C3 𝓤 H A mem run) → Triple 𝓤 (𝓣 .C #mmu·by-value·wanted) (C4 𝓤 H A mem run) → Triple 𝓤 (𝓣 .C #walks·walk-for) (C5 𝓤 H A mem run) → Triple 𝓤 (𝓣 .C #mmu·by-value·concluded) (C6 𝓤 H A mem run) → Meets 𝓤 H A self.signature (WpFn 𝓤 H (𝓣 .C) (𝓣 .Λ) code.function) (self.spec 𝓤 H A mem run)
   self-meets known-0 known-1 known-2 known-3 known-4 known-5 known-6 = walk-meets 𝓤 H A self.ended stayed W (goes-none-slice 𝓤 H A W 2 (0 ∷ []) tt (plain (λ _. u32)) yes, (goes-none 𝓤 H A W 2 (λ _. u32) yes (λ κs x f. refl), (goes-none-slice 𝓤 H A W 2 (1 ∷ []) tt (plain (λ _. row-Range.the-row)) yes, (goes-none 𝓤 H A W 2 (λ _. row-Registers.the-row) yes (λ κs x f. refl), (goes-none 𝓤 H A W 2 (λ _. row-Access.the-row) yes (λ κs x f. refl), (goes-none 𝓤 H A W 2 (λ _. row-CachePair.the-row) yes (λ κs x f. refl), tt)))))) (self.clauses 𝓤 H A mem run) (WpFn 𝓤 H (𝓣 .C) (𝓣 .Λ) code.function) (WpFn-mono 𝓤 H (W .laws) 𝓣 code.function) (self-walks known-0 known-1 known-2 known-3 known-4 known-5 known-6)
 
 pub translate-spec : {M : Type 1} → stated.statement M
@@ -308,9 +308,9 @@ translate-spec 𝓤 H 𝓜 𝓖 𝓡 =
     (tables 𝓤 H 𝓜 𝓡 code.env .C) (tables 𝓤 H 𝓜 𝓡 code.env .Λ) #mmu·by-value·translate code.function (code.unfolded 𝓤 H 𝓜 𝓡)
     (self-meets 𝓤 H (𝓖 .A) (givenOf 𝓤 H 𝓜 𝓖) (𝓜 .mem) (𝓡 .run) (tablesOf 𝓤 H 𝓜 (tables 𝓤 H 𝓜 𝓡 code.env))
     (cited 𝓤 H (C0 𝓤 H (𝓖 .A) (𝓜 .mem) (𝓡 .run)) 𝓜 𝓡 code.env #plan·checks·bad-longs c0-def.routine code.calls-plan·checks·bad-longs (c0-thm.met 𝓤 H 𝓜 𝓖 𝓡))
-    (cited 𝓤 H (C1 𝓤 H (𝓖 .A) (𝓜 .mem) (𝓡 .run)) 𝓜 𝓡 code.env #tables·any-crossed c1-def.routine code.calls-tables·any-crossed (c1-thm.met 𝓤 H 𝓜 𝓖 𝓡))
+    (cited 𝓤 H (C1 𝓤 H (𝓖 .A) (𝓜 .mem) (𝓡 .run)) 𝓜 𝓡 code.env #memory·ranges·any-crossed c1-def.routine code.calls-memory·ranges·any-crossed (c1-thm.met 𝓤 H 𝓜 𝓖 𝓡))
     (cited 𝓤 H (C2 𝓤 H (𝓖 .A) (𝓜 .mem) (𝓡 .run)) 𝓜 𝓡 code.env #mmu·by-value·planned c2-def.routine code.calls-mmu·by-value·planned (c2-thm.met 𝓤 H 𝓜 𝓖 𝓡))
     (cited 𝓤 H (C3 𝓤 H (𝓖 .A) (𝓜 .mem) (𝓡 .run)) 𝓜 𝓡 code.env #mmu·by-value·address-of c3-def.routine code.calls-mmu·by-value·address-of (c3-thm.met 𝓤 H 𝓜 𝓖 𝓡))
     (cited 𝓤 H (C4 𝓤 H (𝓖 .A) (𝓜 .mem) (𝓡 .run)) 𝓜 𝓡 code.env #mmu·by-value·wanted c4-def.routine code.calls-mmu·by-value·wanted (c4-thm.met 𝓤 H 𝓜 𝓖 𝓡))
-    (cited 𝓤 H (C5 𝓤 H (𝓖 .A) (𝓜 .mem) (𝓡 .run)) 𝓜 𝓡 code.env #tables·walk-for c5-def.routine code.calls-tables·walk-for (c5-thm.met 𝓤 H 𝓜 𝓖 𝓡))
+    (cited 𝓤 H (C5 𝓤 H (𝓖 .A) (𝓜 .mem) (𝓡 .run)) 𝓜 𝓡 code.env #walks·walk-for c5-def.routine code.calls-walks·walk-for (c5-thm.met 𝓤 H 𝓜 𝓖 𝓡))
     (cited 𝓤 H (C6 𝓤 H (𝓖 .A) (𝓜 .mem) (𝓡 .run)) 𝓜 𝓡 code.env #mmu·by-value·concluded c6-def.routine code.calls-mmu·by-value·concluded (c6-thm.met 𝓤 H 𝓜 𝓖 𝓡)))
