@@ -3,7 +3,7 @@ use Prim.Native.Nat.{ℕ, zero, suc, _+_, _-_, _≤_, _<_, zero-le, suc-le-suc}
 use mathlib.Core.Path.{_≡_, refl, ap, sym, _∙_}
 use mathlib.Core.Bool.{Bool, true, false, and-false}
 use mathlib.Core.List.{List, [], _∷_, map}
-use native.Mathlib.Nat.{le-of-suc-le-suc, not-suc-le-zero, le-trans, le-refl, le-antisymm, zero-add}
+use native.Mathlib.Nat.{le-of-suc-le-suc, not-suc-le-zero, le-trans, zero-add}
 use native.Mathlib.Omega.{arith}
 use native.Mathlib.Numerals.{add-one}
 use borrow.Author.Tests.{le-leb, lt-leb}
@@ -124,26 +124,18 @@ module _ (p : ℕ → Bool) where
   count-is l i n h r = omega (arith, r .rest, count-end l i h)
 
 -- ---- the smallest
--- the smallest of the first i is x, first at b
+-- x stands at b, is at most each of the first i, and less than each before b
 pub record Least (l : List ℕ) (i b x : ℕ) : Type 0 where
-  pub seen : b < i
   pub is : x ≡ getD l b 0
   pub lows : (k : ℕ) → k < i → x ≤ getD l k 0
   pub first : (k : ℕ) → k < b → x < getD l k 0
 
-pub least-start : (l : List ℕ) (y : ℕ) → y ≡ getD l 0 0 → Least l 1 0 y
-least-start l y a =
-    record {
-      seen = omega arith;
-      is = a;
-      lows = λ k q. rw (a, le-antisymm (le-of-suc-le-suc q) zero-le) (le-refl _);
-      first = below-none (λ (k : ℕ). y < getD l k 0);
-    }
+pub least-start : (l : List ℕ) (x : ℕ) → x ≡ getD l 0 0 → Least l 0 0 x
+least-start l x a = record { is = a; lows = below-none (λ (k : ℕ). x ≤ getD l k 0); first = below-none (λ (k : ℕ). x < getD l k 0) }
 
 pub least-new : (l : List ℕ) (i b x y : ℕ) → y ≡ getD l i 0 → y < x → Least l i b x → Least l (i + 1) i y
 least-new l i b x y a h r =
     record {
-      seen = omega arith;
       is = a;
       lows = below-more (λ (k : ℕ). y ≤ getD l k 0) i (λ k q. omega (arith, r .lows k q)) (omega arith);
       first = λ k q. omega (arith, r .lows k q);
@@ -152,17 +144,16 @@ least-new l i b x y a h r =
 pub least-keep : (l : List ℕ) (i b x y : ℕ) → y ≡ getD l i 0 → x ≤ y → Least l i b x → Least l (i + 1) b x
 least-keep l i b x y a h r =
     record {
-      seen = omega (arith, r .seen);
       is = r .is;
       lows = below-more (λ (k : ℕ). x ≤ getD l k 0) i (r .lows) (omega arith);
       first = r .first;
     }
 
-pub least-is : (l : List ℕ) (n b x : ℕ) → length l ≡ n → Least l n b x → b ≡ firstOf (λ (x : ℕ). allOf (λ (y : ℕ). leb x y) l) l
-least-is l n b x e r =
-    first-is (λ (x : ℕ). allOf (λ (y : ℕ). leb x y) l) l n b (getD l b 0) e (r .seen) refl
+pub least-is : (l : List ℕ) (n b x : ℕ) → length l ≡ n → b < n → Least l n b x → b ≡ firstOf (λ (x : ℕ). allOf (λ (y : ℕ). leb x y) l) l
+least-is l n b x e h r =
+    first-is (λ (x : ℕ). allOf (λ (y : ℕ). leb x y) l) l n b (getD l b 0) e h refl
     (all-true (λ (y : ℕ). leb (getD l b 0) y) l (λ k q. le-leb _ _ (rw (r .is) at (r .lows k (rw e at q)))))
-    (λ k q. all-false (λ (y : ℕ). leb (getD l k 0) y) l b (rw e (r .seen)) (lt-leb _ _ (rw (r .is) at (r .first k q))))
+    (λ k q. all-false (λ (y : ℕ). leb (getD l k 0) y) l b (rw e h) (lt-leb _ _ (rw (r .is) at (r .first k q))))
 
 -- ---- changes in place
 -- the first i elements through f, the others as they are

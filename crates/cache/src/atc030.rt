@@ -4,7 +4,7 @@ use crate::packed::sized;
 use crate::packed::word;
 use definition::Hit;
 ghost use mathlib.Core.Path.{_≡_};
-ghost use mathlib.Core.Bool.{true, false, not, _&&_, _||_};
+ghost use mathlib.Core.Bool.{true, false, _&&_, _||_};
 ghost use mathlib.Core.List.{map};
 ghost use Prim.Native.Nat.{ℕ, _+_, _/_, _%_, _^_, _<_};
 ghost use lib.Dec.{eqb, ltb};
@@ -13,7 +13,7 @@ ghost use Rattle.definition.specs.Words.{if_then_else_, agrees, firstOf, countO
 ghost use Rattle.definition.specs.Refusal.{badCache};
 ghost use Rattle.definition.specs.Cache030.{Cache030, touched, hitOf, shifted, inserted, flushedAll, flushedCode, flushedPage};
 ghost use Rattle.cache.specs.Packed.{odd, dropTag};
-ghost use Rattle.cache.specs.Atc030.{tagsOf, pagesOf, stampsOf, recentIn, clockIn, shiftIn, cacheOf, Parts, Stepped, Looked, keyOf, heldIn, leastOf, placeOf, ranked, Used};
+ghost use Rattle.cache.specs.Atc030.{tagsOf, pagesOf, stampsOf, recentIn, clockIn, shiftIn, cacheOf, Parts, Stepped, Looked, keyOf, heldIn, placeOf, ranked, Used};
 
 pub type Atc030 = [u64; 69];
 
@@ -44,40 +44,6 @@ fn first_with(c030: &Atc030, key: u64) -> usize
         }
     }
     found
-}
-
-// The first invalid entry, or 22.
-fn first_invalid(c030: &Atc030) -> usize
-    requires { ⌜ length (now c030) ≡ 69 ⌝ }
-    ensures { λ r. ⌜ r ≡ firstOf (λ (t : ℕ). not (odd t)) (tagsOf (now (c030 .entry))) ⌝ }
-{
-    let mut i: usize = 0;
-    while i < 22 {
-        if c030[i] % 2 == 0 {
-            return i;
-        }
-        i += 1;
-    }
-    22
-}
-
-// The smallest stamp, lowest index among equals.
-fn oldest(c030: &Atc030) -> usize
-    requires { ⌜ length (now c030) ≡ 69 ⌝ }
-    ensures { λ r. ⌜ (r ≡ leastOf (stampsOf (now (c030 .entry)))) × (r < 22) ⌝ }
-{
-    let mut best: usize = 0;
-    let mut low = c030[STAMPS];
-    let mut i: usize = 1;
-    while i < 22 {
-        let x = c030[STAMPS + i];
-        if x < low {
-            low = x;
-            best = i;
-        }
-        i += 1;
-    }
-    best
 }
 
 // ---- a use
@@ -313,20 +279,47 @@ pub fn flush_page(c030: &mut Atc030, code: u32, mask: u32, address: u32)
 
 // ---- insert
 
-// The lowest index of the same key, else the first invalid, else the smallest stamp.
+// The lowest index of the same key, else the first invalid, else the smallest stamp, lowest index among equals: in one pass.
+// Where an entry is invalid no stamp decides, so an invalid entry's stamp is not looked at.
+// The end is asked for at the end of a turn: in a `while` the compiler kept a second counter.
 fn place(c030: &Atc030, key: u64) -> usize
     requires { ⌜ length (now c030) ≡ 69 ⌝ }
     ensures { λ r. ⌜ (r ≡ placeOf (tagsOf (now (c030 .entry))) (stampsOf (now (c030 .entry))) key) × (r < 22) ⌝ }
 {
-    let same = first_with(c030, key);
+    let mut same: usize = 22;
+    let mut invalid: usize = 22;
+    let mut oldest: usize = 0;
+    let mut low = c030[STAMPS];
+    let mut i: usize = 0;
+    loop {
+        let t = c030[i];
+        if t == key {
+            same = i;
+            break;
+        }
+        if t % 2 == 0 {
+            if invalid == 22 {
+                invalid = i;
+            }
+        } else {
+            let x = c030[STAMPS + i];
+            if x < low {
+                low = x;
+                oldest = i;
+            }
+        }
+        if i == 21 {
+            break;
+        }
+        i += 1;
+    }
     if same < 22 {
         return same;
     }
-    let invalid = first_invalid(c030);
     if invalid < 22 {
         return invalid;
     }
-    oldest(c030)
+    oldest
 }
 
 // At a different shift an insert empties first.
