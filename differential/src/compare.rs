@@ -74,13 +74,13 @@ impl Comparer {
 
     /// Compares the traces of the seeds from `seed` until so many records were compared. By
     /// lines also a long trace, as a file and in small pieces.
-    pub fn run(&self, seed: u64, records: usize) -> Tally {
+    pub fn run(&self, trace: fn(u64) -> Vec<u8>, seed: u64, records: usize) -> Tally {
         let mut tally = Tally::default();
         for seed in seed.. {
             if tally.records >= records {
                 break;
             }
-            if !self.compared(seed, &generate::trace(seed), Way::File, &mut tally) {
+            if !self.compared(seed, &trace(seed), Way::File, &mut tally) {
                 return tally;
             }
         }

@@ -2,7 +2,7 @@
 
 use crate::builder::Builder;
 use crate::malformed::WAYS;
-use crate::themes::{THEMES, mixed};
+use crate::themes::{self, THEMES, mixed};
 use crate::trace::encode;
 
 /// More bytes than a player holds at once: its buffer has at most 128 KiB.
@@ -19,6 +19,14 @@ pub fn trace(seed: u64) -> Vec<u8> {
     b.limit = b.random.within(5, 60) as usize;
     let way = b.random.below(WAYS.len() as u64) as usize;
     WAYS[way].1(&mut b)
+}
+
+/// A trace of 200 to 360 records over a working set of 20 to 40 pages.
+pub fn working_set(seed: u64) -> Vec<u8> {
+    let mut b = Builder::new(seed, 0);
+    b.limit = b.random.within(200, 360) as usize;
+    themes::working_set(&mut b);
+    encode(&b.records)
 }
 
 /// Below 5 mixed, else of one theme.

@@ -32,8 +32,8 @@ const USAGE: &str = "usage:
   differential selftest [TRACES]               try the bed itself
   differential oracle [--states]               the original's lines for the trace on standard input
   differential paper [--states] [SLIP]         the same by the second reading, with a slip
-  differential generate SEED                   the trace of a seed, to standard output
-  differential compare lines|states PLAYER SEED RECORDS FOLDER
+  differential generate SEED [working_set]     the trace of a seed, to standard output
+  differential compare lines|states|working_set PLAYER SEED RECORDS FOLDER
                                                compare until so many records were compared
   differential cases FOLDER COUNT SEED         write stored cases
   differential pairs FOLDER COUNT SEED         write pairs of replays with the same watched accesses
@@ -71,14 +71,16 @@ fn run(words: &[&str]) -> Result<bool, String> {
             print(output.text().as_bytes())?;
         }
         ["generate", seed] => print(&generate::trace(number(seed)?))?,
+        ["generate", seed, "working_set"] => print(&generate::working_set(number(seed)?))?,
         ["compare", mode, player, seed, records, folder] => {
-            let states = match mode {
-                "lines" => false,
-                "states" => true,
+            let (states, trace): (bool, fn(u64) -> Vec<u8>) = match mode {
+                "lines" => (false, generate::trace),
+                "states" => (true, generate::trace),
+                "working_set" => (true, generate::working_set),
                 _ => return Err(USAGE.into()),
             };
             let comparer = compare::Comparer::new(Path::new(player), states, Path::new(folder)).map_err(told)?;
-            let tally = comparer.run(number(seed)?, number(records)? as usize);
+            let tally = comparer.run(trace, number(seed)?, number(records)? as usize);
             println!("{mode}: {} records compared in {} traces", tally.records, tally.passed + tally.failed);
             println!("{} passed, {} failed", tally.passed, tally.failed);
             return Ok(tally.failed == 0);

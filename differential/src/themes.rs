@@ -431,6 +431,26 @@ fn lru_22(b: &mut Builder) {
     b.body(&[(Op::Access, 86), (Op::Probe, 8), (Op::FlushPage, 4), (Op::Load, 2)]);
 }
 
+/// A profile of its own, not one of `THEMES`: 20 to 40 pages in use, so that inserts choose
+/// their places in full caches, after flushes and among entries of the same key (a write on
+/// a WP page searches again and is inserted).
+pub fn working_set(b: &mut Builder) {
+    let tc = b.tc_of(12, 0, 3);
+    let registers = b.registers_of(30, tc);
+    b.tree(&registers, &Shape { long: 30, early: 100, wp: 35, ..Shape::PLAIN }, 1, &[1]);
+    b.hot = b.random.within(20, 40);
+    b.overrides = 4;
+    b.body(&[
+        (Op::Access, 240),
+        (Op::Probe, 12),
+        (Op::Load, 12),
+        (Op::FlushPage, 24),
+        (Op::FlushCode, 2),
+        (Op::FlushAll, 1),
+        (Op::Mutate, 6),
+    ]);
+}
+
 /// Hits that record no use: the oldest insert goes first.
 fn unrecorded(b: &mut Builder) {
     let tc = b.tc_of(12, 0, 3);
