@@ -1,7 +1,5 @@
 // The driver of the players: standard input through a buffer, the replay's lines through another, and with `states` also both
 // caches after each record. It is proved that of the bytes that stand in the buffer no record is lost and none is played twice.
-mod states;
-
 ghost use mathlib.Core.Path.{_≡_};
 ghost use mathlib.Core.Bool.{true, false};
 ghost use Prim.Native.Nat.{_≤_, _-_};

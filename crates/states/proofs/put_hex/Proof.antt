@@ -2,8 +2,8 @@ use Prim.Native.Nat.{_≤_, _-_}
 use mathlib.Core.Path.{_≡_}
 use lib.ListN.{length}
 use borrow.Author.Needs.{needs}
-use Rattle.playing.proofs.states.put_hex.Statement.{statement}
-use Rattle.playing.proofs.states.put_hex.Tie as tie
+use Rattle.states.proofs.put_hex.Statement.{statement}
+use Rattle.states.proofs.put_hex.Tie as tie
 
 abbrev Inv-loop : tie.InvT-loop
 Inv-loop out₀ at x to₀ k₀ out to k = (k ≤ 8) × (length out ≡ length out₀)
