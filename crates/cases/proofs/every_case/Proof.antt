@@ -6,17 +6,20 @@ use Rattle.cases.proofs.every_case.Statement.{statement}
 use Rattle.cases.proofs.every_case.Tie as tie
 
 abbrev Inv-loop : tie.InvT-loop
-Inv-loop out₀ name₀ trace₀ expected₀ played₀ t₀ count i₀ out name trace expected played t i =
-    (64 ≡ length name) × (4096 ≡ length trace) × (4096 ≡ length expected) × (4096 ≡ length played)
+Inv-loop out₀ name₀ trace₀ expected₀ t₀ count i₀ out name trace expected t i =
+    (64 ≡ length name) × (4096 ≡ length trace) × (65536 ≡ length expected)
 
 abbrev μ-loop : tie.MeasureT-loop
-μ-loop out₀ name₀ trace₀ expected₀ played₀ t₀ count i₀ out name trace expected played t i = count - i
+μ-loop out₀ name₀ trace₀ expected₀ t₀ count i₀ out name trace expected t i = count - i
+
+none-requires : tie.Need-none-requires Inv-loop μ-loop
+none-requires c κs = search needs
 
 arg-count-requires : tie.Need-arg-count-requires Inv-loop μ-loop
 arg-count-requires c κs = search needs
 
 loop-holds : tie.Need-loop-holds Inv-loop μ-loop
-loop-holds c = (search needs, search needs, search needs, search needs)
+loop-holds c = (search needs, search needs, search needs)
 
 slice-aggregate-next-case : tie.Need-slice-aggregate-next-case Inv-loop μ-loop
 slice-aggregate-next-case c = search needs
@@ -26,9 +29,6 @@ slice-aggregate-next-case-2 c = search needs
 
 slice-aggregate-next-case-3 : tie.Need-slice-aggregate-next-case-3 Inv-loop μ-loop
 slice-aggregate-next-case-3 c = search needs
-
-slice-aggregate-next-case-4 : tie.Need-slice-aggregate-next-case-4 Inv-loop μ-loop
-slice-aggregate-next-case-4 c = search needs
 
 next-case-requires : tie.Need-next-case-requires Inv-loop μ-loop
 next-case-requires c κs = search needs
@@ -51,12 +51,12 @@ every-case-spec =
     (tie.spec
     Inv-loop
     μ-loop
+    none-requires
     arg-count-requires
     loop-holds
     slice-aggregate-next-case
     slice-aggregate-next-case-2
     slice-aggregate-next-case-3
-    slice-aggregate-next-case-4
     next-case-requires
     add-i
     loop-less

@@ -71,20 +71,20 @@ same-length-4 c = search needs
 same-length-5 : tie.Need-same-length-5
 same-length-5 c = search needs
 
-same-length-6 : tie.Need-same-length-6
-same-length-6 c = search needs
-
 returns-3 : tie.Need-returns-3
 returns-3 c = search needs
 
-no-room-requires : tie.Need-no-room-requires
-no-room-requires c κs = search needs
+slice-aggregate-unheld-3 : tie.Need-slice-aggregate-unheld-3
+slice-aggregate-unheld-3 c = search needs
+
+unheld-requires-3 : tie.Need-unheld-requires-3
+unheld-requires-3 c κs = search needs
+
+same-length-6 : tie.Need-same-length-6
+same-length-6 c = search needs
 
 same-length-7 : tie.Need-same-length-7
 same-length-7 c = search needs
-
-same-length-8 : tie.Need-same-length-8
-same-length-8 c = search needs
 
 returns-4 : tie.Need-returns-4
 returns-4 c = search needs
@@ -115,9 +115,9 @@ one-case-spec =
     replayed-requires
     same-length-4
     same-length-5
-    same-length-6
     returns-3
-    no-room-requires
+    slice-aggregate-unheld-3
+    unheld-requires-3
+    same-length-6
     same-length-7
-    same-length-8
     returns-4)
