@@ -29,6 +29,9 @@ mod random;
 #[path = "../../differential/src/replay.rs"]
 mod replay;
 #[allow(dead_code)]
+#[path = "../../differential/src/slips.rs"]
+mod slips;
+#[allow(dead_code)]
 #[path = "../../differential/src/state.rs"]
 mod state;
 #[allow(dead_code)]

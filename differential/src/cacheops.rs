@@ -1,8 +1,8 @@
 //! Random operations on the original's two caches, one line each.
 
 use crate::mmu::{Atc, Atc030};
+use crate::original::state_of;
 use crate::random::Random;
-use crate::state::State;
 use std::io::Write;
 
 /// One operation: its number, its arguments (0 where it has fewer than five), and
@@ -25,7 +25,7 @@ pub fn cacheops(out: &mut impl Write, seed: u64, count: u64) -> std::io::Result<
             shift = random.pick(&SHIFTS);
         }
         let done = if on_030 { on_atc_030(&mut random, &mut atc_030, shift) } else { on_atc(&mut random, &mut atc) };
-        let state = State::of_original(&atc, &atc_030);
+        let state = state_of(&atc, &atc_030);
         let sum = if on_030 { state.sum_030() } else { state.sum_040() };
         let [a, b, c, d, e] = done.arguments;
         let (hit, base) = (u8::from(done.hit.is_some()), done.hit.unwrap_or(0));

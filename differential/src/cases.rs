@@ -1,17 +1,18 @@
-//! Stored cases: small traces by theme, with the oracle's lines.
+//! Stored cases: small traces, by theme and by hand, with the original's lines and
+//! states.
 
 use crate::builder::Builder;
-use crate::examples::{Example, differences, twelve};
+use crate::examples::{Example, corners, differences, twelve};
 use crate::malformed::WAYS;
-use crate::paper::{Paper, Slip};
 use crate::random::Random;
-use crate::replay::replay;
 use crate::selftest::oracle_lines;
+use crate::slips::Slip;
+use crate::stored::Case;
 use crate::themes::THEMES;
 use crate::trace::{encode, stretches};
 use std::collections::BTreeSet;
-use std::fs;
 use std::path::Path;
+use std::{fs, io};
 
 /// Records of a case, at most.
 const LIMIT: usize = 60;
@@ -27,43 +28,73 @@ const COVERED: &[&str] = &[
 /// Of so many candidates for each theme the best is kept.
 const CANDIDATES: u64 = 40;
 
-/// What the cases written so far show.
-struct Shown {
+/// The cases so far, and what they show.
+struct Cases {
+    cases: Vec<Case>,
     covered: BTreeSet<String>,
     /// Slips that no case has shown.
     unseen: Vec<Slip>,
 }
 
-impl Shown {
-    /// How much a trace would add.
-    fn gain(&self, bytes: &[u8]) -> usize {
-        let lines = oracle_lines(bytes, false);
-        let slips = self.unseen.iter().filter(|&&slip| shows(slip, bytes, &lines)).count();
-        let new = |what: &&&str| what_is_in(bytes, &lines).contains(**what) && !self.covered.contains(**what);
-        slips + COVERED.iter().filter(new).count()
+impl Cases {
+    fn new() -> Self {
+        Cases { cases: Vec::new(), covered: BTreeSet::new(), unseen: Slip::all() }
     }
 
-    fn add(&mut self, bytes: &[u8], lines: &[String]) {
-        self.covered.extend(what_is_in(bytes, lines));
-        self.unseen.retain(|&slip| !shows(slip, bytes, lines));
+    /// How much a case would add.
+    fn gain(&self, case: &Case) -> usize {
+        let slips = self.unseen.iter().filter(|&&slip| case.shows(slip)).count();
+        let is_in = what_is_in(case);
+        slips + COVERED.iter().filter(|what| is_in.contains(**what) && !self.covered.contains(**what)).count()
+    }
+
+    fn add(&mut self, case: Case) {
+        self.covered.extend(what_is_in(&case));
+        self.unseen.retain(|&slip| !case.shows(slip));
+        self.cases.push(case);
+    }
+
+    /// Writes data/, args with the names, and what crates/cases must write.
+    fn write(&mut self, folder: &Path) -> io::Result<()> {
+        let data = folder.join("data");
+        fs::create_dir_all(&data)?;
+        self.cases.sort_by(|a, b| a.name.cmp(&b.name));
+        let (mut arguments, mut report) = (String::new(), String::new());
+        let mut all = [0, 0];
+        for Case { name, trace, lines } in &self.cases {
+            fs::write(data.join(format!("{name}.trace")), trace)?;
+            fs::write(data.join(format!("{name}.expected")), lines.join("\n") + "\n")?;
+            let states = lines.iter().filter(|line| line.starts_with("S ")).count();
+            let counts = [lines.len() - states, states];
+            arguments += &format!("{name}\n");
+            report += &format!("{name}: {}\n", told(counts));
+            all = [all[0] + counts[0], all[1] + counts[1]];
+        }
+        report += &format!("{} cases, {}\n", self.cases.len(), told(all));
+        fs::write(folder.join("args"), arguments)?;
+        fs::write(folder.join("stdout"), report)
     }
 }
 
-fn shows(slip: Slip, bytes: &[u8], lines: &[String]) -> bool {
-    replay(&mut Paper::with(Some(slip)), bytes, false).lines != lines
+fn told([lines, states]: [usize; 2]) -> String {
+    format!("{lines} lines, {states} states, 0 differ")
+}
+
+fn case(name: String, trace: Vec<u8>) -> Case {
+    let lines = oracle_lines(&trace, true);
+    Case { name, trace, lines }
 }
 
 /// Writes so many cases, and says what they cover. The twelve examples and the ways
 /// of refusal 7 come first, then the themes, again and again with other numbers; last the
-/// inputs of docs/DIFFERENCES.md, whatever the count.
-pub fn cases(folder: &Path, count: usize, seed: u64) -> std::io::Result<bool> {
-    fs::create_dir_all(folder)?;
-    let mut shown = Shown { covered: BTreeSet::new(), unseen: Slip::ALL.to_vec() };
+/// inputs of docs/DIFFERENCES.md and the corners, whatever the count.
+pub fn cases(folder: &Path, count: usize, seed: u64) -> io::Result<bool> {
+    let mut cases = Cases::new();
     let mut seeds = Random::new(seed);
     let fixed = named(twelve()).chain(malformed(&mut seeds)).take(count).collect::<Vec<_>>();
     let left = count - fixed.len();
-    for (name, bytes) in fixed {
-        store(folder, &name, &bytes, &mut shown)?;
+    for (name, trace) in fixed {
+        cases.add(case(name, trace));
     }
     for n in 0..left {
         let (name, theme) = THEMES[n % THEMES.len()];
@@ -71,25 +102,22 @@ pub fn cases(folder: &Path, count: usize, seed: u64) -> std::io::Result<bool> {
             0 => name.to_string(),
             round => format!("{name}_{}", round + 1),
         };
-        let candidates = (0..CANDIDATES).map(|_| by_theme(theme, seeds.next()));
-        let best = candidates.max_by_key(|bytes| shown.gain(bytes)).expect("a candidate");
-        store(folder, &name, &best, &mut shown)?;
+        let candidates = (0..CANDIDATES).map(|_| case(name.clone(), by_theme(theme, seeds.next())));
+        let best = candidates.max_by_key(|candidate| cases.gain(candidate)).expect("a candidate");
+        cases.add(best);
     }
-    for (name, bytes) in named(differences()) {
-        store(folder, &format!("difference_{name}"), &bytes, &mut shown)?;
+    for (name, trace) in named(differences()) {
+        cases.add(case(format!("difference_{name}"), trace));
     }
-    let missing: Vec<&&str> = COVERED.iter().filter(|what| !shown.covered.contains(**what)).collect();
-    println!("{count} cases and {} differences written; not covered: {missing:?}", differences().len());
-    println!("slips that their lines don't show: {} of {} {:?}", shown.unseen.len(), Slip::ALL.len(), shown.unseen);
-    Ok(missing.is_empty())
-}
-
-fn store(folder: &Path, name: &str, bytes: &[u8], shown: &mut Shown) -> std::io::Result<()> {
-    let lines = oracle_lines(bytes, false);
-    shown.add(bytes, &lines);
-    let text: String = lines.iter().map(|line| format!("{line}\n")).collect();
-    fs::write(folder.join(format!("{name}.trace")), bytes)?;
-    fs::write(folder.join(format!("{name}.expected")), text)
+    println!("{} slips are not shown yet: {:?}", cases.unseen.len(), cases.unseen);
+    for (name, trace) in corners() {
+        cases.add(case(name, trace));
+    }
+    cases.write(folder)?;
+    let missing: Vec<&&str> = COVERED.iter().filter(|what| !cases.covered.contains(**what)).collect();
+    println!("{} cases written; not covered: {missing:?}", cases.cases.len());
+    println!("{} slips, {} not shown {:?}", Slip::all().len(), cases.unseen.len(), cases.unseen);
+    Ok(missing.is_empty() && cases.unseen.is_empty())
 }
 
 fn named(examples: Vec<Example>) -> impl Iterator<Item = (String, Vec<u8>)> {
@@ -107,10 +135,11 @@ fn by_theme(theme: fn(&mut Builder), seed: u64) -> Vec<u8> {
     encode(&builder.records)
 }
 
-/// The kinds of records and lines in a trace.
-fn what_is_in(bytes: &[u8], lines: &[String]) -> BTreeSet<String> {
-    let kinds = stretches(bytes).into_iter().filter_map(|record| record.get(2)).map(|kind| format!("kind {kind}"));
-    let shown = lines.iter().map(|line| {
+/// The kinds of records and lines in a case.
+fn what_is_in(case: &Case) -> BTreeSet<String> {
+    let kinds =
+        stretches(&case.trace).into_iter().filter_map(|record| record.get(2)).map(|kind| format!("kind {kind}"));
+    let shown = case.lines.iter().map(|line| {
         let words: Vec<&str> = line.split(' ').collect();
         let shown = match words[0] {
             "R" => 2,

@@ -1,9 +1,11 @@
 //! Traces with lines written by hand: document 01's twelve examples, and what it
 //! says of refusals and the file.
 
+mod corners;
 mod differences;
 
 use crate::trace::{INSTRUCTION, NONE, RECORD, Record, Registers, SUPERVISOR, WRITE};
+pub use corners::corners;
 pub use differences::differences;
 
 /// A trace with the lines that it must give, `v1` and `end` left out. The lines of

@@ -11,19 +11,15 @@ mod compare;
 mod examples;
 mod generate;
 mod malformed;
-mod memory;
 mod original;
 mod pairs;
-mod paper;
 mod random;
-mod replay;
 mod selftest;
-mod state;
 mod themes;
-mod trace;
 mod trees;
 mod walks;
 
+use differential::{memory, paper, replay, slips, state, stored, trace};
 use std::io::{self, BufWriter, Read, Write};
 use std::path::Path;
 use std::process::ExitCode;
@@ -35,7 +31,7 @@ const USAGE: &str = "usage:
   differential generate SEED [working_set]     the trace of a seed, to standard output
   differential compare lines|states|working_set PLAYER SEED RECORDS FOLDER
                                                compare until so many records were compared
-  differential cases FOLDER COUNT SEED         write stored cases
+  differential cases FOLDER COUNT SEED         write stored cases: data/, args and stdout of FOLDER
   differential pairs FOLDER COUNT SEED         write pairs of replays with the same watched accesses
   differential cacheops SEED COUNT             operations on the original's caches
   differential walks SEED COUNT                walks of the original
@@ -117,9 +113,8 @@ fn states(options: &[&str]) -> Result<bool, String> {
     }
 }
 
-fn slip(name: &str) -> Result<paper::Slip, String> {
-    let found = paper::Slip::ALL.iter().find(|slip| format!("{slip:?}") == name);
-    found.copied().ok_or(format!("no such slip: {name}"))
+fn slip(name: &str) -> Result<slips::Slip, String> {
+    slips::Slip::named(name).ok_or(format!("no such slip: {name}"))
 }
 
 fn input() -> Result<Vec<u8>, String> {

@@ -2,7 +2,7 @@
 
 use crate::builder::{Builder, Op};
 use crate::themes::mixed;
-use crate::trace::{Record, encode, framed};
+use crate::trace::{Record, encode, framed, length_of};
 
 /// Puts the mistake behind the records of a well-formed trace.
 type Way = fn(&mut Builder) -> Vec<u8>;
@@ -58,9 +58,8 @@ fn past_end(b: &mut Builder) -> Vec<u8> {
 }
 
 fn body_of(b: &mut Builder, kind: u8) -> Vec<u8> {
-    let lengths = [47, 7, 7, 8, 1, 3, 7, 5, 9, 9, 6];
     let mut body = vec![kind];
-    for _ in 1..lengths[usize::from(kind) - 1] {
+    for _ in 1..length_of(kind).expect("a known kind") {
         body.push(b.random.below(2) as u8);
     }
     if kind == 1 {

@@ -1,7 +1,5 @@
 //! Table memory: lent longs from a base address, and bus-error ranges.
 
-use crate::core::memory::{AddressBus, BusFault, BusFaultKind};
-
 /// The program's memory: 8,192 longs at 0.
 pub const LONGS: usize = 8192;
 
@@ -31,7 +29,7 @@ impl TableMemory {
     }
 
     /// Whether any of the long's four bytes lies in a range.
-    fn in_range(&self, address: u32) -> bool {
+    pub fn in_range(&self, address: u32) -> bool {
         let (first_byte, last_byte) = (u64::from(address), u64::from(address) + 3);
         self.ranges.iter().any(|&(first, last)| u64::from(first) <= last_byte && first_byte <= u64::from(last))
     }
@@ -43,11 +41,11 @@ impl TableMemory {
         (!self.in_range(address)).then(|| self.longs[place])
     }
 
-    /// Stores one long, or refuses with 2.
-    pub fn store(&mut self, address: u32, value: u32) -> Result<(), u8> {
-        let place = self.place(address).ok_or(2)?;
+    /// Stores one long, if it lies in the longs.
+    pub fn store(&mut self, address: u32, value: u32) -> Option<()> {
+        let place = self.place(address)?;
         self.longs[place] = value;
-        Ok(())
+        Some(())
     }
 
     /// What `call` gives, with the number of longs that it asked for.
@@ -56,13 +54,4 @@ impl TableMemory {
         let answer = call(self);
         (answer, self.asked.len() as u32)
     }
-}
-
-/// `src/mmu` reads descriptors by `try_read_long` and uses nothing else of a bus.
-impl AddressBus for TableMemory {
-    fn try_read_long(&mut self, address: u32) -> Result<u32, BusFault> {
-        self.fetch(address).ok_or(BusFault { kind: BusFaultKind::BusError, address })
-    }
-
-    crate::core::cpu::longs_that_may_fail_alone!();
 }

@@ -1,11 +1,12 @@
 //! The original's functions behind [`Machine`].
 
 use crate::core::cpu::CpuCore;
+use crate::core::memory::{AddressBus, BusFault, BusFaultKind};
 use crate::core::types::CpuType;
 use crate::memory::TableMemory;
-use crate::mmu::{self, MmuFault, MmuFaultCause, MmuFaultKind, ResidentMmu};
+use crate::mmu::{self, Atc, Atc030, MmuFault, MmuFaultCause, MmuFaultKind, ResidentMmu};
 use crate::replay::{Access, Answer, Machine};
-use crate::state::State;
+use crate::state::{ENTRIES, SLOTS, State};
 use crate::trace::Registers;
 
 #[derive(Default)]
@@ -105,7 +106,7 @@ impl Machine for Original {
     }
 
     fn state(&self) -> State {
-        State::of_original(&self.cpu.atc, &self.cpu.atc_030)
+        state_of(&self.cpu.atc, &self.cpu.atc_030)
     }
 }
 
@@ -131,4 +132,83 @@ fn cause_number(cause: MmuFaultCause) -> u8 {
         MmuFaultCause::TableWalkBusError => 6,
         MmuFaultCause::AccessBusError => 7,
     }
+}
+
+/// `src/mmu` reads descriptors by `try_read_long` and uses nothing else of a bus.
+impl AddressBus for TableMemory {
+    fn try_read_long(&mut self, address: u32) -> Result<u32, BusFault> {
+        self.fetch(address).ok_or(BusFault { kind: BusFaultKind::BusError, address })
+    }
+
+    crate::core::cpu::longs_that_may_fail_alone!();
+}
+
+/// The original's caches. Their fields are private, so they are read from
+/// their `Debug` text.
+pub fn state_of(atc: &Atc, atc_030: &Atc030) -> State {
+    let mut state = State::empty();
+    read_030(&mut state, &format!("{atc_030:?}"));
+    read_040(&mut state, &format!("{atc:?}"));
+    state
+}
+
+fn read_030(state: &mut State, text: &str) {
+    let mut next = 0;
+    for (name, value) in fields(text) {
+        let entry = &mut state.entries[next.min(ENTRIES - 1)];
+        match name {
+            "valid" => entry.valid = value != 0,
+            "fc" => entry.code = value as u8,
+            "page" => entry.page = value as u32,
+            "phys_page" => entry.base = value as u32,
+            "write_protected" => entry.wp = value != 0,
+            "stamp" => {
+                entry.stamp = value;
+                next += 1;
+            }
+            "mru" => state.most_recent = value,
+            "clock" => state.clock = value,
+            "shift" => state.shift = value,
+            _ => panic!("an unknown field of the 68030 cache: {name}"),
+        }
+    }
+    assert_eq!(next, ENTRIES, "entries of the 68030 cache");
+}
+
+fn read_040(state: &mut State, text: &str) {
+    let mut next = 0;
+    for (name, value) in fields(text) {
+        let slot = &mut state.slots[next.min(SLOTS - 1)];
+        match name {
+            "valid" => slot.valid = value != 0,
+            "tag" => slot.tag = value as u32,
+            "phys_page" => slot.base = value as u32,
+            "write_protected" => slot.wp = value != 0,
+            "supervisor_only" => {
+                slot.sup = value != 0;
+                next += 1;
+            }
+            _ => panic!("an unknown field of the 68040 cache: {name}"),
+        }
+    }
+    assert_eq!(next, SLOTS, "slots of the 68040 cache");
+}
+
+/// The fields `name: value` of a `Debug` text whose values are numbers or flags.
+/// (A field that holds a list gives nothing: so the hints are left out.)
+fn fields(text: &str) -> impl Iterator<Item = (&str, u64)> {
+    let mut name = "";
+    text.split(' ').filter_map(move |word| {
+        if let Some(new_name) = word.strip_suffix(':') {
+            name = new_name;
+            return None;
+        }
+        let named = std::mem::take(&mut name);
+        let value = match word.trim_end_matches([',', '}', ']']) {
+            "true" => 1,
+            "false" => 0,
+            number => number.parse().ok()?,
+        };
+        (!named.is_empty()).then_some((named, value))
+    })
 }

@@ -5,137 +5,9 @@
 
 use crate::memory::TableMemory;
 use crate::replay::{Access, Answer, Machine};
+use crate::slips::Slip;
 use crate::state::{ENTRIES, Entry, SLOTS, Slot, State};
 use crate::trace::Registers;
-
-/// Declares the slips with their names.
-macro_rules! slips {
-    ($($name:ident),* $(,)?) => {
-        /// A mistake that a port could make, one at a time.
-        #[derive(Clone, Copy, Debug, PartialEq, Eq)]
-        pub enum Slip { $($name),* }
-
-        impl Slip {
-            pub const ALL: &[Slip] = &[$(Slip::$name),*];
-        }
-    };
-}
-
-slips! {
-    // Document 01's easy slips, and what it shuts out.
-    CachesBeforeTheSTest,
-    NoInsertOnAProtectedWrite,
-    SBeforeW,
-    TargetCountsAsALevel,
-    FlushAllDoesNothing,
-    FlushAllSparesThe040,
-    FlushCodeDoesNothing,
-    FlushPageDoesNothing,
-    FlushFrameDoesNothing,
-    FlushPageActsOnce,
-    LoadDoesNothing,
-    NeverStoresOnThe030,
-    NeverStoresOnThe040,
-    FailingFetchIsNotCounted,
-    // Transparent registers.
-    NoAddressMask,
-    CodeMaskInverted,
-    CodeFieldsOfTheManual,
-    TransparentUsesTheAccess,
-    TransparentIgnoresTheOverride,
-    OverrideKeepsInstruction,
-    SField3IsSupervisor,
-    SField2MatchesNothing,
-    ItrForData,
-    Family60Matches,
-    // The 68030 walk.
-    SrpWithoutSre,
-    SreForUser,
-    RootType1IsShort,
-    RootMaskOfThe040,
-    CodeLevelConsumes,
-    RawOverrideInTheWalk,
-    WidthsGoOnAfterZero,
-    IndexOverflows,
-    InvalidAddsWp,
-    PageAddsNoWp,
-    TableAddsNoWp,
-    SInShortDescriptors,
-    NoSInTables,
-    FormatOfTheRootStays,
-    IndirectAddsItsWp,
-    BadTargetAddsNoWp,
-    TargetOfAnyType,
-    TargetKeepsItsFormat,
-    TargetMaskFff0,
-    FieldMaskOf4K,
-    FieldOrOffset,
-    OffsetAtConsumed32,
-    FaultNamesTheDescriptor,
-    BadTargetIsAPageFault,
-    LongInvalidIsOneFetch,
-    ConfigurationIsAnAccessFault,
-    // PLOAD, PTEST and the probe.
-    LoadWithTheWalksCode,
-    LoadDropsNothingWithoutAShift,
-    LoadIgnoresTransparent,
-    LoadCachesSForUser,
-    LoadWhenOff,
-    TestNeedsThePmmu,
-    TestLevel0Walks,
-    TestSForSupervisor,
-    TestNamesTheIndirectOne,
-    TestMasksTheRoot,
-    TestBusErrorDropsW,
-    TestFailingFetchIsALevel,
-    TestCaches,
-    ProbeRecords,
-    ProbeWhenOffIsTheAddress,
-    ProbeIgnoresTransparent,
-    ProbeIgnoresWp,
-    // The 68040 walk.
-    CrpForSupervisor,
-    PageTableMaskStays,
-    PageIndexStays,
-    Target2IsInvalid,
-    IndirectTwice,
-    IndirectOneAddsW,
-    WOfThePageAlone,
-    SOfTables,
-    CachesForbidden,
-    PointersSwapped,
-    // The caches.
-    KeyWithoutSupervisor,
-    KeyWithoutCode,
-    ForbiddenHitPasses,
-    ForbiddenHitDrops,
-    FlushFrameOnePrivilege,
-    FlushFrameWholeSlot,
-    HitAddsOnThe040,
-    HitOrsOnThe030,
-    BaseLosesLowBits,
-    ShiftIgnored,
-    NewShiftKeepsEntries,
-    NewShiftClearsNumbers,
-    LookupSetsTheShift,
-    RecordsNoUse,
-    RecordsAlways,
-    RecordsOnTheMostRecent,
-    ProtectedHitRecordsNothing,
-    InsertKeepsTheStamp,
-    InsertTwice,
-    VictimIsTheLargestStamp,
-    VictimBeforeInvalid,
-    InsertIsNotMostRecent,
-    FlushByMaskInverted,
-    FlushPageIgnoresCode,
-    LoadDropsAtTcsShift,
-    FlushClearsNumbers,
-    TcsPageSizeField,
-    OnlyTheFirstByteOfALong,
-    OnlyTheLastByteOfALong,
-    RangesAreHalfOpen,
-}
 
 pub struct Paper {
     state: State,
@@ -163,10 +35,6 @@ const TABLE_WALK_BUS_ERROR: u8 = 6;
 
 fn violation(cause: u8, address: u32) -> Answer {
     Answer::Fault { kind: ACCESS_LEVEL, cause, address }
-}
-
-fn bus_error(address: u32) -> Answer {
-    Answer::Fault { kind: BUS_ERROR, cause: TABLE_WALK_BUS_ERROR, address }
 }
 
 /// User data 1, program 2, supervisor data 5, program 6.
@@ -215,8 +83,16 @@ impl Paper {
         self.slip == Some(slip)
     }
 
-    fn on(registers: &Registers) -> bool {
-        registers.has_pmmu && registers.enabled
+    fn on(&self, registers: &Registers) -> bool {
+        (registers.has_pmmu || self.is(Slip::OnWithoutPresent))
+            && (registers.enabled || self.is(Slip::OnWithoutEnabled))
+    }
+
+    /// A long at `at` could not be read in a walk for `address`.
+    fn bus_error(&self, at: u32, address: u32) -> Answer {
+        let kind = if self.is(Slip::BusErrorIsAnAccessFault) { ACCESS_LEVEL } else { BUS_ERROR };
+        let address = if self.is(Slip::BusErrorNamesTheAccess) { address } else { at };
+        Answer::Fault { kind, cause: TABLE_WALK_BUS_ERROR, address }
     }
 
     // Memory.
@@ -226,10 +102,19 @@ impl Paper {
         if fetched.is_none() && self.is(Slip::FailingFetchIsNotCounted) {
             memory.asked.pop();
         }
-        if fetched.is_none() && (address / 4) < memory.longs.len() as u32 {
+        let inside = (address / 4) < memory.longs.len() as u32;
+        if fetched.is_none() && !inside && self.is(Slip::OutsideReadsZero) {
+            return Some(0);
+        }
+        if fetched.is_none() && inside {
             let covered = |byte: u32| memory.ranges.iter().any(|&(first, last)| (first..=last).contains(&byte));
             let open = |byte: u32| memory.ranges.iter().any(|&(first, last)| (first..last).contains(&byte));
+            let but_the_last = |byte: u32| {
+                let ranges = &memory.ranges[..memory.ranges.len().min(15)];
+                ranges.iter().any(|&(first, last)| (first..=last).contains(&byte))
+            };
             let passes = self.is(Slip::OnlyTheFirstByteOfALong) && !covered(address)
+                || self.is(Slip::LastRangeIsNotLookedAt) && !(address..address + 4).any(but_the_last)
                 || self.is(Slip::OnlyTheLastByteOfALong) && !covered(address + 3)
                 || self.is(Slip::RangesAreHalfOpen) && !(address..address + 4).any(open);
             if passes {
@@ -257,7 +142,14 @@ impl Paper {
     }
 
     fn either_tt(&self, registers: &Registers, address: u32, code: u8) -> bool {
-        self.tt_matches(registers.tt0, address, code) || self.tt_matches(registers.tt1, address, code)
+        let [tt0, tt1] = [registers.tt0, registers.tt1].map(|register| self.tt_matches(register, address, code));
+        match self.slip {
+            Some(Slip::OnlyTt0) => tt0,
+            Some(Slip::OnlyTt1) => tt1,
+            Some(Slip::BothTtsMustMatch) => tt0 && tt1,
+            Some(Slip::Tt1OnlyWithoutTt0) if registers.tt0 & 0x8000 != 0 => tt0,
+            _ => tt0 || tt1,
+        }
     }
 
     fn ttr_matches(&self, register: u32, address: u32, supervisor: bool) -> bool {
@@ -280,7 +172,15 @@ impl Paper {
         };
         match family {
             30 => self.either_tt(registers, address, code),
-            40 => pair.iter().any(|&register| self.ttr_matches(register, address, code & 4 != 0)),
+            40 => {
+                let [first, second] = pair.map(|register| self.ttr_matches(register, address, code & 4 != 0));
+                match self.slip {
+                    Some(Slip::OnlyTheFirstOfThePair) => first,
+                    Some(Slip::OnlyTheSecondOfThePair) => second,
+                    Some(Slip::BothOfThePairMustMatch) => first && second,
+                    _ => first || second,
+                }
+            }
             _ => false,
         }
     }
@@ -300,8 +200,14 @@ impl Paper {
         if self.is(Slip::TcsPageSizeField) {
             return Some(tc >> 20 & 15).filter(|&shift| shift != 0);
         }
-        let sum = (tc >> 16 & 15) + self.widths(tc).iter().sum::<u32>();
-        (1..=31).contains(&sum).then(|| 32 - sum)
+        let is = if self.is(Slip::IsIgnoredByTheShift) { 0 } else { tc >> 16 & 15 };
+        let sum = is + self.widths(tc).iter().sum::<u32>();
+        let most = match self.slip {
+            Some(Slip::Sum32HasAShift) => 32,
+            Some(Slip::Sum31HasNoShift) => 30,
+            _ => 31,
+        };
+        (1..=most).contains(&sum).then(|| 32 - sum)
     }
 
     /// The descriptor at an address, or the address of the long that failed.
@@ -341,7 +247,7 @@ impl Paper {
             kind => kind == 3,
         };
         let mut table = root & if self.is(Slip::RootMaskOfThe040) { !511 } else { !15 };
-        let mut consumed = registers.tc >> 16 & 15;
+        let mut consumed = if self.is(Slip::IsIgnoredByTheWalk) { 0 } else { registers.tc >> 16 & 15 };
         let mut levels: Vec<Option<u32>> = self.widths(registers.tc).into_iter().map(Some).collect();
         if registers.tc >> 24 & 1 == 1 {
             levels.insert(0, None);
@@ -410,6 +316,7 @@ impl Paper {
     /// The target of an indirect descriptor.
     fn target(&self, walk: &mut Walk, indirect: &Descriptor, long: bool, consumed: u32, memory: &mut TableMemory) {
         let at = indirect.field & if self.is(Slip::TargetMaskFff0) { !15 } else { !3 };
+        let indirect_one = walk.asked;
         if !self.is(Slip::TestNamesTheIndirectOne) {
             walk.asked = at;
         }
@@ -419,7 +326,11 @@ impl Paper {
         let read = match self.descriptor(memory, at, long) {
             Ok(read) => read,
             Err(at) => {
-                walk.end = End::BusError { at };
+                walk.end = match self.slip {
+                    Some(Slip::TargetBusErrorIsABadTarget) => End::BadTarget,
+                    Some(Slip::TargetBusErrorNamesTheIndirectOne) => End::BusError { at: indirect_one },
+                    _ => End::BusError { at },
+                };
                 return;
             }
         };
@@ -485,8 +396,11 @@ impl Paper {
             End::Invalid => violation(PAGE_FAULT, address),
             End::BadTarget if self.is(Slip::BadTargetIsAPageFault) => violation(PAGE_FAULT, address),
             End::BadTarget => violation(INDIRECT, address),
-            End::BusError { at } => bus_error(at),
+            End::BusError { at } => self.bus_error(at, address),
             _ if self.is(Slip::ConfigurationIsAnAccessFault) => violation(PAGE_FAULT, address),
+            _ if self.is(Slip::ConfigurationNamesTheRoot) => {
+                Answer::Fault { kind: CONFIGURATION, cause: PAGE_FAULT, address: walk.asked }
+            }
             _ => Answer::Fault { kind: CONFIGURATION, cause: PAGE_FAULT, address },
         }
     }
@@ -516,32 +430,46 @@ impl Paper {
     ) -> Result<Answer, Answer> {
         let address = access.address;
         let shift = page_bits(registers);
-        let ask = |paper: &Self, memory: &mut TableMemory, at: u32| paper.fetch(memory, at).ok_or(bus_error(at));
-        let of_supervisor = supervisor && !self.is(Slip::CrpForSupervisor);
+        let ask = |paper: &Self, memory: &mut TableMemory, at: u32| {
+            paper.fetch(memory, at).ok_or_else(|| paper.bus_error(at, address))
+        };
+        let of_supervisor =
+            supervisor && !self.is(Slip::CrpForSupervisor) || !supervisor && self.is(Slip::SrpForUserOnThe040);
+        let is_table = |entry: u32, type_1: Slip, no_type_3: Slip| {
+            entry & 3 == 2 || entry & 3 == 3 && !self.is(no_type_3) || entry & 3 == 1 && self.is(type_1)
+        };
         let root = if of_supervisor { registers.srp_address } else { registers.crp_address };
         let (pointer_a, pointer_b) =
             if self.is(Slip::PointersSwapped) { (POINTER_B, POINTER_A) } else { (POINTER_A, POINTER_B) };
 
         let first = ask(self, memory, (root & !0x1FF) + (address >> 25) * 4)?;
-        if first & 3 < 2 {
+        if !is_table(first, Slip::RootEntryOfType1, Slip::RootEntryOfType3IsInvalid) {
             return Err(violation(pointer_a, address));
         }
         let second = ask(self, memory, (first & !0x1FF) + (address >> 18 & 127) * 4)?;
-        if second & 3 < 2 {
+        if !is_table(second, Slip::PointerOfType1, Slip::PointerOfType3IsInvalid) {
             return Err(violation(pointer_b, address));
         }
         let mask = if shift == 13 && !self.is(Slip::PageTableMaskStays) { !0x7F } else { !0xFF };
         let index = if shift == 13 && !self.is(Slip::PageIndexStays) { address >> 13 & 31 } else { address >> 12 & 63 };
-        let found = ask(self, memory, (second & mask) + index * 4)?;
+        let at = (second & mask) + index * 4;
+        let found = ask(self, memory, at)?;
         let mut page = found;
         let indirect = page & 3 == 2;
         if indirect {
-            page = ask(self, memory, page & !3)?;
+            page = ask(self, memory, page & !3).map_err(|fault| match self.slip {
+                Some(Slip::Target040BusErrorIsABadTarget) => violation(INDIRECT, address),
+                Some(Slip::Target040BusErrorNamesTheIndirectOne) => self.bus_error(at, address),
+                _ => fault,
+            })?;
             if page & 3 == 2 && self.is(Slip::IndirectTwice) {
                 page = ask(self, memory, page & !3)?;
             }
         }
-        if page & 3 == 0 || indirect && page & 3 == 2 && self.is(Slip::Target2IsInvalid) {
+        if page & 3 == 0
+            || page & 3 == 3 && self.is(Slip::PageOfType3IsInvalid)
+            || indirect && page & 3 == 2 && self.is(Slip::Target2IsInvalid)
+        {
             return Err(violation(if indirect { INDIRECT } else { PAGE_FAULT }, address));
         }
 
@@ -627,14 +555,25 @@ impl Paper {
             && !(protected && self.is(Slip::ProtectedHitRecordsNothing));
         if record && stamps {
             self.stamp(place);
+            if self.is(Slip::HitIsNotMostRecent) {
+                self.state.most_recent = recent as u64;
+            }
+        }
+        if !record && self.is(Slip::UnrecordedHitIsMostRecent) {
+            self.state.most_recent = place as u64;
+        }
+        if protected && self.is(Slip::ProtectedHitDrops) {
+            self.state.entries[place].valid = false;
         }
         (!protected).then_some(entry.base)
     }
 
     /// Raises the clock, stamps the entry with it and makes it most recent.
     fn stamp(&mut self, place: usize) {
+        let before = self.state.clock;
         self.state.clock += 1;
-        self.state.entries[place].stamp = self.state.clock;
+        let stamp = if self.is(Slip::StampsBeforeTheClock) { before } else { self.state.clock };
+        self.state.entries[place].stamp = stamp;
         self.state.most_recent = place as u64;
     }
 
@@ -650,8 +589,11 @@ impl Paper {
         }
         let place = self.place_030(code, page);
         let old = self.state.entries[place];
-        self.state.entries[place] = Entry { valid: true, code, page, base, wp, stamp: old.stamp };
-        if self.is(Slip::InsertKeepsTheStamp) && old.valid && old.code == code && old.page == page {
+        let same_key = old.valid && old.code == code && old.page == page;
+        if !(same_key && self.is(Slip::InsertKeepsTheOldNumbers)) {
+            self.state.entries[place] = Entry { valid: true, code, page, base, wp, stamp: old.stamp };
+        }
+        if same_key && self.is(Slip::InsertKeepsTheStamp) {
             self.state.most_recent = place as u64;
             return;
         }
@@ -666,14 +608,19 @@ impl Paper {
     fn place_030(&self, code: u8, page: u32) -> usize {
         let entries = &self.state.entries;
         let same = entries.iter().position(|entry| self.has_key(entry, code, page));
-        let invalid = entries.iter().position(|entry| !entry.valid);
+        let invalid = if self.is(Slip::LastFreePlace) {
+            entries.iter().rposition(|entry| !entry.valid)
+        } else {
+            entries.iter().position(|entry| !entry.valid)
+        };
         let smallest = entries.iter().map(|entry| entry.stamp).min();
         let largest = entries.iter().map(|entry| entry.stamp).max();
         let wanted = if self.is(Slip::VictimIsTheLargestStamp) { largest } else { smallest };
         let oldest = entries.iter().position(|entry| Some(entry.stamp) == wanted);
         let same = same.filter(|_| !self.is(Slip::InsertTwice));
         let invalid = invalid.filter(|_| !self.is(Slip::VictimBeforeInvalid));
-        same.or(invalid).or(oldest).expect("some stamp is smallest")
+        let first = if self.is(Slip::FreePlaceBeforeTheSameKey) { invalid.or(same) } else { same.or(invalid) };
+        first.or(oldest).expect("some stamp is smallest")
     }
 
     fn hit_030(&self, base: u32, address: u32, shift: u32) -> u32 {
@@ -688,9 +635,13 @@ impl Paper {
     /// Only marks the doomed entries invalid.
     fn drop_030(&mut self, doomed: [bool; ENTRIES]) {
         let clears = self.is(Slip::FlushClearsNumbers);
+        let clears_stamps = self.is(Slip::FlushClearsStamps);
         for (entry, doomed) in self.state.entries.iter_mut().zip(doomed) {
             if doomed && clears {
                 *entry = Entry::default();
+            }
+            if doomed && clears_stamps {
+                entry.stamp = 0;
             }
             entry.valid &= !doomed;
         }
@@ -721,15 +672,23 @@ fn page_bits(registers: &Registers) -> u32 {
 impl Machine for Paper {
     fn translate(&mut self, registers: &Registers, access: &Access, memory: &mut TableMemory) -> Answer {
         let address = access.address;
-        if !Self::on(registers) {
+        if !self.on(registers) {
             return Answer::Address(address);
         }
-        let (supervisor, mut instruction) = match access.override_code {
+        let (mut supervisor, mut instruction) = match access.override_code {
             Some(code) => (code & 4 != 0, code & 3 == 2),
             None => (access.supervisor, access.instruction),
         };
         if self.is(Slip::OverrideKeepsInstruction) {
             instruction = access.instruction;
+        }
+        if self.is(Slip::OverrideKeepsSupervisor) {
+            supervisor = access.supervisor;
+        }
+        if let Some(code) = access.override_code
+            && self.is(Slip::Override3IsProgram)
+        {
+            instruction = code & 2 != 0;
         }
         let own = if self.is(Slip::TransparentUsesTheAccess) { supervisor } else { access.cpu_supervisor };
         let override_code = access.override_code.filter(|_| !self.is(Slip::TransparentIgnoresTheOverride));
@@ -747,8 +706,11 @@ impl Machine for Paper {
         self.translate_030(registers, access, code, memory)
     }
 
-    fn load(&mut self, registers: &Registers, code: u8, _write: bool, address: u32, memory: &mut TableMemory) {
-        if !Self::on(registers) && !self.is(Slip::LoadWhenOff) || self.is(Slip::LoadDoesNothing) {
+    fn load(&mut self, registers: &Registers, code: u8, write: bool, address: u32, memory: &mut TableMemory) {
+        if !self.on(registers) && self.is(Slip::LoadDropsWhenOff) {
+            self.drop_page(code, 7, address, self.state.shift);
+        }
+        if !self.on(registers) && !self.is(Slip::LoadWhenOff) || self.is(Slip::LoadDoesNothing) {
             return;
         }
         let code = if self.is(Slip::LoadWithTheWalksCode) { code_of(code & 4 != 0, code & 3 == 2) } else { code };
@@ -764,10 +726,12 @@ impl Machine for Paper {
         }
         let walk = self.walk_030(registers, address, code, u32::MAX, memory);
         if let End::Page { field, consumed } = walk.end {
-            let forbidden = walk.sup && code & 4 == 0 && !self.is(Slip::LoadCachesSForUser);
+            let forbidden = walk.sup && code & 4 == 0 && !self.is(Slip::LoadCachesSForUser)
+                || write && walk.wp && self.is(Slip::LoadForAWriteSkipsWp);
             if !forbidden {
                 let physical = self.physical_030(field, consumed, address);
-                self.keep_030(registers, code, address, physical, walk.wp);
+                let wp = walk.wp && !self.is(Slip::LoadForgetsWp);
+                self.keep_030(registers, code, address, physical, wp);
             }
         }
     }
@@ -776,18 +740,20 @@ impl Machine for Paper {
         &mut self,
         registers: &Registers,
         code: u8,
-        _write: bool,
+        write: bool,
         level: u8,
         address: u32,
         memory: &mut TableMemory,
     ) -> (u16, u32) {
-        if self.is(Slip::TestNeedsThePmmu) && !Self::on(registers) {
+        if self.is(Slip::TestNeedsThePmmu) && !self.on(registers) {
             return (0, 0);
         }
         if level == 0 && !self.is(Slip::TestLevel0Walks) {
-            return (if self.either_tt(registers, address, code) { 0x40 } else { 0 }, 0);
+            let otherwise = if self.is(Slip::TestLevel0WithoutATtIsInvalid) { 0x0400 } else { 0 };
+            return (if self.either_tt(registers, address, code) { 0x40 } else { otherwise }, 0);
         }
-        let walk = self.walk_030(registers, address, code, level.into(), memory);
+        let most = u32::from(level) + u32::from(self.is(Slip::TestGoesOneLevelOn));
+        let walk = self.walk_030(registers, address, code, most, memory);
         let user = code & 4 == 0 || self.is(Slip::TestSForSupervisor);
         let mut mmusr = walk.levels as u16;
         match walk.end {
@@ -799,7 +765,8 @@ impl Machine for Paper {
             End::Invalid | End::BadTarget => mmusr |= 0x0400,
             End::BusError { .. } | End::Configuration => mmusr |= 0x8000,
         }
-        let dropped = mmusr & 0x8000 != 0 && self.is(Slip::TestBusErrorDropsW);
+        let dropped =
+            mmusr & 0x8000 != 0 && self.is(Slip::TestBusErrorDropsW) || !write && self.is(Slip::TestWOnlyForAWrite);
         if walk.wp && !dropped {
             mmusr |= 0x0800;
         }
@@ -817,7 +784,7 @@ impl Machine for Paper {
         write: bool,
         address: u32,
     ) -> Option<u32> {
-        if !Self::on(registers) {
+        if !self.on(registers) && !self.is(Slip::ProbeLooksUpWhenOff) {
             return Some(address).filter(|_| self.is(Slip::ProbeWhenOffIsTheAddress));
         }
         let code = code_of(cpu_supervisor, instruction);
@@ -842,6 +809,13 @@ impl Machine for Paper {
         self.empty_030();
         if !self.is(Slip::FlushAllSparesThe040) {
             self.state.slots.iter_mut().for_each(|slot| slot.valid = false);
+        }
+        match self.slip {
+            Some(Slip::FlushAllForgetsTheMostRecent) => self.state.most_recent = 0,
+            Some(Slip::FlushAllForgetsTheClock) => self.state.clock = 0,
+            Some(Slip::FlushAllForgetsTheShift) => self.state.shift = 0,
+            Some(Slip::FlushAllClearsSlots) => self.state.slots = [Slot::default(); SLOTS],
+            _ => {}
         }
     }
 
@@ -869,9 +843,16 @@ impl Machine for Paper {
             _ => slot.tag / 2 == frame,
         };
         slot.valid &= !named;
+        if named && self.slip == Some(Slip::FlushFrameClearsTheSlot) {
+            *slot = Slot::default();
+        }
     }
 
     fn state(&self) -> State {
         self.state.clone()
+    }
+
+    fn slip(&self) -> Option<Slip> {
+        self.slip
     }
 }

@@ -1,11 +1,12 @@
 //! The bed's own tests: lines written by hand, and the second reading of document
 //! 01 with and without slips.
 
-use crate::examples::{Example, FILES, differences, refusals, twelve, with_states};
+use crate::examples::{Example, FILES, corners, differences, refusals, twelve, with_states};
 use crate::generate;
 use crate::original::Original;
-use crate::paper::{Paper, Slip};
+use crate::paper::Paper;
 use crate::replay::{Machine, replay};
+use crate::slips::Slip;
 use crate::trace::encode;
 
 /// Traces that the second reading is tried on, if nothing else is said.
@@ -77,16 +78,20 @@ fn second_reading_agrees(traces: u64) -> bool {
     wrong.is_empty()
 }
 
-/// Whether each slip shows on some trace.
+/// Whether each slip shows: those of the calls on some generated trace, and those of the
+/// replay and of the file on some corner or generated trace.
 fn slips_show() -> bool {
-    let traces: Vec<Traced> = (0..TRACES).map(Traced::new).collect();
-    let shows = |slip: Slip| traces.iter().any(|trace| trace.shows(slip, true));
-    let missed: Vec<Slip> = Slip::ALL.iter().copied().filter(|&slip| !shows(slip)).collect();
-    println!("selftest: {} slips tried, {} not seen {missed:?}", Slip::ALL.len(), missed.len());
+    let generated: Vec<Traced> = (0..TRACES).map(generate::trace).map(Traced::new).collect();
+    let corners: Vec<Traced> = corners().into_iter().map(|(_, bytes)| Traced::new(bytes)).collect();
+    let shows = |traces: &[Traced], slip: Slip| traces.iter().any(|trace| trace.shows(slip, true));
+    let seen = |slip: Slip| !Slip::OF_CALLS.contains(&slip) && shows(&corners, slip) || shows(&generated, slip);
+    let slips = Slip::all();
+    let missed: Vec<Slip> = slips.iter().copied().filter(|&slip| !seen(slip)).collect();
+    println!("selftest: {} slips tried, {} not seen {missed:?}", slips.len(), missed.len());
     missed.is_empty()
 }
 
-/// A generated trace with the second reading's lines, without and with states.
+/// A trace with the second reading's lines, without and with states.
 struct Traced {
     bytes: Vec<u8>,
     lines: Vec<String>,
@@ -94,8 +99,7 @@ struct Traced {
 }
 
 impl Traced {
-    fn new(seed: u64) -> Self {
-        let bytes = generate::trace(seed);
+    fn new(bytes: Vec<u8>) -> Self {
         let [lines, lines_and_states] = [false, true].map(|states| lines_of(&mut Paper::default(), &bytes, states));
         Traced { bytes, lines, lines_and_states }
     }
@@ -108,9 +112,9 @@ impl Traced {
 
 /// For each slip how many of so many traces show it, by lines alone and by states.
 pub fn slips(count: u64) {
-    let traces: Vec<Traced> = (0..count).map(Traced::new).collect();
+    let traces: Vec<Traced> = (0..count).map(generate::trace).map(Traced::new).collect();
     println!("{:>7} {:>7} of {count} traces", "lines", "states");
-    for &slip in Slip::ALL {
+    for slip in Slip::all() {
         let [lines, states] =
             [false, true].map(|states| traces.iter().filter(|trace| trace.shows(slip, states)).count());
         println!("{lines:7} {states:7} {slip:?}");

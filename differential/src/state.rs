@@ -1,6 +1,5 @@
 //! Both caches as plain numbers, and the state line.
 
-use crate::mmu::{Atc, Atc030};
 use std::fmt::Write;
 
 pub const ENTRIES: usize = 22;
@@ -47,57 +46,6 @@ impl State {
         }
     }
 
-    /// The original's caches. Their fields are private, so they are read from
-    /// their `Debug` text.
-    pub fn of_original(atc: &Atc, atc_030: &Atc030) -> Self {
-        let mut state = State::empty();
-        state.read_030(&format!("{atc_030:?}"));
-        state.read_040(&format!("{atc:?}"));
-        state
-    }
-
-    fn read_030(&mut self, text: &str) {
-        let mut next = 0;
-        for (name, value) in fields(text) {
-            let entry = &mut self.entries[next.min(ENTRIES - 1)];
-            match name {
-                "valid" => entry.valid = value != 0,
-                "fc" => entry.code = value as u8,
-                "page" => entry.page = value as u32,
-                "phys_page" => entry.base = value as u32,
-                "write_protected" => entry.wp = value != 0,
-                "stamp" => {
-                    entry.stamp = value;
-                    next += 1;
-                }
-                "mru" => self.most_recent = value,
-                "clock" => self.clock = value,
-                "shift" => self.shift = value,
-                _ => panic!("an unknown field of the 68030 cache: {name}"),
-            }
-        }
-        assert_eq!(next, ENTRIES, "entries of the 68030 cache");
-    }
-
-    fn read_040(&mut self, text: &str) {
-        let mut next = 0;
-        for (name, value) in fields(text) {
-            let slot = &mut self.slots[next.min(SLOTS - 1)];
-            match name {
-                "valid" => slot.valid = value != 0,
-                "tag" => slot.tag = value as u32,
-                "phys_page" => slot.base = value as u32,
-                "write_protected" => slot.wp = value != 0,
-                "supervisor_only" => {
-                    slot.sup = value != 0;
-                    next += 1;
-                }
-                _ => panic!("an unknown field of the 68040 cache: {name}"),
-            }
-        }
-        assert_eq!(next, SLOTS, "slots of the 68040 cache");
-    }
-
     /// `S m=MRU c=CLOCK s=SHIFT eI=V,FC,PAGE,PHYS,WP,STAMP ... dI=V,TAG,PHYS,WP,SUP ...`,
     /// without the entries and slots whose numbers are all 0.
     pub fn line(&self) -> String {
@@ -138,23 +86,4 @@ impl State {
 fn folded(numbers: impl Iterator<Item = u64>) -> u64 {
     const LIMIT: u64 = 1 << 32;
     numbers.fold(2_166_136_261, |sum, number| (sum + number % LIMIT) * 16_777_619 % LIMIT)
-}
-
-/// The fields `name: value` of a `Debug` text whose values are numbers or flags.
-/// (A field that holds a list gives nothing: so the hints are left out.)
-fn fields(text: &str) -> impl Iterator<Item = (&str, u64)> {
-    let mut name = "";
-    text.split(' ').filter_map(move |word| {
-        if let Some(new_name) = word.strip_suffix(':') {
-            name = new_name;
-            return None;
-        }
-        let named = std::mem::take(&mut name);
-        let value = match word.trim_end_matches([',', '}', ']']) {
-            "true" => 1,
-            "false" => 0,
-            number => number.parse().ok()?,
-        };
-        (!named.is_empty()).then_some((named, value))
-    })
 }

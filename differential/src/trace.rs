@@ -162,47 +162,50 @@ impl Record {
     pub fn decode(body: &[u8]) -> Option<Record> {
         let (&kind, rest) = body.split_first()?;
         let long = |at: usize| u32::from_be_bytes([rest[at], rest[at + 1], rest[at + 2], rest[at + 3]]);
-        let fields = match kind {
-            0x01 => 46,
-            0x02 | 0x03 | 0x07 => 6,
-            0x04 => 7,
-            0x05 => 0,
-            0x06 => 2,
-            0x08 => 4,
-            0x09 | 0x0A => 8,
-            0x0B => 5,
-            _ => return None,
-        };
-        if rest.len() != fields {
+        if body.len() != length_of(kind)? || wrong_flags(body) != 0 {
             return None;
         }
         let record = match kind {
             0x01 => {
-                only(rest[1], 0b11)?;
                 Record::Registers(Registers::from_longs(rest[0], rest[1], std::array::from_fn(|n| long(2 + 4 * n))))
             }
-            0x02 => Record::Access {
-                flags: only(rest[0], WRITE | SUPERVISOR | INSTRUCTION | CPU_STATE | RECORD)?,
-                override_code: rest[1],
-                address: long(2),
-            },
-            0x03 => Record::Load { code: rest[0], write: only(rest[1], 1)?, address: long(2) },
-            0x04 => Record::Test { code: rest[0], write: only(rest[1], 1)?, level: rest[2], address: long(3) },
+            0x02 => Record::Access { flags: rest[0], override_code: rest[1], address: long(2) },
+            0x03 => Record::Load { code: rest[0], write: rest[1], address: long(2) },
+            0x04 => Record::Test { code: rest[0], write: rest[1], level: rest[2], address: long(3) },
             0x05 => Record::FlushAll,
             0x06 => Record::FlushCode { code: rest[0], mask: rest[1] },
             0x07 => Record::FlushPage { code: rest[0], mask: rest[1], address: long(2) },
             0x08 => Record::FlushFrame { frame: long(0) },
             0x09 => Record::Store { address: long(0), value: long(4) },
             0x0A => Record::Range { first: long(0), last: long(4) },
-            _ => Record::Probe { flags: only(rest[0], WRITE | INSTRUCTION | CPU_STATE)?, address: long(1) },
+            _ => Record::Probe { flags: rest[0], address: long(1) },
         };
         Some(record)
     }
 }
 
-/// The byte, if it has no other bits than those allowed.
-fn only(byte: u8, allowed: u8) -> Option<u8> {
-    (byte & !allowed == 0).then_some(byte)
+/// The kinds, each with its body's length.
+pub const KINDS: &[(u8, usize)] =
+    &[(1, 47), (2, 7), (3, 7), (4, 8), (5, 1), (6, 3), (7, 7), (8, 5), (9, 9), (0x0A, 9), (0x0B, 6)];
+
+pub fn length_of(kind: u8) -> Option<usize> {
+    KINDS.iter().find(|&&(known, _)| known == kind).map(|&(_, length)| length)
+}
+
+/// Where in its body a kind's flags stand, and the bits that they may have.
+pub fn flags_of(kind: u8) -> Option<(usize, u8)> {
+    match kind {
+        0x01 => Some((2, 0b11)),
+        0x02 => Some((1, WRITE | SUPERVISOR | INSTRUCTION | CPU_STATE | RECORD)),
+        0x03 | 0x04 => Some((2, 1)),
+        0x0B => Some((1, WRITE | INSTRUCTION | CPU_STATE)),
+        _ => None,
+    }
+}
+
+/// The bits of the flags that must not be there, of a body that is long enough.
+pub fn wrong_flags(body: &[u8]) -> u8 {
+    flags_of(body[0]).map_or(0, |(place, allowed)| body[place] & !allowed)
 }
 
 /// A body behind its length.
