@@ -13,6 +13,8 @@ pub struct Paper {
     state: State,
     slip: Option<Slip>,
     flushes: u32,
+    /// Whether the access's hits record no use.
+    unrecorded: bool,
 }
 
 impl Default for Paper {
@@ -76,7 +78,7 @@ struct Descriptor {
 
 impl Paper {
     pub fn with(slip: Option<Slip>) -> Self {
-        Paper { state: State::empty(), slip, flushes: 0 }
+        Paper { state: State::empty(), slip, flushes: 0, unrecorded: false }
     }
 
     fn is(&self, slip: Slip) -> bool {
@@ -84,8 +86,10 @@ impl Paper {
     }
 
     fn on(&self, registers: &Registers) -> bool {
+        let bit = if registers.family == 30 { 31 } else { 15 };
         (registers.has_pmmu || self.is(Slip::OnWithoutPresent))
             && (registers.enabled || self.is(Slip::OnWithoutEnabled))
+            && (registers.tc >> bit & 1 == 1 || !self.is(Slip::EnableBitIsRead))
     }
 
     /// A long at `at` could not be read in a walk for `address`.
@@ -93,6 +97,16 @@ impl Paper {
         let kind = if self.is(Slip::BusErrorIsAnAccessFault) { ACCESS_LEVEL } else { BUS_ERROR };
         let address = if self.is(Slip::BusErrorNamesTheAccess) { address } else { at };
         Answer::Fault { kind, cause: TABLE_WALK_BUS_ERROR, address }
+    }
+
+    /// A fault at an access, as the slip names its address.
+    fn naming_the_page(&self, answer: Answer) -> Answer {
+        match answer {
+            Answer::Fault { kind: ACCESS_LEVEL, cause, address } if self.is(Slip::FaultNamesThePage) => {
+                violation(cause, address & !0xFFF)
+            }
+            other => other,
+        }
     }
 
     // Memory.
@@ -222,6 +236,9 @@ impl Paper {
             let second = at.wrapping_add(4);
             let named = if self.is(Slip::FaultNamesTheDescriptor) { at } else { second };
             read.field = self.fetch(memory, second).ok_or(named)?;
+            if self.is(Slip::LongIsOneFetch) {
+                memory.asked.pop();
+            }
         } else if self.is(Slip::SInShortDescriptors) {
             read.sup = first & 0x100 != 0;
         }
@@ -268,7 +285,8 @@ impl Paper {
                     index
                 }
             };
-            walk.asked = table.wrapping_add(index * if long { 8 } else { 4 });
+            let size = if long && !self.is(Slip::LongIndexTimes4) { 8 } else { 4 };
+            walk.asked = table.wrapping_add(index * size);
             let read = match self.descriptor(memory, walk.asked, long) {
                 Ok(read) => read,
                 Err(at) => {
@@ -277,7 +295,7 @@ impl Paper {
                     return walk;
                 }
             };
-            walk.levels += 1;
+            walk.levels += u32::from(level.is_some() || !self.is(Slip::CodeLevelIsNoLevel));
             match read.kind {
                 0 => {
                     walk.wp |= read.wp && self.is(Slip::InvalidAddsWp);
@@ -293,7 +311,7 @@ impl Paper {
                 _ if number + 1 < levels.len() => {
                     walk.wp |= read.wp && !self.is(Slip::TableAddsNoWp);
                     walk.sup |= read.sup && !self.is(Slip::NoSInTables);
-                    table = read.field & !15;
+                    table = read.field & if self.is(Slip::TableKeepsLowBits) { !3 } else { !15 };
                     long = if self.is(Slip::FormatOfTheRootStays) { long } else { read.kind == 3 };
                 }
                 _ => {
@@ -415,7 +433,7 @@ impl Paper {
         memory: &mut TableMemory,
     ) -> Answer {
         let shift = page_bits(registers);
-        if let Some(base) = self.look_up_040(access.address >> shift, supervisor, access.write) {
+        if let Some(base) = self.look_up_040(self.frame(access.address, shift), supervisor, access.write) {
             return Answer::Address(self.hit_040(base, access.address, shift));
         }
         self.search_040(registers, access, supervisor, memory).unwrap_or_else(|fault| fault)
@@ -442,11 +460,13 @@ impl Paper {
         let (pointer_a, pointer_b) =
             if self.is(Slip::PointersSwapped) { (POINTER_B, POINTER_A) } else { (POINTER_A, POINTER_B) };
 
-        let first = ask(self, memory, (root & !0x1FF) + (address >> 25) * 4)?;
+        let root_mask = if self.is(Slip::RootKeepsLowBitsOnThe040) { !3 } else { !0x1FF };
+        let pointer_mask = if self.is(Slip::PointerTableKeepsLowBits) { !3 } else { !0x1FF };
+        let first = ask(self, memory, (root & root_mask) + (address >> 25) * 4)?;
         if !is_table(first, Slip::RootEntryOfType1, Slip::RootEntryOfType3IsInvalid) {
             return Err(violation(pointer_a, address));
         }
-        let second = ask(self, memory, (first & !0x1FF) + (address >> 18 & 127) * 4)?;
+        let second = ask(self, memory, (first & pointer_mask) + (address >> 18 & 127) * 4)?;
         if !is_table(second, Slip::PointerOfType1, Slip::PointerOfType3IsInvalid) {
             return Err(violation(pointer_b, address));
         }
@@ -484,7 +504,7 @@ impl Paper {
         let base = page & !low(u32::MAX, shift);
         let (write_fault, supervisor_fault) = (access.write && w, !supervisor && s);
         if !(write_fault || supervisor_fault) || self.is(Slip::CachesForbidden) {
-            self.insert_040(address >> shift, supervisor, base, w, s);
+            self.insert_040(self.frame(address, shift), supervisor, base, w, s);
         }
         if supervisor_fault && self.is(Slip::SBeforeW) {
             return Err(violation(SUPERVISOR_PROTECT, address));
@@ -499,6 +519,10 @@ impl Paper {
     }
 
     // The 68040 cache.
+
+    fn frame(&self, address: u32, shift: u32) -> u32 {
+        address >> if self.is(Slip::FrameOf4K) { 12 } else { shift }
+    }
 
     fn slot_key(&self, frame: u32, supervisor: bool) -> u32 {
         frame * 2 + u32::from(supervisor && !self.is(Slip::KeyWithoutSupervisor))
@@ -598,6 +622,9 @@ impl Paper {
             return;
         }
         let recent = self.state.most_recent;
+        if self.unrecorded && self.is(Slip::UnrecordedInsertIsNotStamped) {
+            return;
+        }
         self.stamp(place);
         if self.is(Slip::InsertIsNotMostRecent) {
             self.state.most_recent = recent;
@@ -648,7 +675,11 @@ impl Paper {
     }
 
     fn agrees(&self, entry: &Entry, code: u8, mask: u8) -> bool {
-        let compared = if self.is(Slip::FlushByMaskInverted) { 7 - mask } else { mask };
+        let compared = match self.slip {
+            Some(Slip::FlushByMaskInverted) => 7 - mask,
+            Some(Slip::MaskIsIgnored) => 7,
+            _ => mask,
+        };
         (entry.code ^ code) & compared == 0
     }
 
@@ -693,17 +724,23 @@ impl Machine for Paper {
         let own = if self.is(Slip::TransparentUsesTheAccess) { supervisor } else { access.cpu_supervisor };
         let override_code = access.override_code.filter(|_| !self.is(Slip::TransparentIgnoresTheOverride));
         let compared = override_code.unwrap_or(code_of(own, instruction));
-        if self.transparent(registers, compared, instruction, address) {
+        self.unrecorded = !access.record;
+        let cached = self.is(Slip::CacheBeforeTransparent)
+            && self.probe(registers, supervisor, instruction, access.write, address).is_some();
+        if self.transparent(registers, compared, instruction, address) && !cached {
             return Answer::Address(address);
         }
         if registers.family != 30 {
-            return self.translate_040(registers, access, supervisor, memory);
+            let answer = self.translate_040(registers, access, supervisor, memory);
+            return self.naming_the_page(answer);
         }
         let mut code = code_of(supervisor, instruction);
         if self.is(Slip::RawOverrideInTheWalk) {
             code = access.override_code.unwrap_or(code);
         }
-        self.translate_030(registers, access, code, memory)
+        let answer = self.translate_030(registers, access, code, memory);
+        self.unrecorded = false;
+        self.naming_the_page(answer)
     }
 
     fn load(&mut self, registers: &Registers, code: u8, write: bool, address: u32, memory: &mut TableMemory) {
@@ -715,6 +752,7 @@ impl Machine for Paper {
         }
         let code = if self.is(Slip::LoadWithTheWalksCode) { code_of(code & 4 != 0, code & 3 == 2) } else { code };
         let shift = self.page_shift(registers.tc);
+        let kept = self.state.clone();
         if shift.is_some() || !self.is(Slip::LoadDropsNothingWithoutAShift) {
             let stored = self.state.shift;
             let at_tcs = shift.filter(|_| self.is(Slip::LoadDropsAtTcsShift)).map(u64::from);
@@ -733,6 +771,8 @@ impl Machine for Paper {
                 let wp = walk.wp && !self.is(Slip::LoadForgetsWp);
                 self.keep_030(registers, code, address, physical, wp);
             }
+        } else if self.is(Slip::LoadDropsOnlyForAPage) {
+            self.state = kept;
         }
     }
 
@@ -751,6 +791,9 @@ impl Machine for Paper {
         if level == 0 && !self.is(Slip::TestLevel0Walks) {
             let otherwise = if self.is(Slip::TestLevel0WithoutATtIsInvalid) { 0x0400 } else { 0 };
             return (if self.either_tt(registers, address, code) { 0x40 } else { otherwise }, 0);
+        }
+        if self.is(Slip::TestOfATransparentAddress) && self.either_tt(registers, address, code) {
+            return (0x40, 0);
         }
         let most = u32::from(level) + u32::from(self.is(Slip::TestGoesOneLevelOn));
         let walk = self.walk_030(registers, address, code, most, memory);
@@ -788,13 +831,14 @@ impl Machine for Paper {
             return Some(address).filter(|_| self.is(Slip::ProbeWhenOffIsTheAddress));
         }
         let code = code_of(cpu_supervisor, instruction);
-        if self.transparent(registers, code, instruction, address) && !self.is(Slip::ProbeIgnoresTransparent) {
+        let ignored = self.is(Slip::ProbeIgnoresTransparent) || self.is(Slip::CacheBeforeTransparent);
+        if self.transparent(registers, code, instruction, address) && !ignored {
             return Some(address);
         }
         let write = write && !self.is(Slip::ProbeIgnoresWp);
         if registers.family != 30 {
             let shift = page_bits(registers);
-            let base = self.look_up_040(address >> shift, cpu_supervisor, write)?;
+            let base = self.look_up_040(self.frame(address, shift), cpu_supervisor, write)?;
             return Some(self.hit_040(base, address, shift));
         }
         let shift = self.page_shift(registers.tc)?;

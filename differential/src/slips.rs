@@ -160,6 +160,7 @@ slips! {
         OnWithoutEnabled,
         LoadDropsWhenOff,
         ProbeLooksUpWhenOff,
+        EnableBitIsRead,
         // More of the transparent registers and the override.
         OnlyTt0,
         OnlyTt1,
@@ -170,6 +171,7 @@ slips! {
         BothOfThePairMustMatch,
         OverrideKeepsSupervisor,
         Override3IsProgram,
+        CacheBeforeTransparent,
         // More of the walks.
         IsIgnoredByTheShift,
         IsIgnoredByTheWalk,
@@ -189,6 +191,14 @@ slips! {
         PointerOfType3IsInvalid,
         PageOfType3IsInvalid,
         OutsideReadsZero,
+        LongIsOneFetch,
+        LongIndexTimes4,
+        TableKeepsLowBits,
+        CodeLevelIsNoLevel,
+        FaultNamesThePage,
+        RootKeepsLowBitsOnThe040,
+        PointerTableKeepsLowBits,
+        FrameOf4K,
         LastRangeIsNotLookedAt,
         // More of PLOAD and PTEST.
         LoadForgetsWp,
@@ -196,8 +206,12 @@ slips! {
         TestWOnlyForAWrite,
         TestLevel0WithoutATtIsInvalid,
         TestGoesOneLevelOn,
+        TestOfATransparentAddress,
+        LoadDropsOnlyForAPage,
         // More of the caches.
         StampsBeforeTheClock,
+        UnrecordedInsertIsNotStamped,
+        MaskIsIgnored,
         UnrecordedHitIsMostRecent,
         HitIsNotMostRecent,
         ProtectedHitDrops,
