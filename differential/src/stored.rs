@@ -36,7 +36,8 @@ impl Case {
 pub fn stored(folder: &Path) -> io::Result<bool> {
     let data = folder.join("data");
     let names = names(&data)?;
-    let cases = names.iter().map(|name| Case::read(&data, name)).collect::<io::Result<Vec<_>>>()?;
+    let read = |name: &String| Case::read(&data, name).map_err(|error| io::Error::other(format!("{name}: {error}")));
+    let cases = names.iter().map(read).collect::<io::Result<Vec<_>>>()?;
     let arguments = fs::read_to_string(folder.join("args"))?;
     let listed = arguments.lines().eq(names.iter().map(String::as_str));
     if !listed {
