@@ -57,7 +57,7 @@ drop-key k b =
     rw (a, d, e)
 
 -- ---- the slots
-slots-get : (ks bs : List ℕ) (i : ℕ) → length ks ≡ length bs → getD (slotsOf ks bs) i noSlot ≡ slotOf (getD ks i 0) (getD bs i 0)
+pub slots-get : (ks bs : List ℕ) (i : ℕ) → length ks ≡ length bs → getD (slotsOf ks bs) i noSlot ≡ slotOf (getD ks i 0) (getD bs i 0)
 unfolding slotsOf
 slots-get [] [] i e = refl
 slots-get [] (b ∷ bs) i e = absurd (omega arith)

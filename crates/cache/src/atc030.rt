@@ -178,7 +178,7 @@ fn held(c030: &Atc030, key: u64, shift: u32) -> usize
 }
 
 // The base of a cached page, unless WP makes a write miss.
-fn permitted(p: u64, write: bool) -> Hit
+pub fn permitted(p: u64, write: bool) -> Hit
     ensures { λ r. ⌜ r ≡ (if write && odd p then Hit.Miss else Hit.At (p / 2)) ⌝ }
 {
     if write && p % 2 == 1 {

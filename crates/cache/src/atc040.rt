@@ -30,7 +30,7 @@ fn key_of(frame: u32, supervisor: bool) -> u64
 }
 
 // The base of a cached page. A hit that protection forbids is a miss.
-fn permitted(b: u64, supervisor: bool, write: bool) -> Hit
+pub fn permitted(b: u64, supervisor: bool, write: bool) -> Hit
     ensures { λ r. ⌜ r ≡ (if write && odd (b / 2) || not supervisor && odd b then Hit.Miss else Hit.At (b / 4)) ⌝ }
 {
     if write && b / 2 % 2 == 1 {

@@ -163,7 +163,7 @@ pub fn walk_for(
 }
 
 // All sixteen where `n` is above 16.
-fn of_sixteen(n: usize) -> usize
+pub fn of_sixteen(n: usize) -> usize
     ensures { λ r. ⌜ r ≡ ofSixteen n ⌝ }
 {
     if n <= 16 {

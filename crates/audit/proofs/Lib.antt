@@ -1,0 +1,4 @@
+pub mod Steps
+pub mod Driving
+pub mod Saying
+pub mod Sixteen
