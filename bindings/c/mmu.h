@@ -119,6 +119,37 @@ void mmu_test(const uint32_t *longs, size_t longs_len, uint32_t base, const mmu_
 void mmu_probe(const uint64_t c030[MMU_030], const uint64_t c040[MMU_040], const uint32_t registers[MMU_REGISTERS],
                uint32_t flags, uint32_t address, uint32_t answer[MMU_ANSWER]);
 
+/* Audits the family's cache: the first entry at `from` or above that gives a wrong answer by these tables. DONE: none is, the
+ * caches are clean. STALE: NUMBER is its index, SECOND its cache, 30 or 40; ask again from NUMBER + 1. It changes nothing. Ask before
+ * you fork. Refusals: 1, 2, 3, 4. */
+enum { MMU_STALE = 1 };
+void mmu_audit(const uint64_t c030[MMU_030], const uint64_t c040[MMU_040], const uint32_t *longs, size_t longs_len, uint32_t base,
+               const mmu_range *ranges, size_t ranges_len, const uint32_t registers[MMU_REGISTERS], uint32_t from,
+               uint32_t answer[MMU_ANSWER]);
+
+/* The places of the ten numbers of what is said of one entry: its page's first address and its function code; what the cache gives
+ * (MMU_DONE and a base in two halves, or MMU_NOTHING); what a walk without caches gives (MMU_DONE and an address, or MMU_FAULT with
+ * the fault's address, kind and cause). */
+enum {
+    MMU_SAID_WHAT,
+    MMU_SAID_ADDRESS,
+    MMU_SAID_CODE,
+    MMU_SAID_CACHED,
+    MMU_SAID_BASE_LOW,
+    MMU_SAID_BASE_HIGH,
+    MMU_SAID_WALKED,
+    MMU_SAID_NUMBER,
+    MMU_SAID_KIND,
+    MMU_SAID_CAUSE,
+    MMU_SAID
+};
+
+/* What is said of entry `index` of the family's cache, for a read or a write of its page's first byte. DONE, or REFUSED with the
+ * refusal's number in ADDRESS: 1, 2, 3, 4. */
+void mmu_finding(const uint64_t c030[MMU_030], const uint64_t c040[MMU_040], const uint32_t *longs, size_t longs_len, uint32_t base,
+                 const mmu_range *ranges, size_t ranges_len, const uint32_t registers[MMU_REGISTERS], uint32_t index, bool write,
+                 uint32_t said[MMU_SAID]);
+
 /* The flushes give 0, or the number of a refusal. */
 
 /* Empties both caches. Refusal: 4. */

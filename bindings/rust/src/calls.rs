@@ -1,6 +1,7 @@
 //! The calls.
 
 use crate::answers::{cause_of, kind_of, Error, Fault, Refusal, Status, Translated};
+use crate::audits::{self, Stale};
 use crate::caches::{Caches, NUMBERS_030, NUMBERS_040};
 use crate::door;
 use crate::given::{Access, Registers, Tables};
@@ -95,6 +96,17 @@ impl Pmmu {
             [0, mmusr, address, _, count] => Ok(Status { mmusr: mmusr as u16, address, count }),
             [_, number, ..] => Err(Refusal::of(number)),
         }
+    }
+
+    /// Every entry that gives a wrong answer by the tables as they are now: of each, its page
+    /// and code, what the cache says and what the tables say. None: the caches are clean, and
+    /// every access gets the answer that a walk without caches gives. It changes nothing, and
+    /// asks neither the transparent registers nor whether the PMMU is on. Ask before you fork.
+    ///
+    /// # Errors
+    /// A refusal (1, 2, 3 or 4): then nothing is said of the caches.
+    pub fn audit(&self, registers: &Registers, tables: Tables<'_>) -> Result<Vec<Stale>, Refusal> {
+        audits::every(&self.caches, registers, tables)
     }
 
     /// The address from a transparent match or an unrecorded hit, else nothing. The CPU's

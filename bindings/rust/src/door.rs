@@ -13,11 +13,18 @@ use crate::caches::{Caches, NUMBERS_030, NUMBERS_040};
 use crate::given::{Access, Range, Registers, Tables};
 
 /// The five numbers of an answer: what it is (0 an address, a status or done, 1 a fault,
-/// 2 a refusal, 3 nothing), its number, two numbers more, and the count.
+/// 2 a refusal, 3 nothing), its number, two numbers more, and the count. Of an audit: what
+/// it is (0 clean, 1 stale, 2 a refusal), an index or the refusal's number, and the cache.
 pub(crate) type Answer = [u32; 5];
 
+/// The ten numbers of what is said of one entry: what it is (0 said, 2 a refusal), its
+/// page's first address or the refusal's number, its code; what the cache gives (0 a base,
+/// 3 nothing), the base's low and high half; what the tables give (0 an address, 1 a fault),
+/// its address, and the fault's kind and cause.
+pub(crate) type Said = [u32; 10];
+
 mod library {
-    use super::{Answer, Range, NUMBERS_030, NUMBERS_040};
+    use super::{Answer, Range, Said, NUMBERS_030, NUMBERS_040};
 
     extern "C" {
         pub fn mmu_empty(c030: &mut [u64; NUMBERS_030], c040: &mut [u64; NUMBERS_040]);
@@ -60,6 +67,31 @@ mod library {
             level: u32,
             address: u32,
             out: &mut Answer,
+        );
+        pub fn mmu_audit(
+            c030: &[u64; NUMBERS_030],
+            c040: &[u64; NUMBERS_040],
+            longs: *const u32,
+            longs_len: usize,
+            base: u32,
+            ranges: *const Range,
+            ranges_len: usize,
+            registers: &[u32; 13],
+            from: u32,
+            out: &mut Answer,
+        );
+        pub fn mmu_finding(
+            c030: &[u64; NUMBERS_030],
+            c040: &[u64; NUMBERS_040],
+            longs: *const u32,
+            longs_len: usize,
+            base: u32,
+            ranges: *const Range,
+            ranges_len: usize,
+            registers: &[u32; 13],
+            index: u32,
+            write: bool,
+            out: &mut Said,
         );
         pub fn mmu_probe(
             c030: &[u64; NUMBERS_030],
@@ -150,6 +182,47 @@ pub(crate) fn test(m: Tables<'_>, registers: &Registers, code: u8, write: bool, 
             write,
             level.into(),
             address,
+            &mut out,
+        );
+    }
+    out
+}
+
+pub(crate) fn audit(c: &Caches, m: Tables<'_>, registers: &Registers, from: u32) -> Answer {
+    let mut out = [0; 5];
+    // SAFETY: as for `translate`; the library only reads what is lent as `&`.
+    unsafe {
+        library::mmu_audit(
+            &c.c030,
+            &c.c040,
+            m.longs.as_ptr(),
+            m.longs.len(),
+            m.base,
+            m.ranges.as_ptr(),
+            m.ranges.len(),
+            &registers.numbers(),
+            from,
+            &mut out,
+        );
+    }
+    out
+}
+
+pub(crate) fn finding(c: &Caches, m: Tables<'_>, registers: &Registers, index: u32, write: bool) -> Said {
+    let mut out = [0; 10];
+    // SAFETY: as for `audit`; a `bool` is 0 or 1 on both sides.
+    unsafe {
+        library::mmu_finding(
+            &c.c030,
+            &c.c040,
+            m.longs.as_ptr(),
+            m.longs.len(),
+            m.base,
+            m.ranges.as_ptr(),
+            m.ranges.len(),
+            &registers.numbers(),
+            index,
+            write,
             &mut out,
         );
     }

@@ -38,6 +38,7 @@
 #![deny(missing_docs)]
 
 mod answers;
+mod audits;
 mod caches;
 mod calls;
 mod door;
@@ -45,6 +46,7 @@ mod given;
 pub mod trace;
 
 pub use answers::{Error, Fault, FaultCause, FaultKind, Refusal, Status, Translated};
+pub use audits::{Cache, Finding, Stale};
 pub use caches::{Caches, Entry, Slot, ENTRIES, NUMBERS_030, NUMBERS_040, SLOTS};
 pub use calls::Pmmu;
 pub use given::{Access, Family, Range, Registers, Tables};

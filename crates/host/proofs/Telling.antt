@@ -1,5 +1,5 @@
 -- An answer's numbers, by what the answer is; an override, by its number. Assumes nothing.
-use Prim.Native.Nat.{ℕ}
+use Prim.Native.Nat.{ℕ, _/_, _%_}
 use mathlib.Core.Path.{_≡_, ap, _∙_}
 use mathlib.Core.List.{List, [], _∷_}
 use mathlib.Core.Bool.{Bool}
@@ -8,7 +8,13 @@ use Rattle.definition.specs.Words.{bitOf}
 use Rattle.definition.specs.Memory.{Memory}
 use Rattle.definition.specs.Load.{load}
 use Rattle.definition.specs.Test.{test}
+use Rattle.definition.specs.Audit.{auditFrom, finding as findingOf}
 use Rattle.definition.specs.declared.Access.{Access}
+use Rattle.definition.specs.declared.Audit.{Audit}
+use Rattle.definition.specs.declared.Finding.{Finding}
+use Rattle.definition.specs.declared.Finding.the-variants as finding
+use Rattle.definition.specs.declared.Hit.{Hit}
+use Rattle.definition.specs.declared.Hit.the-variants as hit
 use Rattle.definition.specs.Translate.{Caches, translate}
 use Rattle.definition.specs.Probe.{probe}
 use Rattle.definition.specs.declared.Registers.{Registers}
@@ -36,7 +42,9 @@ use Rattle.flush.specs.Flushed.{FlushedIn, FlushedIn030, FlushedIn040}
 use Rattle.translate.specs.Stages.{shownTranslated}
 use Rattle.cache.specs.Atc030.{cacheOf}
 use Rattle.cache.specs.Atc040.{cache040Of}
-use Rattle.host.specs.Numbers.{TranslatedTo, LoadedTo, testedNumbers, registersWith, registersOf, overrideOf, accessWith, accessOf, probeNumbers, translationNumbers, loadNumbers, testNumbers, flushNumber, FlushedTo}
+use Rattle.host.specs.declared.Held.{Held}
+use Rattle.host.specs.declared.Walked.{Walked}
+use Rattle.host.specs.Numbers.{auditNumbers, heldOf, walkedOf, findingOfParts, findingNumbers, TranslatedTo, LoadedTo, testedNumbers, registersWith, registersOf, overrideOf, accessWith, accessOf, probeNumbers, translationNumbers, loadNumbers, testNumbers, flushNumber, FlushedTo}
 
 module _ (code : ℕ) where
   pub none : code ≡ 255 → Override.Plain ≡ overrideOf code
@@ -108,7 +116,38 @@ module _ (ns : List ℕ) {g : Registers} (is-g : g ≡ registersOf ns) (m : Memo
       → (k : Cache040) → LoadedTo (load (registersOf ns) code write address m (pairWith c k)) out (cacheOf c030)
   loads code write address c f e k = let q = f k in rw (← is-g) (record { answers = e ∙ rw (q .answers, q .counts); leaves = q .leaves })
 
+  pub audits : (c : Caches) (from : ℕ) {a : Audit} → a ≡ auditFrom g m c from → out ≡ auditNumbers a → out ≡ auditNumbers (auditFrom (registersOf ns) m c from)
+  audits c from q e = rw (← is-g) (e ∙ rw q)
+
+  pub finds : (c : Caches) (i : ℕ) (write : Bool) {f : Finding} → f ≡ findingOf g m c i write → out ≡ findingNumbers f
+      → out ≡ findingNumbers (findingOf (registersOf ns) m c i write)
+  finds c i write q e = rw (← is-g) (e ∙ rw q)
+
   pub tests : (code : ℕ) (write : Bool) (level address : ℕ) {t : Test} {count : ℕ}
       → TestedIn (shownTested (test g code write level address m)) t count → out ≡ testNumbers t count
       → out ≡ testedNumbers (test (registersOf ns) code write level address m)
   tests code write level address q e = rw (← is-g) (e ∙ rw (q .answers, q .counts))
+
+-- ---- what is said of one entry
+pub held-at : {h : Hit} {base : ℕ} → h ≡ hit.At base → record { what = 0; low = base % 4294967296; high = base / 4294967296 } ≡ heldOf h
+held-at e = rw e
+
+pub held-none : {h : Hit} → h ≡ hit.Miss → record { what = 3; low = 0; high = 0 } ≡ heldOf h
+held-none e = rw e
+
+pub walked-address : {t : Translation} {x : ℕ} → t ≡ translation.Address x → record { what = 0; number = x; kind = 0; cause = 0 } ≡ walkedOf t
+walked-address e = rw e
+
+pub walked-fault : {t : Translation} {kind : FaultKind} {cause : FaultCause} {x k c : ℕ} → t ≡ translation.Fault kind cause x → k ≡ kindNumber kind → c ≡ causeNumber cause
+    → record { what = 1; number = x; kind = k; cause = c } ≡ walkedOf t
+walked-fault e a b = rw (e, a, b)
+
+pub walked-refused : {t : Translation} {n : ℕ} → t ≡ translation.Refused n → record { what = 2; number = n; kind = 0; cause = 0 } ≡ walkedOf t
+walked-refused e = rw e
+
+pub says : {f : Finding} {x code : ℕ} {cached : Hit} {tables : Translation} {h : Held} {t : Walked} → f ≡ finding.Says x code cached tables
+    → h ≡ heldOf cached → t ≡ walkedOf tables → findingOfParts x code h t ≡ findingNumbers f
+says e a b = rw (e, a, b)
+
+pub says-refused : {f : Finding} {n : ℕ} → f ≡ finding.Refused n → 2 ∷ n ∷ 0 ∷ 0 ∷ 0 ∷ 0 ∷ 0 ∷ 0 ∷ 0 ∷ 0 ∷ [] ≡ findingNumbers f
+says-refused e = rw e

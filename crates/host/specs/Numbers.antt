@@ -1,5 +1,5 @@
 -- What the host's numbers are: registers, an access, and the five numbers of an answer.
-use Prim.Native.Nat.{ℕ}
+use Prim.Native.Nat.{ℕ, _/_, _%_}
 use mathlib.Core.Path.{_≡_}
 use mathlib.Core.List.{List, [], _∷_}
 use mathlib.Core.Bool.{Bool}
@@ -23,8 +23,16 @@ use Rattle.definition.specs.declared.Test.{Test}
 use Rattle.definition.specs.declared.Test.the-variants as test
 use Rattle.definition.specs.declared.Probe.{Probe}
 use Rattle.definition.specs.declared.Probe.the-variants as probe
+use Rattle.definition.specs.declared.Audit.{Audit}
+use Rattle.definition.specs.declared.Audit.the-variants as audit
+use Rattle.definition.specs.declared.Finding.{Finding}
+use Rattle.definition.specs.declared.Finding.the-variants as finding
+use Rattle.definition.specs.declared.Hit.{Hit}
+use Rattle.definition.specs.declared.Hit.the-variants as hit
 use Rattle.definition.specs.declared.Flush.{Flush}
 use Rattle.definition.specs.declared.Flush.the-variants as flush
+use Rattle.host.specs.declared.Held.{Held}
+use Rattle.host.specs.declared.Walked.{Walked}
 
 -- family, flags (bit 0 PMMU, 1 enabled), and the 11 longs in the order of a trace's record
 abbrev pub registersWith : List ℕ → Bool → Bool → Registers
@@ -86,6 +94,34 @@ abbrev pub probeNumbers : Probe → List ℕ
 probeNumbers (probe.Address x) = 0 ∷ x ∷ 0 ∷ 0 ∷ 0 ∷ []
 probeNumbers probe.Nothing = 3 ∷ 0 ∷ 0 ∷ 0 ∷ 0 ∷ []
 probeNumbers (probe.Refused n) = 2 ∷ n ∷ 0 ∷ 0 ∷ 0 ∷ []
+
+-- an audit: 0 every entry is right; 1 the index of a stale entry, and its cache, 30 or 40; 2 a refusal
+abbrev pub auditNumbers : Audit → List ℕ
+auditNumbers audit.Clean = 0 ∷ 0 ∷ 0 ∷ 0 ∷ 0 ∷ []
+auditNumbers (audit.Stale030 i) = 1 ∷ i ∷ 30 ∷ 0 ∷ 0 ∷ []
+auditNumbers (audit.Stale040 i) = 1 ∷ i ∷ 40 ∷ 0 ∷ 0 ∷ []
+auditNumbers (audit.Refused n) = 2 ∷ n ∷ 0 ∷ 0 ∷ 0 ∷ []
+
+-- what a cache gives: 0 with a base in two halves, 3 nothing
+abbrev pub heldOf : Hit → Held
+heldOf (hit.At base) = record { what = 0; low = base % 4294967296; high = base / 4294967296 }
+heldOf hit.Miss = record { what = 3; low = 0; high = 0 }
+
+-- what the tables give: the first four numbers of a translation
+abbrev pub walkedOf : Translation → Walked
+walkedOf (translation.Address x) = record { what = 0; number = x; kind = 0; cause = 0 }
+walkedOf (translation.Fault kind cause x) =
+    record { what = 1; number = x; kind = kindNumber kind; cause = causeNumber cause }
+walkedOf (translation.Refused n) = record { what = 2; number = n; kind = 0; cause = 0 }
+
+-- one entry: 0 its page's first address, its code, what the cache gives and what the tables give; 2 a refusal
+abbrev pub findingOfParts : ℕ → ℕ → Held → Walked → List ℕ
+findingOfParts address code h t =
+    0 ∷ address ∷ code ∷ h .what ∷ h .low ∷ h .high ∷ t .what ∷ t .number ∷ t .kind ∷ t .cause ∷ []
+
+abbrev pub findingNumbers : Finding → List ℕ
+findingNumbers (finding.Says address code cached tables) = findingOfParts address code (heldOf cached) (walkedOf tables)
+findingNumbers (finding.Refused n) = 2 ∷ n ∷ 0 ∷ 0 ∷ 0 ∷ 0 ∷ 0 ∷ 0 ∷ 0 ∷ 0 ∷ []
 
 -- a flush answers 0, or the number of its refusal
 abbrev pub flushNumber : Flush → ℕ

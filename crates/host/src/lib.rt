@@ -1,10 +1,14 @@
 // The host's calls, for C or Rust to link. The host keeps the caches' arrays, the longs and the registers as numbers, and a slice of ranges, and lends
 // them in one call; it changes the caches in place and writes its answer to five numbers. specs/ says which number means what.
 // A call that is lent the ranges is thin: its proof is a walk by hand, which tools/ prints.
+use audit::finding;
 use cache::atc030::Atc030;
 use cache::atc040::Atc040;
 use definition::Access;
+use definition::Audit;
+use definition::Finding;
 use definition::Flush;
+use definition::Hit;
 use definition::Load;
 use definition::Override;
 use definition::Probe;
@@ -28,11 +32,12 @@ ghost use Rattle.definition.specs.Load.{load as loadOf};
 ghost use Rattle.definition.specs.Test.{test as testOf};
 ghost use Rattle.definition.specs.Memory.{memory};
 ghost use Rattle.definition.specs.Probe.{probe as probeOf};
+ghost use Rattle.definition.specs.Audit.{auditFrom, finding as findingOf};
 ghost use Rattle.definition.specs.Flush.{flushAll, flushCode, flushPage, flushFrame};
 ghost use Rattle.cache.specs.Atc030.{cacheOf};
 ghost use Rattle.cache.specs.Atc040.{cache040Of};
 ghost use Rattle.cache.specs.Pair.{cachesOf, pairWith};
-ghost use Rattle.host.specs.Numbers.{registersOf, overrideOf, accessOf, translationNumbers, loadNumbers, testNumbers, probeNumbers, flushNumber, TranslatedTo, LoadedTo, testedNumbers, FlushedTo};
+ghost use Rattle.host.specs.Numbers.{registersOf, overrideOf, accessOf, translationNumbers, loadNumbers, testNumbers, probeNumbers, auditNumbers, heldOf, walkedOf, findingNumbers, flushNumber, TranslatedTo, LoadedTo, testedNumbers, FlushedTo};
 
 // ---- What the host's numbers are.
 
@@ -170,6 +175,111 @@ fn tell_probe(out: &mut [u32; 5], p: Probe)
     }
 }
 
+// An audit's: 0 where every entry is right, 1 with the index of a stale entry and its cache, 30 or 40.
+fn tell_audit(out: &mut [u32; 5], a: Audit)
+    ensures { λ _. ⌜ now (out .exit) ≡ auditNumbers a ⌝ }
+{
+    match a {
+        Audit::Clean => tell(out, 0, 0, 0, 0, 0),
+        Audit::Stale030(i) => tell(out, 1, i, 30, 0, 0),
+        Audit::Stale040(i) => tell(out, 1, i, 40, 0, 0),
+        Audit::Refused(n) => tell(out, 2, n, 0, 0, 0),
+    }
+}
+
+// What a cache gives: 0 and the base's low and high 32 bits, or 3 for nothing.
+struct Held {
+    what: u32,
+    low: u32,
+    high: u32,
+}
+
+fn held_of(h: Hit) -> Held
+    ensures { λ r. ⌜ r ≡ heldOf h ⌝ }
+{
+    match h {
+        Hit::At(base) => Held {
+            what: 0,
+            low: (base % 4294967296) as u32,
+            high: (base / 4294967296) as u32,
+        },
+        Hit::Miss => Held {
+            what: 3,
+            low: 0,
+            high: 0,
+        },
+    }
+}
+
+// What the tables give: a translation's numbers without the count.
+struct Walked {
+    what: u32,
+    number: u32,
+    kind: u32,
+    cause: u32,
+}
+
+fn walked_of(t: Translation) -> Walked
+    ensures { λ r. ⌜ r ≡ walkedOf t ⌝ }
+{
+    match t {
+        Translation::Address(x) => Walked {
+            what: 0,
+            number: x,
+            kind: 0,
+            cause: 0,
+        },
+        Translation::Fault {
+            kind,
+            cause,
+            address,
+        } => Walked {
+            what: 1,
+            number: address,
+            kind: definition::kind_number(kind),
+            cause: definition::cause_number(cause),
+        },
+        Translation::Refused(n) => Walked {
+            what: 2,
+            number: n,
+            kind: 0,
+            cause: 0,
+        },
+    }
+}
+
+// What is said of one entry: its page's first address and code, what the cache gives, and what the tables give.
+fn tell_finding(out: &mut [u32; 10], f: Finding)
+    ensures { λ _. ⌜ now (out .exit) ≡ findingNumbers f ⌝ }
+{
+    match f {
+        Finding::Says {
+            address,
+            code,
+            cached,
+            tables,
+        } => {
+            let h = held_of(cached);
+            let t = walked_of(tables);
+            *out = [
+                0,
+                address,
+                code,
+                h.what,
+                h.low,
+                h.high,
+                t.what,
+                t.number,
+                t.kind,
+                t.cause,
+            ];
+        }
+        Finding::Refused(n) => {
+            *out = [2, n, 0, 0, 0, 0, 0, 0, 0, 0];
+        }
+    }
+}
+
 // ---- The calls.
 
 // The empty caches: every number 0.
@@ -241,6 +351,45 @@ pub extern "C" fn mmu_test(
     let g = registers_of(registers);
     let o = by_value::test(longs, base, ranges, g, code, write, level, address);
     tell_test(out, o)
+}
+
+// The first stale entry at `from` or above. It changes nothing.
+#[no_mangle]
+pub extern "C" fn mmu_audit(
+    c030: &Atc030,
+    c040: &Atc040,
+    longs: &[u32],
+    base: u32,
+    ranges: &[Range],
+    registers: &[u32; 13],
+    from: u32,
+    out: &mut [u32; 5],
+)
+    ensures { λ _. ⌜ now (out .exit) ≡ auditNumbers (auditFrom (registersOf (now (registers .entry))) (memory (now (longs .entry)) base (now (ranges .entry))) (cachesOf (now (c030 .entry)) (now (c040 .entry))) from) ⌝ }
+{
+    let g = registers_of(registers);
+    let a = audit::audit_lent(c030, c040, longs, base, ranges, g, from);
+    tell_audit(out, a)
+}
+
+// What is said of entry `index` of the family's cache, for a read or a write.
+#[no_mangle]
+pub extern "C" fn mmu_finding(
+    c030: &Atc030,
+    c040: &Atc040,
+    longs: &[u32],
+    base: u32,
+    ranges: &[Range],
+    registers: &[u32; 13],
+    index: u32,
+    write: bool,
+    out: &mut [u32; 10],
+)
+    ensures { λ _. ⌜ now (out .exit) ≡ findingNumbers (findingOf (registersOf (now (registers .entry))) (memory (now (longs .entry)) base (now (ranges .entry))) (cachesOf (now (c030 .entry)) (now (c040 .entry))) index write) ⌝ }
+{
+    let g = registers_of(registers);
+    let f = finding::finding_lent(c030, c040, longs, base, ranges, g, index, write);
+    tell_finding(out, f)
 }
 
 // Probe: the CPU's own state, instruction and write in the flags.
