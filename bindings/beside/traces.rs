@@ -44,6 +44,8 @@ mod trace;
 #[path = "../../differential/src/trees.rs"]
 mod trees;
 
+mod audits;
+
 use memory::TableMemory;
 use original::Original;
 use pmmu::{Caches, Error, Family, Fault, Pmmu, Range, Tables};

@@ -135,6 +135,28 @@ static bool meets_its_guard(host *h, uint32_t guard) {
     return true;
 }
 
+/* ---- Before the fork: whether the audit is clean, and names a guard that is set without its flush */
+
+static uint32_t audited(const host *h, uint32_t from, uint32_t a[MMU_ANSWER]) {
+    mmu_audit(h->caches.c030, h->caches.c040, h->longs, 8192, 0, no_ranges, 0, registers, from, a);
+    return a[MMU_WHAT];
+}
+
+static bool audits(host *h) {
+    const uint32_t guard = 5;
+    uint32_t a[MMU_ANSWER], s[MMU_SAID];
+    bool right = audited(h, 0, a) == MMU_DONE;
+    store(h, descriptor(guard), 0);
+    right &= audited(h, 0, a) == MMU_STALE && a[MMU_SECOND] == 30;
+    mmu_finding(h->caches.c030, h->caches.c040, h->longs, 8192, 0, no_ranges, 0, registers, a[MMU_NUMBER], false, s);
+    right &= s[MMU_SAID_WHAT] == MMU_DONE && s[MMU_SAID_ADDRESS] == address_of(guard) && s[MMU_SAID_CODE] == USER_DATA;
+    right &= s[MMU_SAID_CACHED] == MMU_DONE && s[MMU_SAID_BASE_LOW] == 0x00400000 + guard * PAGE && s[MMU_SAID_BASE_HIGH] == 0;
+    right &= s[MMU_SAID_WALKED] == MMU_FAULT && s[MMU_SAID_CAUSE] == MMU_PAGE_FAULT;
+    right &= audited(h, a[MMU_NUMBER] + 1, a) == MMU_DONE; /* it is the only one */
+    store(h, descriptor(guard), 0x00400001 + guard * PAGE);
+    return right && audited(h, 0, a) == MMU_DONE;
+}
+
 /* Forks a process for each worker: whether each meets its guard. */
 static bool workers(host *h) {
     pid_t started[WORKERS];
@@ -180,6 +202,7 @@ int main(void) {
     mmu_empty(h.caches.c030, h.caches.c040);
     sample(&h);
     bool right = said("sixteen pages are warm", warm(&h));
+    right &= said("the audit names a guard without its flush", audits(&h));
     right &= said("each worker meets its own guard", workers(&h));
     bool kept = true;
     for (uint32_t page = 0; page < PAGES; page++)

@@ -1,10 +1,11 @@
-//! A warm pair of caches is cloned for several workers. Each has its own copy of the
-//! tables, in which it clears the descriptor of one page, its guard, and flushes that
-//! page: then it meets its own guard and no other's.
+//! A warm pair of caches is audited, and cloned for several workers. Each has its own copy
+//! of the tables, in which it clears the descriptor of one page, its guard, and flushes
+//! that page: then it meets its own guard and no other's. A snapshot whose guard was set
+//! without its flush is not forked: the audit names the page.
 //!
 //!     cargo run --release --example fork
 
-use pmmu::{Access, Error, Family, FaultCause, Pmmu, Registers, Tables};
+use pmmu::{Access, Error, Family, FaultCause, Pmmu, Registers, Stale, Tables};
 use std::thread;
 
 const WORKERS: u32 = 4;
@@ -53,6 +54,23 @@ fn faults(mut pmmu: Pmmu, mut longs: Vec<u32>, registers: &Registers, guard: u32
     met
 }
 
+/// Audits the snapshot, and gives a copy of it to each worker: the pages at which each faults. A stale snapshot is not forked.
+fn fork(warm: &Pmmu, longs: &[u32], registers: &Registers) -> Result<Vec<Vec<u32>>, Vec<Stale>> {
+    let stale = warm.audit(registers, Tables { longs, base: 0, ranges: &[] }).expect("nothing to refuse");
+    if !stale.is_empty() {
+        return Err(stale);
+    }
+    Ok(thread::scope(|scope| {
+        let workers: Vec<_> = (0..WORKERS)
+            .map(|guard| {
+                let (own, own_longs) = (warm.clone(), longs.to_vec());
+                scope.spawn(move || faults(own, own_longs, registers, guard))
+            })
+            .collect();
+        workers.into_iter().map(|worker| worker.join().expect("a worker ends")).collect()
+    }))
+}
+
 fn main() {
     let registers = Registers {
         family: Family::M68030,
@@ -71,18 +89,17 @@ fn main() {
     }
     println!("warm: {PAGES} pages in the cache");
 
-    let met: Vec<Vec<u32>> = thread::scope(|scope| {
-        let workers: Vec<_> = (0..WORKERS)
-            .map(|guard| {
-                let (own, own_longs) = (warm.clone(), longs.clone());
-                scope.spawn(move || faults(own, own_longs, &registers, guard))
-            })
-            .collect();
-        workers.into_iter().map(|worker| worker.join().expect("a worker ends")).collect()
-    });
+    let met = fork(&warm, &longs, &registers).expect("a clean snapshot");
     for (worker, pages) in (0..WORKERS).zip(met) {
         assert_eq!(pages, [worker], "its own guard and no other");
         println!("worker {worker}: a fault at page {worker} alone, {} pages from its warm cache", PAGES - 1);
+    }
+
+    let mut guarded = longs.clone();
+    guarded[place(PAGE_TABLE) + 5] = 0;
+    let stale = fork(&warm, &guarded, &registers).expect_err("page 5's guard was set without its flush");
+    for entry in &stale {
+        println!("not forked: {entry}");
     }
     let none_lost = warm.caches().entries().iter().filter(|entry| entry.valid).count();
     println!("warm: {none_lost} pages still in the cache");
