@@ -21,7 +21,7 @@ fn digit(n: u64) -> u8 {
 }
 
 // Eight hex digits.
-fn put_hex(out: &mut [u8], at: usize, x: u64) -> usize {
+pub fn put_hex(out: &mut [u8], at: usize, x: u64) -> usize {
     let mut to = at;
     let mut k: u32 = 0;
     while k < 8 {
