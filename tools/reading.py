@@ -10,7 +10,7 @@ import sys
 from pathlib import Path
 
 # The crates whose public functions are the calls; of the others, the functions in place (`.._in`) are.
-CALLS = ["mmu", "tableless", "pair", "lent", "host", "replay", "whole"]
+CALLS = ["mmu", "tableless", "pair", "lent", "audit", "host", "replay", "whole"]
 
 FUNCTION = re.compile(r'^pub (?:extern "C" )?fn (\w+)(.*?)^\{$', re.DOTALL | re.MULTILINE)
 IMPORT = re.compile(r"^(?:ghost )?use Rattle·(\w+)(?:·specs)?\.specs\.(?:specs\.)?(\w+)\.\{(.*?)\}", re.MULTILINE)
@@ -29,10 +29,16 @@ def imported(source):
     return found
 
 
+def offered(path):
+    """Whether a file's functions can be called from another crate: its module is the root, or public there."""
+    root = path.parent / "lib.rt"
+    return path == root or not root.exists() or f"\npub mod {path.stem};\n" in "\n" + root.read_text()
+
+
 def in_contracts():
     """What the calls' contracts name: file and name."""
     found = set()
-    for path in Path("crates").glob("*/src/**/*.rt"):
+    for path in filter(offered, Path("crates").glob("*/src/**/*.rt")):
         source = path.read_text()
         names = imported(source)
         for function, contract in FUNCTION.findall(source):
