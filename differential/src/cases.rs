@@ -63,7 +63,7 @@ impl Cases {
         let mut all = [0, 0];
         for Case { name, trace, lines } in &self.cases {
             fs::write(data.join(format!("{name}.trace")), trace)?;
-            fs::write(data.join(format!("{name}.expected")), lines.join("\n") + "\n")?;
+            fs::write(data.join(format!("{name}.states")), lines.join("\n") + "\n")?;
             let states = lines.iter().filter(|line| line.starts_with("S ")).count();
             let counts = [lines.len() - states, states];
             arguments += &format!("{name}\n");

@@ -27,7 +27,7 @@ impl Case {
 
     fn read(data: &Path, name: &str) -> io::Result<Self> {
         let trace = fs::read(data.join(format!("{name}.trace")))?;
-        let text = fs::read_to_string(data.join(format!("{name}.expected")))?;
+        let text = fs::read_to_string(data.join(format!("{name}.states")))?;
         Ok(Case { name: name.into(), trace, lines: text.lines().map(String::from).collect() })
     }
 }

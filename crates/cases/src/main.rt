@@ -1,6 +1,6 @@
 // Replays the stored traces of data/ record by record, and compares every line, and both caches after each record, with the
 // original Rust's (differential/README.md, 'Stored cases').
-// The arguments name the cases: NAME.trace is the trace, and NAME.expected has the original's lines and state lines.
+// The arguments name the cases: NAME.trace is the trace, and NAME.states has the original's lines and state lines.
 use cache::atc030::Atc030;
 use cache::atc040::Atc040;
 use replay::run::Why;
@@ -55,7 +55,7 @@ fn none() -> Counts {
 
 // ---- The lines of a case.
 
-// Tells a line that differs, by its number in NAME.expected, from 1.
+// Tells a line that differs, by its number in NAME.states, from 1.
 fn tell_line(
     name: &[u8],
     number: u64,
@@ -313,9 +313,9 @@ fn one_case(
     let Held::Bytes(n) = said else {
         return unheld(t, name, b".trace", said, out);
     };
-    let answered = files::read_named(name, b".expected", expected);
+    let answered = files::read_named(name, b".states", expected);
     let Held::Bytes(m) = answered else {
-        return unheld(t, name, b".expected", answered, out);
+        return unheld(t, name, b".states", answered, out);
     };
     if n <= trace.len() && m <= expected.len() {
         return replayed(t, name, &trace[..n], &expected[..m], out);
