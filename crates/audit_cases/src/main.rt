@@ -20,9 +20,9 @@ use definition::Translation;
 // ---- What the cases are given.
 
 // The registers of the twelve examples, SRP as CRP.
-fn registers(family: u32, tc: u32) -> Registers {
+fn rooted(family: u32, tc: u32, limit: u32) -> Registers {
     let root = Root {
-        limit: 0x8000_0002,
+        limit,
         address: 0x1000,
     };
     Registers {
@@ -39,6 +39,10 @@ fn registers(family: u32, tc: u32) -> Registers {
         dtt0: 0,
         dtt1: 0,
     }
+}
+
+fn registers(family: u32, tc: u32) -> Registers {
+    rooted(family, tc, 0x8000_0002)
 }
 
 fn of_030() -> Registers {
@@ -81,7 +85,7 @@ fn tables(longs: &mut [u32; 8192]) {
 }
 
 // The page of 02041ABC is cached.
-fn warm(c030: &mut Atc030, c040: &mut Atc040, longs: &[u32], g: Registers, supervisor: bool) {
+fn warm(c030: &mut Atc030, c040: &mut Atc040, longs: &[u32; 8192], g: Registers, supervisor: bool) {
     let list = ranges(0, 0);
     translate::translate_in(c030, c040, longs, 0, list, 0, false, g, reading(supervisor));
 }
@@ -109,12 +113,27 @@ fn end_line() {
 }
 
 // What the audit says from an index on.
-fn show_from(c030: &Atc030, c040: &Atc040, longs: &[u32], g: Registers, from: u32) {
+fn show_from(c030: &Atc030, c040: &Atc040, longs: &[u32; 8192], g: Registers, from: u32) {
     let list = ranges(0, 0);
     tell(audit_kept(c030, c040, longs, 0, list, 0, g, from));
 }
 
-fn show(c030: &Atc030, c040: &Atc040, longs: &[u32], g: Registers) {
+// What it says over a base and `n` such ranges.
+fn show_with(
+    c030: &Atc030,
+    c040: &Atc040,
+    longs: &[u32; 8192],
+    base: u32,
+    first: u32,
+    last: u32,
+    n: usize,
+    g: Registers,
+) {
+    let list = ranges(first, last);
+    tell(audit_kept(c030, c040, longs, base, list, n, g, 0));
+}
+
+fn show(c030: &Atc030, c040: &Atc040, longs: &[u32; 8192], g: Registers) {
     show_from(c030, c040, longs, g, 0);
 }
 
@@ -152,14 +171,8 @@ fn damage_030() {
     changed(&c030, &c040, &mut longs, g, 0x2004, 0x3006);
     changed(&c030, &c040, &mut longs, g, 0x2004, 0x4003);
     changed(&c030, &c040, &mut longs, g, 0x1004, 0);
-    let list = ranges(0x3004, 0x3004);
-    tell(audit_kept(&c030, &c040, &longs, 0, list, 1, g, 0));
-    let mut none = g;
-    none.crp = Root {
-        limit: 0x8000_0001,
-        address: 0x1000,
-    };
-    show(&c030, &c040, &longs, none);
+    show_with(&c030, &c040, &longs, 0, 0x3004, 0x3004, 1, g);
+    show(&c030, &c040, &longs, rooted(30, 0x80C0_7760, 0x8000_0001));
     end_line();
 }
 
@@ -189,6 +202,12 @@ fn harmless_030() {
     end_line();
 }
 
+// The page of 02041ABC under this code.
+fn coded(mut c030: Atc030, c040: &Atc040, longs: &[u32; 8192], code: u64) {
+    c030[0] = 0x20411 + code % 8 * 2;
+    show(&c030, c040, longs, of_030());
+}
+
 // The guard under each code: an access has 1, 2, 5 or 6.
 fn codes() {
     let mut longs = [0u32; 8192];
@@ -199,11 +218,14 @@ fn codes() {
     warm(&mut c030, &mut c040, &longs, g, false);
     store(&mut longs, 0x3004, 0);
     io::write_all(1, b"codes");
-    for code in 0..8 {
-        let key: u64 = code;
-        c030[0] = 0x20411 | key << 1;
-        show(&c030, &c040, &longs, g);
-    }
+    coded(c030, &c040, &longs, 0);
+    coded(c030, &c040, &longs, 1);
+    coded(c030, &c040, &longs, 2);
+    coded(c030, &c040, &longs, 3);
+    coded(c030, &c040, &longs, 4);
+    coded(c030, &c040, &longs, 5);
+    coded(c030, &c040, &longs, 6);
+    coded(c030, &c040, &longs, 7);
     end_line();
 }
 
@@ -264,18 +286,16 @@ fn refusals() {
     let mut c030 = [0u64; 69];
     let c040 = [0u64; 128];
     c030[RECENT] = 22;
-    let crossed = ranges(1, 0);
-    let g = of_030();
     io::write_all(1, b"refusals");
-    tell(audit_kept(&c030, &c040, &longs, 2, crossed, 1, registers(50, 0), 0));
-    tell(audit_kept(&c030, &c040, &longs, 2, crossed, 1, g, 0));
-    tell(audit_kept(&c030, &c040, &longs, 0, crossed, 1, g, 0));
-    tell(audit_kept(&c030, &c040, &longs, 0, crossed, 0, g, 0));
+    show_with(&c030, &c040, &longs, 2, 1, 0, 1, registers(50, 0));
+    show_with(&c030, &c040, &longs, 2, 1, 0, 1, of_030());
+    show_with(&c030, &c040, &longs, 0, 1, 0, 1, of_030());
+    show_with(&c030, &c040, &longs, 0, 1, 0, 0, of_030());
     c030[RECENT] = 0;
     c030[SHIFT] = 32;
-    tell(audit_kept(&c030, &c040, &longs, 0, crossed, 0, of_040(), 0));
+    show(&c030, &c040, &longs, of_040());
     c030[SHIFT] = 31;
-    tell(audit_kept(&c030, &c040, &longs, 0, crossed, 0, g, 0));
+    show(&c030, &c040, &longs, of_030());
     end_line();
 }
 
@@ -332,7 +352,7 @@ fn tell_finding(f: Finding) {
 }
 
 // Of entry i, for a read and for a write.
-fn said(c030: &Atc030, c040: &Atc040, longs: &[u32], g: Registers, i: u32) {
+fn said(c030: &Atc030, c040: &Atc040, longs: &[u32; 8192], g: Registers, i: u32) {
     let list = ranges(0, 0);
     tell_finding(finding_kept(c030, c040, longs, 0, list, 0, g, i, false));
     tell_finding(finding_kept(c030, c040, longs, 0, list, 0, g, i, true));
