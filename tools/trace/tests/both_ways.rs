@@ -49,8 +49,8 @@ fn traces_below(folder: &Path, found: &mut Vec<PathBuf>) {
 
 /// Whether the original, or document 01, says of a stored case that it is malformed: `R 7` is its last line.
 fn is_malformed(case: &Path) -> bool {
-    let expected = fs::read_to_string(case.with_extension("expected")).unwrap_or_default();
-    expected.lines().last() == Some("R 7")
+    let lines = fs::read_to_string(case.with_extension("states")).unwrap_or_default();
+    lines.lines().last() == Some("R 7")
 }
 
 #[test]
@@ -69,7 +69,7 @@ fn stored_traces() {
         }
     }
     println!("{} stored traces, {malformed} of them malformed", found.len());
-    assert!(found.len() >= 127 && malformed >= 13, "the stored traces are where they were");
+    assert!(found.len() >= 203 && malformed >= 75, "the stored traces are where they were");
 }
 
 // ---- Generated ones
