@@ -1,4 +1,4 @@
 // Plays the trace on standard input, and writes its lines to standard output.
 fn main() {
-    playing::play(playing::How::Lines);
+    playing::play(false);
 }

@@ -1,7 +1,5 @@
-// The driver of the players and of the auditors: standard input through a buffer, and what is written of each record through another.
-// It is proved that of the bytes that stand in the buffer no record is lost and none is played twice.
-mod audits;
-
+// The driver of the players: standard input through a buffer, the replay's lines through another, and with `states` also both
+// caches after each record. It is proved that of the bytes that stand in the buffer no record is lost and none is played twice.
 ghost use mathlib.Core.Path.{_≡_};
 ghost use mathlib.Core.Bool.{true, false};
 ghost use Prim.Native.Nat.{_≤_, _-_};
@@ -27,62 +25,18 @@ struct Waiting {
     on: bool,
 }
 
-// What is written: each record's line, or both caches after it too; or what an audit says of the caches, at the end or after
-// each record.
-pub enum How {
-    Lines,
-    States,
-    AtEnd,
-    AfterEach,
-}
-
-// Whether the lines are written.
-fn has_lines(how: How) -> bool {
-    match how {
-        How::Lines => true,
-        How::States => true,
-        How::AtEnd => false,
-        How::AfterEach => false,
-    }
-}
-
-// Whether something is written after each record.
-fn is_stepped(how: How) -> bool {
-    match how {
-        How::Lines => false,
-        How::States => true,
-        How::AtEnd => false,
-        How::AfterEach => true,
-    }
-}
-
 // Refusal 7: the last line.
 fn malformed() {
     written(b"R 7\n");
 }
 
-// At the end of the input: `end` or what the audit says, or refusal 7 where a part of a record is left.
-fn finish(
-    line: &mut [u8],
-    c030: &Atc030,
-    c040: &Atc040,
-    longs: &[u32],
-    kept: Kept,
-    have: usize,
-    how: How,
-    records: u64,
-) {
-    if have != 0 {
-        malformed();
+// At the end of the input: `end`, or refusal 7 where a part of a record is left.
+fn finish(have: usize) {
+    if have == 0 {
+        written(b"end\n");
         return;
     }
-    match how {
-        How::Lines => written(b"end\n"),
-        How::States => written(b"end\n"),
-        How::AtEnd => audits::at_end(line, c030, c040, longs, kept),
-        How::AfterEach => audits::all_clean(line, records),
-    }
-    ;
+    malformed();
 }
 
 // The bytes from `from` to `have` move to the front of the buffer: how many they are.
@@ -125,49 +79,17 @@ fn after(why: Why) -> Next {
     }
 }
 
-// The lines of a run.
-fn lines_shown(out: &[u8], wrote: usize, how: How) -> bool {
-    if has_lines(how) {
-        return shown(out, wrote);
+// With `states`, both caches after a record that printed its line.
+fn caches_shown(line: &mut [u8], c030: &Atc030, c040: &Atc040, states: bool, wrote: usize) -> bool {
+    if states && 0 < wrote {
+        let n = states::state_line(line, c030, c040);
+        return shown(line, n);
     }
     true
 }
 
-// One more record.
-fn count(records: &mut [u64; 1]) {
-    if records[0] < u64::MAX {
-        records[0] += 1;
-    }
-}
-
-// After a record that printed its line: both caches, or what the audit says of them. Whether it goes on.
-fn stepped(
-    line: &mut [u8],
-    c030: &Atc030,
-    c040: &Atc040,
-    longs: &[u32],
-    kept: Kept,
-    how: How,
-    wrote: usize,
-    records: &mut [u64; 1],
-) -> bool {
-    if wrote == 0 {
-        return true;
-    }
-    count(records);
-    match how {
-        How::Lines => true,
-        How::States => {
-            let n = states::state_line(line, c030, c040);
-            shown(line, n)
-        }
-        How::AtEnd => true,
-        How::AfterEach => audits::after_record(line, c030, c040, longs, kept, records[0]),
-    }
-}
-
-// One run over waiting bytes, with its lines written. Where something is written after each record it plays one, since `out` has
-// room for one line.
+// One run over waiting bytes, with its lines written. With `states` it plays one record, since `out` has room for one line, and
+// writes both caches after it.
 fn some(
     c030: &mut Atc030,
     c040: &mut Atc040,
@@ -176,8 +98,7 @@ fn some(
     input: &[u8],
     out: &mut [u8],
     line: &mut [u8],
-    how: How,
-    records: &mut [u64; 1],
+    states: bool,
 ) -> Played
     requires { ⌜ anyOf crossed (rangesOf kept) ≡ false ⌝ }
     ensures { λ r. ⌜ (anyOf crossed (rangesOf (r .kept)) ≡ false) × (r .read ≤ length (now (input .entry))) × Went (r .next) (stateOf kept (now (longs .entry)) (now (c030 .entry)) (now (c040 .entry))) (now (input .entry)) (stateOf (r .kept) (now (longs .exit)) (now (c030 .exit)) (now (c040 .exit))) (r .read) ⌝ }
@@ -191,10 +112,10 @@ fn some(
         read: 0,
         next: Next::Over,
     };
-    if !lines_shown(out, wrote, how) {
+    if !shown(out, wrote) {
         return over;
     }
-    if !stepped(line, c030, c040, longs, now, how, wrote, records) {
+    if !caches_shown(line, c030, c040, states, wrote) {
         return over;
     }
     Played {
@@ -238,8 +159,7 @@ fn drained(
     have: usize,
     out: &mut [u8],
     line: &mut [u8],
-    how: How,
-    records: &mut [u64; 1],
+    states: bool,
 ) -> Waiting
     requires { ⌜ (have ≤ length (now buffer)) × (anyOf crossed (rangesOf kept) ≡ false) ⌝ }
     ensures { λ r. ⌜ (anyOf crossed (rangesOf (r .kept)) ≡ false) × Waits (r .on) (stateOf kept (now (longs .entry)) (now (c030 .entry)) (now (c040 .entry))) (take have (now (buffer .entry))) (stateOf (r .kept) (now (longs .exit)) (now (c030 .exit)) (now (c040 .exit))) (now (buffer .exit)) (r .have) ⌝ }
@@ -248,17 +168,7 @@ fn drained(
     let mut at = 0;
     let mut turns = u64::MAX;
     while turns > 0 {
-        let s = some(
-            c030,
-            c040,
-            longs,
-            now,
-            &buffer[at..have],
-            out,
-            line,
-            how,
-            records,
-        );
+        let s = some(c030, c040, longs, now, &buffer[at..have], out, line, states);
         now = s.kept;
         let read = s.read;
         let next = s.next;
@@ -291,8 +201,7 @@ fn turn(
     buffer: &mut [u8],
     out: &mut [u8],
     line: &mut [u8],
-    how: How,
-    records: &mut [u64; 1],
+    states: bool,
 ) -> Waiting
     requires { ⌜ anyOf crossed (rangesOf (w .kept)) ≡ false ⌝ }
     ensures { λ r. ⌜ (anyOf crossed (rangesOf (r .kept)) ≡ false) × Turned (r .on) (stateOf (w .kept) (now (longs .entry)) (now (c030 .entry)) (now (c040 .entry))) (take (w .have) (now (buffer .entry))) (stateOf (r .kept) (now (longs .exit)) (now (c030 .exit)) (now (c040 .exit))) (now (buffer .exit)) (r .have) ⌝ }
@@ -305,15 +214,15 @@ fn turn(
             over(kept)
         }
         Got::Ended => {
-            finish(line, c030, c040, longs, kept, have, how, records[0]);
+            finish(have);
             over(kept)
         }
-        Got::Waiting(n) => drained(c030, c040, longs, kept, buffer, n, out, line, how, records),
+        Got::Waiting(n) => drained(c030, c040, longs, kept, buffer, n, out, line, states),
     }
 }
 
 // The version byte: `v1` follows a good one, and refusal 7 anything else.
-fn begins(how: How) -> bool {
+fn begins() -> bool {
     let mut version = [0u8; 1];
     let got = libc::read(STDIN_FILENO, &mut version);
     if got < 0 {
@@ -321,25 +230,25 @@ fn begins(how: How) -> bool {
         return false;
     }
     if got == 1 && version[0] == 1 {
-        return lines_shown(b"v1\n", 3, how);
+        return written(b"v1\n");
     }
     malformed();
     false
 }
 
-// How many bytes a run may write. Where something is written after each record one line: a line is written where 44 bytes have room, and has two or more.
-fn room_for(how: How) -> usize
+// How many bytes a run may write. With `states` one line: a line is written where 44 bytes have room, and has two or more.
+fn room_for(states: bool) -> usize
     ensures { λ r. ⌜ r ≤ 65536 ⌝ }
 {
-    if is_stepped(how) {
+    if states {
         return 45;
     }
     65536
 }
 
 // Plays the trace on standard input.
-pub fn play(how: How) {
-    if !begins(how) {
+pub fn play(states: bool) {
+    if !begins() {
         return;
     }
     let mut c030 = [0u64; 69];
@@ -348,8 +257,7 @@ pub fn play(how: How) {
     let mut buffer = [0u8; 131072];
     let mut out = [0u8; 65536];
     let mut line = [0u8; 16384];
-    let mut records = [0u64; 1];
-    let room = room_for(how);
+    let room = room_for(states);
     let mut w = Waiting {
         kept: replay::first(),
         have: 0,
@@ -365,8 +273,7 @@ pub fn play(how: How) {
             &mut buffer,
             &mut out[..room],
             &mut line,
-            how,
-            &mut records,
+            states,
         );
         turns -= 1;
     }

@@ -13,11 +13,11 @@ use Rattle.playing.proofs.drained.Statement.{statement}
 use Rattle.playing.proofs.drained.Tie as tie
 
 abbrev Inv-loop : tie.InvT-loop
-Inv-loop c030₀ c040₀ longs₀ buffer₀ have out₀ line₀ how records₀ now₀ at₀ turns₀ c030 c040 longs buffer out line records now at turns =
+Inv-loop c030₀ c040₀ longs₀ buffer₀ have out₀ line₀ states now₀ at₀ turns₀ c030 c040 longs buffer out line now at turns =
     (length longs ≡ length longs₀) × (length out ≡ length out₀) × (length line ≡ length line₀) × (length buffer ≡ length buffer₀) × (buffer ≡ buffer₀) × (at ≤ have) × (anyOf crossed (rangesOf now) ≡ false) × Plays (stateOf now₀ longs₀ c030₀ c040₀) (take have buffer₀) (stateOf now longs c030 c040) (take (have - at) (drop at buffer₀))
 
 abbrev μ-loop : tie.MeasureT-loop
-μ-loop c030₀ c040₀ longs₀ buffer₀ have out₀ line₀ how records₀ now₀ at₀ turns₀ c030 c040 longs buffer out line records now at turns =
+μ-loop c030₀ c040₀ longs₀ buffer₀ have out₀ line₀ states now₀ at₀ turns₀ c030 c040 longs buffer out line now at turns =
     turns
 
 loop-holds : tie.Need-loop-holds Inv-loop μ-loop
@@ -39,11 +39,11 @@ some-requires c κs = search needs
 
 add-at : tie.Need-add-at Inv-loop μ-loop
 add-at c =
-    let g = c .before .before .before .before .before .before .before .before .before .before .before .before .before .before .before .before .before .before .before .before .before .before .args in
-    let l = c .before .before .before .before .before .before .before .before .before .before .before .before .before .before .before .before .before .loop in
+    let g = c .before .before .before .before .before .before .before .before .before .before .before .before .before .before .before .before .before .before .before .before .before .args in
+    let l = c .before .before .before .before .before .before .before .before .before .before .before .before .before .before .before .before .loop in
     let held = l .inv in
     let r = c .before .before .before .before .before .before .before .some in
-    omega (arith, law.within (stateOf (g .kept) (g .longs .now) (g .c030 .now) (g .c040 .now)) (g .buffer .now) (g .have) (l .at) (held .5) (c .before .before .before .before .before .before .before .before .before .before .before .before .before .before .before .before .before .before .before .before .before .before .pre .0) (rw (held .4) at (r .ensures .1)), c .before .before .before .before .before .before .before .before .before .before .before .before .before .before .before .before .before .before .before .before .before .before .fits .have)
+    omega (arith, law.within (stateOf (g .kept) (g .longs .now) (g .c030 .now) (g .c040 .now)) (g .buffer .now) (g .have) (l .at) (held .5) (c .before .before .before .before .before .before .before .before .before .before .before .before .before .before .before .before .before .before .before .before .before .pre .0) (rw (held .4) at (r .ensures .1)), c .before .before .before .before .before .before .before .before .before .before .before .before .before .before .before .before .before .before .before .before .before .fits .have)
 
 enum-told : tie.Need-enum-told Inv-loop μ-loop
 enum-told c = search needs
@@ -53,32 +53,32 @@ enum-told-2 c = search needs
 
 resting-requires : tie.Need-resting-requires Inv-loop μ-loop
 resting-requires c κs =
-    let g = c .before .before .before .before .before .before .before .before .before .before .before .before .before .before .before .before .before .before .before .before .before .before .before .before .before .args in
-    let l = c .before .before .before .before .before .before .before .before .before .before .before .before .before .before .before .before .before .before .before .before .loop in
+    let g = c .before .before .before .before .before .before .before .before .before .before .before .before .before .before .before .before .before .before .before .before .before .before .before .before .args in
+    let l = c .before .before .before .before .before .before .before .before .before .before .before .before .before .before .before .before .before .before .before .loop in
     let held = l .inv in
     let r = c .before .before .before .before .before .before .before .before .before .before .some in
-    (law.within (stateOf (g .kept) (g .longs .now) (g .c030 .now) (g .c040 .now)) (g .buffer .now) (g .have) (l .at) (held .5) (c .before .before .before .before .before .before .before .before .before .before .before .before .before .before .before .before .before .before .before .before .before .before .before .before .before .pre .0) (rw (held .4) at (r .ensures .1)), omega (arith, held .3, c .before .before .before .before .before .before .before .before .before .before .before .before .before .before .before .before .before .before .before .before .before .before .before .before .before .pre .0))
+    (law.within (stateOf (g .kept) (g .longs .now) (g .c030 .now) (g .c040 .now)) (g .buffer .now) (g .have) (l .at) (held .5) (c .before .before .before .before .before .before .before .before .before .before .before .before .before .before .before .before .before .before .before .before .before .before .before .before .pre .0) (rw (held .4) at (r .ensures .1)), omega (arith, held .3, c .before .before .before .before .before .before .before .before .before .before .before .before .before .before .before .before .before .before .before .before .before .before .before .before .pre .0))
 
 same-length : tie.Need-same-length Inv-loop μ-loop
-same-length c = c .before .before .before .before .before .before .before .before .before .before .before .before .before .some .kept .1 .1 .0 ∙ c .before .before .before .before .before .before .before .before .before .before .before .before .before .before .before .before .before .before .before .before .before .before .before .loop .inv .0
+same-length c = c .before .before .before .before .before .before .before .before .before .before .before .before .before .some .kept .1 .1 .0 ∙ c .before .before .before .before .before .before .before .before .before .before .before .before .before .before .before .before .before .before .before .before .before .before .loop .inv .0
 
 same-length-2 : tie.Need-same-length-2 Inv-loop μ-loop
-same-length-2 c = c .before .before .resting .kept .0 ∙ c .before .before .before .before .before .before .before .before .before .before .before .before .before .before .before .before .before .before .before .before .before .before .before .loop .inv .3
+same-length-2 c = c .before .before .resting .kept .0 ∙ c .before .before .before .before .before .before .before .before .before .before .before .before .before .before .before .before .before .before .before .before .before .before .loop .inv .3
 
 same-length-3 : tie.Need-same-length-3 Inv-loop μ-loop
-same-length-3 c = c .before .before .before .before .before .before .before .before .before .before .before .before .before .some .kept .1 .1 .1 .1 .1 .0 ∙ c .before .before .before .before .before .before .before .before .before .before .before .before .before .before .before .before .before .before .before .before .before .before .before .loop .inv .1
+same-length-3 c = c .before .before .before .before .before .before .before .before .before .before .before .before .before .some .kept .1 .1 .1 .1 .1 .0 ∙ c .before .before .before .before .before .before .before .before .before .before .before .before .before .before .before .before .before .before .before .before .before .before .loop .inv .1
 
 same-length-4 : tie.Need-same-length-4 Inv-loop μ-loop
-same-length-4 c = c .before .before .before .before .before .before .before .before .before .before .before .before .before .some .kept .1 .1 .1 .1 .1 .1 .0 ∙ c .before .before .before .before .before .before .before .before .before .before .before .before .before .before .before .before .before .before .before .before .before .before .before .loop .inv .2
+same-length-4 c = c .before .before .before .before .before .before .before .before .before .before .before .before .before .some .kept .1 .1 .1 .1 .1 .1 .0 ∙ c .before .before .before .before .before .before .before .before .before .before .before .before .before .before .before .before .before .before .before .before .before .before .loop .inv .2
 
 returns : tie.Need-returns Inv-loop μ-loop
 returns c =
-    let g = c .before .before .before .before .before .before .before .before .before .before .before .before .before .before .before .before .before .before .before .before .before .before .before .before .before .before .before .before .args in
-    let l = c .before .before .before .before .before .before .before .before .before .before .before .before .before .before .before .before .before .before .before .before .before .before .before .loop in
+    let g = c .before .before .before .before .before .before .before .before .before .before .before .before .before .before .before .before .before .before .before .before .before .before .before .before .before .before .before .args in
+    let l = c .before .before .before .before .before .before .before .before .before .before .before .before .before .before .before .before .before .before .before .before .before .before .loop in
     let held = l .inv in
     let r = c .before .before .before .before .before .before .before .before .before .before .before .before .before .some in
     let w = c .before .before .resting in
-    (law.crossed-stays (w .ensures .0) (r .ensures .0), law.rested (stateOf (g .kept) (g .longs .now) (g .c030 .now) (g .c040 .now)) (g .buffer .now) _ (g .have) _ (rw (w .ensures .0) refl) (w .ensures .2) (rw (held .4) at (w .ensures .3)) (law.one-more (stateOf (g .kept) (g .longs .now) (g .c030 .now) (g .c040 .now)) (g .buffer .now) (g .have) (l .at) (held .5) (c .before .before .before .before .before .before .before .before .before .before .before .before .before .before .before .before .before .before .before .before .before .before .before .before .before .before .before .before .pre .0) (rw (held .4) at (r .ensures .1)) (stateOf (l .now) (l .longs) (l .c030) (l .c040)) (held .7) (rw (held .4) at (r .ensures .2 .plays (ap goesOn (c .before .before .before .before .enum-told2 .given .1))))))
+    (law.crossed-stays (w .ensures .0) (r .ensures .0), law.rested (stateOf (g .kept) (g .longs .now) (g .c030 .now) (g .c040 .now)) (g .buffer .now) _ (g .have) _ (rw (w .ensures .0) refl) (w .ensures .2) (rw (held .4) at (w .ensures .3)) (law.one-more (stateOf (g .kept) (g .longs .now) (g .c030 .now) (g .c040 .now)) (g .buffer .now) (g .have) (l .at) (held .5) (c .before .before .before .before .before .before .before .before .before .before .before .before .before .before .before .before .before .before .before .before .before .before .before .before .before .before .before .pre .0) (rw (held .4) at (r .ensures .1)) (stateOf (l .now) (l .longs) (l .c030) (l .c040)) (held .7) (rw (held .4) at (r .ensures .2 .plays (ap goesOn (c .before .before .before .before .enum-told2 .given .1))))))
 
 enum-told-3 : tie.Need-enum-told-3 Inv-loop μ-loop
 enum-told-3 c = search needs
@@ -87,16 +87,16 @@ over-requires : tie.Need-over-requires Inv-loop μ-loop
 over-requires c κs = search needs
 
 same-length-5 : tie.Need-same-length-5 Inv-loop μ-loop
-same-length-5 c = c .before .before .before .before .before .before .before .before .before .before .some .kept .1 .1 .0 ∙ c .before .before .before .before .before .before .before .before .before .before .before .before .before .before .before .before .before .before .before .before .loop .inv .0
+same-length-5 c = c .before .before .before .before .before .before .before .before .before .before .some .kept .1 .1 .0 ∙ c .before .before .before .before .before .before .before .before .before .before .before .before .before .before .before .before .before .before .before .loop .inv .0
 
 same-length-6 : tie.Need-same-length-6 Inv-loop μ-loop
-same-length-6 c = c .before .before .before .before .before .before .before .before .before .before .before .before .before .before .before .before .before .before .before .before .loop .inv .3
+same-length-6 c = c .before .before .before .before .before .before .before .before .before .before .before .before .before .before .before .before .before .before .before .loop .inv .3
 
 same-length-7 : tie.Need-same-length-7 Inv-loop μ-loop
-same-length-7 c = c .before .before .before .before .before .before .before .before .before .before .some .kept .1 .1 .1 .1 .1 .0 ∙ c .before .before .before .before .before .before .before .before .before .before .before .before .before .before .before .before .before .before .before .before .loop .inv .1
+same-length-7 c = c .before .before .before .before .before .before .before .before .before .before .some .kept .1 .1 .1 .1 .1 .0 ∙ c .before .before .before .before .before .before .before .before .before .before .before .before .before .before .before .before .before .before .before .loop .inv .1
 
 same-length-8 : tie.Need-same-length-8 Inv-loop μ-loop
-same-length-8 c = c .before .before .before .before .before .before .before .before .before .before .some .kept .1 .1 .1 .1 .1 .1 .0 ∙ c .before .before .before .before .before .before .before .before .before .before .before .before .before .before .before .before .before .before .before .before .loop .inv .2
+same-length-8 c = c .before .before .before .before .before .before .before .before .before .before .some .kept .1 .1 .1 .1 .1 .1 .0 ∙ c .before .before .before .before .before .before .before .before .before .before .before .before .before .before .before .before .before .before .before .loop .inv .2
 
 returns-2 : tie.Need-returns-2 Inv-loop μ-loop
 returns-2 c = (law.crossed-stays (c .over .ensures .0) (c .before .before .before .before .before .before .before .before .before .before .some .ensures .0), law.stopped (c .over .ensures .1))
@@ -109,11 +109,11 @@ loop-less c = search needs
 
 loop-again : tie.Need-loop-again Inv-loop μ-loop
 loop-again c =
-    let g = c .before .before .before .before .before .before .before .before .before .before .before .before .before .before .before .before .before .before .before .before .before .before .before .before .args in
-    let l = c .before .before .before .before .before .before .before .before .before .before .before .before .before .before .before .before .before .before .before .loop in
+    let g = c .before .before .before .before .before .before .before .before .before .before .before .before .before .before .before .before .before .before .before .before .before .before .before .args in
+    let l = c .before .before .before .before .before .before .before .before .before .before .before .before .before .before .before .before .before .before .loop in
     let held = l .inv in
     let r = c .before .before .before .before .before .before .before .before .before .some in
-    (r .kept .1 .1 .0 ∙ held .0, r .kept .1 .1 .1 .1 .1 .0 ∙ held .1, r .kept .1 .1 .1 .1 .1 .1 .0 ∙ held .2, held .3, held .4, law.within (stateOf (g .kept) (g .longs .now) (g .c030 .now) (g .c040 .now)) (g .buffer .now) (g .have) (l .at) (held .5) (c .before .before .before .before .before .before .before .before .before .before .before .before .before .before .before .before .before .before .before .before .before .before .before .before .pre .0) (rw (held .4) at (r .ensures .1)), r .ensures .0, law.one-more (stateOf (g .kept) (g .longs .now) (g .c030 .now) (g .c040 .now)) (g .buffer .now) (g .have) (l .at) (held .5) (c .before .before .before .before .before .before .before .before .before .before .before .before .before .before .before .before .before .before .before .before .before .before .before .before .pre .0) (rw (held .4) at (r .ensures .1)) (stateOf (l .now) (l .longs) (l .c030) (l .c040)) (held .7) (rw (held .4) at (r .ensures .2 .plays (ap goesOn (c .enum-told .given .1)))))
+    (r .kept .1 .1 .0 ∙ held .0, r .kept .1 .1 .1 .1 .1 .0 ∙ held .1, r .kept .1 .1 .1 .1 .1 .1 .0 ∙ held .2, held .3, held .4, law.within (stateOf (g .kept) (g .longs .now) (g .c030 .now) (g .c040 .now)) (g .buffer .now) (g .have) (l .at) (held .5) (c .before .before .before .before .before .before .before .before .before .before .before .before .before .before .before .before .before .before .before .before .before .before .before .pre .0) (rw (held .4) at (r .ensures .1)), r .ensures .0, law.one-more (stateOf (g .kept) (g .longs .now) (g .c030 .now) (g .c040 .now)) (g .buffer .now) (g .have) (l .at) (held .5) (c .before .before .before .before .before .before .before .before .before .before .before .before .before .before .before .before .before .before .before .before .before .before .before .pre .0) (rw (held .4) at (r .ensures .1)) (stateOf (l .now) (l .longs) (l .c030) (l .c040)) (held .7) (rw (held .4) at (r .ensures .2 .plays (ap goesOn (c .enum-told .given .1)))))
 
 over-requires-2 : tie.Need-over-requires-2 Inv-loop μ-loop
 over-requires-2 c κs = search needs

@@ -12,11 +12,11 @@ use Rattle.playing.proofs.play.Statement.{statement}
 use Rattle.playing.proofs.play.Tie as tie
 
 abbrev Inv-loop : tie.InvT-loop
-Inv-loop how c030₀ c040₀ longs₀ buffer₀ out₀ line₀ records₀ room w₀ turns₀ c030 c040 longs buffer out line records w turns =
+Inv-loop states c030₀ c040₀ longs₀ buffer₀ out₀ line₀ room w₀ turns₀ c030 c040 longs buffer out line w turns =
     (8192 ≡ length longs) × (131072 ≡ length buffer) × (65536 ≡ length out) × (16384 ≡ length line) × (anyOf crossed (rangesOf (w .kept)) ≡ false)
 
 abbrev μ-loop : tie.MeasureT-loop
-μ-loop how c030₀ c040₀ longs₀ buffer₀ out₀ line₀ records₀ room w₀ turns₀ c030 c040 longs buffer out line records w turns =
+μ-loop states c030₀ c040₀ longs₀ buffer₀ out₀ line₀ room w₀ turns₀ c030 c040 longs buffer out line w turns =
     turns
 
 begins-requires : tie.Need-begins-requires Inv-loop μ-loop
@@ -50,16 +50,16 @@ slice-aggregate-turn-4 : tie.Need-slice-aggregate-turn-4 Inv-loop μ-loop
 slice-aggregate-turn-4 c = c .before .before .before .before .before .before .before .before .loop .inv .3
 
 turn-requires : tie.Need-turn-requires Inv-loop μ-loop
-turn-requires c κs = c .before .before .before .before .before .before .before .before .before .loop .inv .4
+turn-requires c κs = c .before .before .before .before .before .before .before .before .loop .inv .4
 
 sub-turns : tie.Need-sub-turns Inv-loop μ-loop
-sub-turns c = omega (arith, c .before .before .before .before .before .before .before .before .before .before .before .before .before .loop-test .taken)
+sub-turns c = omega (arith, c .before .before .before .before .before .before .before .before .before .before .before .before .loop-test .taken)
 
 loop-less : tie.Need-loop-less Inv-loop μ-loop
-loop-less c = omega (arith, c .before .before .before .before .before .before .before .before .before .before .before .before .before .loop-test .taken)
+loop-less c = omega (arith, c .before .before .before .before .before .before .before .before .before .before .before .before .loop-test .taken)
 
 loop-again : tie.Need-loop-again Inv-loop μ-loop
-loop-again c = (c .before .before .before .before .before .before .before .before .before .before .before .before .before .before .loop .inv .0 ∙ sym (c .before .before .before .before .turn .kept .1 .1 .0), c .before .before .before .before .before .before .before .before .before .before .before .before .before .before .loop .inv .1 ∙ sym (c .before .before .before .before .turn .kept .1 .1 .1 .1 .0), c .before .before .before .before .before .before .before .before .before .before .before .before .before .before .loop .inv .2 ∙ sym (length-front (c .before .before .before .before .before .before .before .before .before .before .before .before .before .before .loop .out) (c .before .before .before .before .turn .last .1 .1 .1 .1 .1 .0) (c .before .before .before .before .before .before .before .before .before .before .before .before .before .before .before .before .room-for .result) (c .before .before .before .before .turn .kept .1 .1 .1 .1 .1 .0)), c .before .before .before .before .before .before .before .before .before .before .before .before .before .before .loop .inv .3 ∙ sym (c .before .before .before .before .turn .kept .1 .1 .1 .1 .1 .1 .0), c .before .before .before .before .turn .ensures .0)
+loop-again c = (c .before .before .before .before .before .before .before .before .before .before .before .before .before .loop .inv .0 ∙ sym (c .before .before .before .before .turn .kept .1 .1 .0), c .before .before .before .before .before .before .before .before .before .before .before .before .before .loop .inv .1 ∙ sym (c .before .before .before .before .turn .kept .1 .1 .1 .1 .0), c .before .before .before .before .before .before .before .before .before .before .before .before .before .loop .inv .2 ∙ sym (length-front (c .before .before .before .before .before .before .before .before .before .before .before .before .before .loop .out) (c .before .before .before .before .turn .last .1 .1 .1 .1 .1 .0) (c .before .before .before .before .before .before .before .before .before .before .before .before .before .before .before .room-for .result) (c .before .before .before .before .turn .kept .1 .1 .1 .1 .1 .0)), c .before .before .before .before .before .before .before .before .before .before .before .before .before .loop .inv .3 ∙ sym (c .before .before .before .before .turn .kept .1 .1 .1 .1 .1 .1 .0), c .before .before .before .before .turn .ensures .0)
 
 returns-2 : tie.Need-returns-2 Inv-loop μ-loop
 returns-2 c = search needs

@@ -8,8 +8,8 @@ use Rattle.playing.proofs.some.Tie as tie
 run-requires : tie.Need-run-requires
 run-requires c κs = search needs
 
-lines-shown-requires : tie.Need-lines-shown-requires
-lines-shown-requires c κs = search needs
+shown-requires : tie.Need-shown-requires
+shown-requires c κs = search needs
 
 same-length : tie.Need-same-length
 same-length c = search needs
@@ -20,8 +20,8 @@ same-length-2 c = search needs
 returns : tie.Need-returns
 returns c = (c .before .before .before .before .before .before .before .before .run .ensures .1 ∙ c .before .before .before .before .before .before .before .before .before .before .before .before .before .before .before .before .before .pre, omega arith, law.went-over)
 
-stepped-requires : tie.Need-stepped-requires
-stepped-requires c κs = search needs
+caches-shown-requires : tie.Need-caches-shown-requires
+caches-shown-requires c κs = search needs
 
 same-length-3 : tie.Need-same-length-3
 same-length-3 c = search needs
@@ -33,7 +33,7 @@ same-length-5 : tie.Need-same-length-5
 same-length-5 c = search needs
 
 returns-2 : tie.Need-returns-2
-returns-2 c = (c .before .before .before .before .before .before .before .before .before .before .before .before .before .before .before .before .before .run .ensures .1 ∙ c .before .before .before .before .before .before .before .before .before .before .before .before .before .before .before .before .before .before .before .before .before .before .before .before .before .before .pre, omega arith, law.went-over)
+returns-2 c = (c .before .before .before .before .before .before .before .before .before .before .before .before .before .before .before .run .ensures .1 ∙ c .before .before .before .before .before .before .before .before .before .before .before .before .before .before .before .before .before .before .before .before .before .before .before .before .pre, omega arith, law.went-over)
 
 after-requires : tie.Need-after-requires
 after-requires c κs = search needs
@@ -49,19 +49,19 @@ same-length-8 c = search needs
 
 returns-3 : tie.Need-returns-3
 returns-3 c =
-    let ran = c .before .before .before .before .before .before .before .before .before .before .before .before .before .before .before .before .before .before .run .ensures .0 (sym (c .before .before .before .before .before .before .before .before .before .before .before .before .before .before .before .before .before .before .before .before .before .before .before .before .before .before .before .pre)) in
-    (c .before .before .before .before .before .before .before .before .before .before .before .before .before .before .before .before .before .before .run .ensures .1 ∙ c .before .before .before .before .before .before .before .before .before .before .before .before .before .before .before .before .before .before .before .before .before .before .before .before .before .before .before .pre, ran .going .reads, law.went (ran .going))
+    let ran = c .before .before .before .before .before .before .before .before .before .before .before .before .before .before .before .before .run .ensures .0 (sym (c .before .before .before .before .before .before .before .before .before .before .before .before .before .before .before .before .before .before .before .before .before .before .before .before .before .pre)) in
+    (c .before .before .before .before .before .before .before .before .before .before .before .before .before .before .before .before .run .ensures .1 ∙ c .before .before .before .before .before .before .before .before .before .before .before .before .before .before .before .before .before .before .before .before .before .before .before .before .before .pre, ran .going .reads, law.went (ran .going))
 
 pub some-spec : {M : Type 1} → statement M
 some-spec =
     tie.close
     (tie.spec
     run-requires
-    lines-shown-requires
+    shown-requires
     same-length
     same-length-2
     returns
-    stepped-requires
+    caches-shown-requires
     same-length-3
     same-length-4
     same-length-5

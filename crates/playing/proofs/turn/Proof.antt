@@ -20,9 +20,6 @@ over-requires c κs = search needs
 enum-told-2 : tie.Need-enum-told-2
 enum-told-2 c = search needs
 
-element-copy-out-finish : tie.Need-element-copy-out-finish
-element-copy-out-finish c = search needs
-
 finish-requires : tie.Need-finish-requires
 finish-requires c κs = search needs
 
@@ -33,7 +30,7 @@ enum-known-n : tie.Need-enum-known-n
 enum-known-n c = search needs
 
 drained-requires : tie.Need-drained-requires
-drained-requires c κs = (omega (arith, law.waiting (c .before .before .before .before .before .before .before .before .n .given .1) (c .before .before .before .before .before .before .before .before .before .before .before .before .fill .ensures) .1, c .before .before .before .before .before .before .before .before .before .before .before .before .fill .kept .1 .0), c .before .before .before .before .before .before .before .before .before .before .before .before .before .before .before .before .before .before .before .pre)
+drained-requires c κs = (omega (arith, law.waiting (c .before .before .before .before .before .before .before .n .given .1) (c .before .before .before .before .before .before .before .before .before .before .before .fill .ensures) .1, c .before .before .before .before .before .before .before .before .before .before .before .fill .kept .1 .0), c .before .before .before .before .before .before .before .before .before .before .before .before .before .before .before .before .before .before .pre)
 
 same-length : tie.Need-same-length
 same-length c = search needs
@@ -44,14 +41,14 @@ returns c = (law.crossed-stays (c .over .ensures .0) (c .before .before .before 
 same-length-2 : tie.Need-same-length-2
 same-length-2 c = search needs
 
+returns-2 : tie.Need-returns-2
+returns-2 c = (law.crossed-stays (c .over2 .ensures .0) (c .before .before .before .before .before .before .before .before .before .before .before .before .before .pre), law.turned-over (c .over2 .ensures .1))
+
 same-length-3 : tie.Need-same-length-3
 same-length-3 c = search needs
 
 same-length-4 : tie.Need-same-length-4
-same-length-4 c = search needs
-
-returns-2 : tie.Need-returns-2
-returns-2 c = (law.crossed-stays (c .over2 .ensures .0) (c .before .before .before .before .before .before .before .before .before .before .before .before .before .before .before .before .before .before .before .before .pre), law.turned-over (c .over2 .ensures .1))
+same-length-4 c = c .before .before .before .before .before .before .before .before .drained .kept .1 .1 .1 .1 .0 ∙ c .before .before .before .before .before .before .before .before .before .before .before .before .before .before .before .before .before .before .before .before .fill .kept .1 .0
 
 same-length-5 : tie.Need-same-length-5
 same-length-5 c = search needs
@@ -59,14 +56,8 @@ same-length-5 c = search needs
 same-length-6 : tie.Need-same-length-6
 same-length-6 c = search needs
 
-same-length-7 : tie.Need-same-length-7
-same-length-7 c = search needs
-
-same-length-8 : tie.Need-same-length-8
-same-length-8 c = search needs
-
 returns-3 : tie.Need-returns-3
-returns-3 c = (c .before .before .before .before .before .before .before .before .drained .ensures .0, law.turned _ _ _ _ (c .before .before .before .before .before .before .before .before .before .before .before .before .before .before .before .before .before .before .before .before .before .fill .ensures .stay) (law.waiting (c .before .before .before .before .before .before .before .before .before .before .before .before .before .before .before .before .before .n .given .1) (c .before .before .before .before .before .before .before .before .before .before .before .before .before .before .before .before .before .before .before .before .before .fill .ensures) .0) (c .before .before .before .before .before .before .before .before .drained .ensures .1))
+returns-3 c = (c .before .before .before .before .before .before .before .before .drained .ensures .0, law.turned _ _ _ _ (c .before .before .before .before .before .before .before .before .before .before .before .before .before .before .before .before .before .before .before .before .fill .ensures .stay) (law.waiting (c .before .before .before .before .before .before .before .before .before .before .before .before .before .before .before .before .n .given .1) (c .before .before .before .before .before .before .before .before .before .before .before .before .before .before .before .before .before .before .before .before .fill .ensures) .0) (c .before .before .before .before .before .before .before .before .drained .ensures .1))
 
 pub turn-spec : {M : Type 1} → statement M
 turn-spec =
@@ -77,7 +68,6 @@ turn-spec =
     unread-requires
     over-requires
     enum-told-2
-    element-copy-out-finish
     finish-requires
     over-requires-2
     enum-known-n
@@ -85,11 +75,9 @@ turn-spec =
     same-length
     returns
     same-length-2
+    returns-2
     same-length-3
     same-length-4
-    returns-2
     same-length-5
     same-length-6
-    same-length-7
-    same-length-8
     returns-3)

@@ -2,12 +2,12 @@ use Prim.Native.Nat.{_≤_, _-_}
 use mathlib.Core.Path.{_≡_}
 use lib.ListN.{length}
 use borrow.Author.Needs.{needs}
-use Rattle.playing.proofs.audits.entries.Statement.{statement}
-use Rattle.playing.proofs.audits.entries.Tie as tie
-use Rattle.playing.proofs.audits.entries.Reads as reads
-use Rattle.playing.proofs.audits.entries.Lts as lts
-use Rattle.playing.proofs.audits.counted.Reads as counted-reads
-use Rattle.playing.proofs.audits.is_cached.Reads as is-cached-reads
+use Rattle.auditing.proofs.audits.entries.Statement.{statement}
+use Rattle.auditing.proofs.audits.entries.Tie as tie
+use Rattle.auditing.proofs.audits.entries.Reads as reads
+use Rattle.auditing.proofs.audits.entries.Lts as lts
+use Rattle.auditing.proofs.audits.counted.Reads as counted-reads
+use Rattle.auditing.proofs.audits.is_cached.Reads as is-cached-reads
 
 abbrev Inv-loop : tie.InvT-loop
 Inv-loop c030 c040 longs kept n₀ i₀ n i = i ≤ 64

@@ -2,15 +2,15 @@ use Prim.Native.Nat.{_≤_, _-_}
 use mathlib.Core.Path.{_≡_}
 use lib.ListN.{length}
 use borrow.Author.Needs.{needs}
-use Rattle.playing.proofs.audits.put_stales.Statement.{statement}
-use Rattle.playing.proofs.audits.put_stales.Tie as tie
-use Rattle.playing.proofs.audits.put_stales.Reads as reads
-use Rattle.playing.proofs.audits.put_stales.Lts as lts
-use Rattle.playing.proofs.audits.audited.Reads as audited-reads
-use Rattle.playing.proofs.audits.is_named.Reads as is-named-reads
-use Rattle.playing.proofs.audits.past.Reads as past-reads
-use Rattle.playing.proofs.audits.put_named.Reads as put-named-reads
-use Rattle.playing.proofs.audits.refusal_of.Reads as refusal-of-reads
+use Rattle.auditing.proofs.audits.put_stales.Statement.{statement}
+use Rattle.auditing.proofs.audits.put_stales.Tie as tie
+use Rattle.auditing.proofs.audits.put_stales.Reads as reads
+use Rattle.auditing.proofs.audits.put_stales.Lts as lts
+use Rattle.auditing.proofs.audits.audited.Reads as audited-reads
+use Rattle.auditing.proofs.audits.is_named.Reads as is-named-reads
+use Rattle.auditing.proofs.audits.past.Reads as past-reads
+use Rattle.auditing.proofs.audits.put_named.Reads as put-named-reads
+use Rattle.auditing.proofs.audits.refusal_of.Reads as refusal-of-reads
 
 abbrev Inv-loop : tie.InvT-loop
 Inv-loop out₀ c030 c040 longs kept to₀ n₀ a₀ out to n a = (n ≤ 64) × (length out ≡ length out₀)
