@@ -35,7 +35,7 @@ def kept(array, count, ends):
         return f'law.{name} x{count} x{array} ({length}) {facts("of_sixteen")}'
 
     return dict(
-        law='Sixteen',
+        law='Fronts',
         count=lambda facts: law('count', facts),
         room=lambda facts: law('room', facts),
         length=length,
@@ -46,11 +46,22 @@ def kept(array, count, ends):
 # of the arrays that are lent x1 and x2, x3 and x4 are the longs and the base
 LENT = '(cachesOf (now x1) (now x2))'
 
+# x1, x2 and x3 are the longs, the base and the ranges, x4 the registers, x5 the address, x6 the way
+def walked(facts):
+    given = f'(memory (now x1) x2 (now x3)) x4 x5 x6 {facts("match")}'
+    if facts.has('by_030'):
+        return f'law.walks-030 {given} {facts("every_level", "walk", "by_030")}'
+    if facts.has('by_040'):
+        return f'law.walks-040 {given} {facts("walk", "by_040")}'
+    return f'law.idles {given} {facts("idle")}'
+
+
 FUNCTIONS = {
+    'walking.walk_for': dict(law='Ways', ends=walked),
     'audit_lent': audited('(memory (now x3) x4 (now x5)) x6 (now x1) (now x2) x7', 10, 'begin', 'next_at'),
     'finding.finding_lent': found('x6 (memory (now x3) x4 (now x5)) (now x1) (now x2) x7 x8', 'refusal', 'looked_at'),
     'by_value.audit': audited('(memory (now x1) x2 (now x3)) x4 (x5 .c030) (x5 .c040) x6', 9, 'begin_in', 'next_in'),
     'by_value.finding': found('x4 (memory (now x1) x2 (now x3)) (x5 .c030) (x5 .c040) x6 x7', 'refusal_in', 'looked_in'),
-    'kept.audit_kept': kept(5, 6, lambda facts: f'{facts("audit_lent")} ∙ ap (λ (l : List Range). auditFrom x7 (memory (now x3) x4 l) {LENT} x8)'),
-    'kept.finding_kept': kept(5, 6, lambda facts: f'{facts("finding_lent")} ∙ ap (λ (l : List Range). findingOf x7 (memory (now x3) x4 l) {LENT} x8 x9)'),
+    'sixteen.audit_kept': kept(5, 6, lambda facts: f'{facts("audit_lent")} ∙ ap (λ (l : List Range). auditFrom x7 (memory (now x3) x4 l) {LENT} x8)'),
+    'sixteen.finding_kept': kept(5, 6, lambda facts: f'{facts("finding_lent")} ∙ ap (λ (l : List Range). findingOf x7 (memory (now x3) x4 l) {LENT} x8 x9)'),
 }

@@ -4,17 +4,17 @@ MEMORY = '(memory (now x1) x2 (now x3))'
 
 # x4 are the registers, x5 the access, x6 the caches
 def translated(facts):
-    return f'law.translates x4 x5 {MEMORY} x6 {facts("bad_longs", "any_crossed", "planned", "address_of", "wanted", "walk_for", "concluded")}'
+    return f'law.translates x4 x5 {MEMORY} x6 {facts("any_crossed", "c030_of", "c040_of", "translate", "with_pair")}'
 
 
 # x4 are the registers, x5 the code, x6 whether it is a write, x7 the address, x8 the caches
 def loaded(facts):
-    return f'law.loads x4 x5 x7 x8 _ _ {facts("planned_load")} x6 {MEMORY} {facts("bad_longs", "any_crossed", "wanted", "walk_for", "concluded_load")}'
+    return f'law.loads x4 x5 x6 x7 {MEMORY} x8 {facts("any_crossed", "c030_of", "c040_of", "load", "load_with_pair")}'
 
 
 # x4 are the registers, x5 the code, x6 whether it is a write, x7 the level, x8 the address
 def tested(facts):
-    return f'law.tests x4 x5 x8 {MEMORY} x6 x7 {facts("bad_longs", "any_crossed", "plan_test", "way_of", "tc_of", "root_for", "walk_030_for", "conclude_test")}'
+    return f'law.tests x4 x5 x6 x7 x8 {MEMORY} {facts("any_crossed", "test")}'
 
 
 FUNCTIONS = {

@@ -41,4 +41,9 @@ FUNCTIONS = {
             ends=ends030,
         ),
     ),
+    # x4 are the registers, x5 the address, x6 the code, x7 the limit
+    'walk': dict(
+        law='Driving',
+        ends=lambda facts: f'law.from-root {MEMORY} x4 x5 x6 x7 {facts("tc_of", "root_of", "walk_030")}',
+    ),
 }

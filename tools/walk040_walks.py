@@ -37,4 +37,9 @@ FUNCTIONS = {
             ends=ends040,
         ),
     ),
+    # x4 are the registers, x5 the address, x6 whether it is a supervisor's
+    'walk': dict(
+        law='Driving',
+        ends=lambda facts: f'law.from-root {MEMORY} x4 x5 x6 {facts("tc_of", "root_at", "walk_040")}',
+    ),
 }

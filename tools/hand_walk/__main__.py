@@ -14,7 +14,7 @@ A thin function has parameters that are numbers, bools, structs, enums and array
 - at most one loop, left by a `while`'s test or by `if c { .. break x; }`, as often as it is wanted;
 - in the loop, as the last statement of a turn, a `match` on a local that is an enum, an arm for each variant; an arm goes on or breaks;
 - a variant of an enum, its fields whole locals: `End::Page { field, consumed }`;
-- outside the loop, a `match` on a local that is an enum, an arm for each variant, and after it at most a copy and the return;
+- or a `match` on a parameter that is an enum and nothing else, an arm for each variant; then it is lent no `&mut`;
 - `&list[..n]` of a local array, handed to the next call; `&mut list` of a local, handed to the next call;
 - `let b = *r;` and `*r = b;` of a `&mut`, outside the loop;
 - calls that are lent a `&mut` parameter as `&mut`, each callee once, outside the loop.

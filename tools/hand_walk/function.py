@@ -22,6 +22,7 @@ class Printer:
         self.facts = Facts()
         self.lent = None             # the array that is lent until the next call has returned
         self.lends = False
+        self.closing = None          # what follows a `match` outside the loop
         self.onward = None           # the step to what follows a `match`, until it is taken
         self.made = self.f.lifetimes      # the next lifetime that is made here
         self.names = 0
@@ -56,6 +57,15 @@ class Printer:
     def kept_names(self):
         """what stands at the exit: tokens, slices, and the two parts of each `&mut`"""
         return numbered('T', self.lifetimes) + numbered('S', self.shared) + [x for i in self.muts for x in (f'obs{i}', f'bor{i}')]
+
+    def kept_items(self):
+        """the same as assertions, where y1, .. are the last values"""
+        kept = [f'‵ (flft κ{k} q{k})' for k in self.lifetimes] + [f'‵ ({self.owned(i)})' for i in self.shared]
+        for i in self.muts:
+            p = self.param(i)
+            kept.append(f'‵ (fobs (x{i} .name) ({p.elem.row()} .coded .code y{i}))')
+            kept.append(f'‵ (fbor κ{p.lifetime} (Behind (mem-of {p.elem.row()}) (x{i} .ptr .0) (x{i} .ptr .1) (x{i} .name)))')
+        return kept
 
     # ---------- a statement
     def statement(self, w, s, last=False):
@@ -398,7 +408,7 @@ class Printer:
         loads = 'no-more !'
         for local in reversed(passed):
             loads = f'and-then ! ({w.look(local)}) ({loads})'
-        u, r, e, is_ = self.fresh('u'), self.fresh('r'), self.fresh('e'), self.fresh('is')
+        u, r, e, is_ = self.fresh('val'), self.fresh('r'), self.fresh('e'), self.fresh('is')
         result = f.result
         kappas, xs = tuple_of([self.kappa(j) for j in lifetimes]), tuple_of([value.x for value in values])
         muts = [j for j, p in enumerate(params) if p.kind == 'mutref']
@@ -582,7 +592,7 @@ class Printer:
                 self.loop(w, statements(s[1][1]), body[k + 1:])
                 break
             if s[0] == 'switch':
-                self.concluding(w, s, body[k + 1:], f'parts.t-{k + 2}')
+                self.concluding(w, s, body[k + 1:], k)
                 break
             if s[0] == 'if':
                 self.returning(w, s)
@@ -678,22 +688,67 @@ class Printer:
         """a `match` at the end of a turn; each arm is what is left of it"""
         self.match(w, s, lambda arm, body: self.turning(arm, body, h, order, others))
 
-    def concluding(self, w, s, rest, named):
-        """a `match` outside the loop, and what follows it, which each arm walks on to by itself"""
-        environment = list_of(f'({t.mir()}, l{i})' for i, t in enumerate(self.f.locals))
+    def concluding(self, w, s, rest, first):
+        """a function that is one `match`, and what follows it. It is walked in two lemmas: `matched`, and `concludes`, which each arm ends with"""
+        if first or self.muts:
+            raise SystemExit('a `match` outside the loop is all that its function does, and it is lent no `&mut`')
+        source = place(rest[0][2][1][1])[0]      # what follows is `result = source; return`
+        matched = place(s[1][1])[0]
+        order = numbered('L', self.locals) + numbered('D', self.locals) + self.kept_names()
+        others = [i for i in self.locals if not 1 <= i <= self.f.nparams and i != source]
+        head = Walk(self)
+        head.context = list(order)
+        head.values = {i: w.values[i] for i in range(1, self.f.nparams + 1)}
+        self.closing = dict(source=source, order=order, rest=rest, head=head, values=dict(head.values))
 
         def arm_of(arm, body):
             for s2 in body[:-1]:
                 self.statement(arm, s2)
-            self.onward = f'exec ! C Λ ({environment}) {named} (atRet ({environment}) Post)'
+            self.onward = 'exec ! C Λ En parts.t-2 (atRet En Post)'
             self.statement(arm, body[-1], last=True)
             self.go_on(arm)
-            for s2 in rest[:-1]:
-                self.statement(arm, s2)
-            self.leave(arm, self.own['ends'](self.facts))
+            result, enum = arm.values[source], arm.values[matched]
+            arm.say(f'rewrite ! {arm.cell(matched)} (λ (u : {enum.type.denotation()}). ‵ (fat fullShare {enum.type.mir()} l{matched} 0 ({enum.type.value("u")}))) '
+                    f'(sym {enum.known}) refl')
+            self.forget(arm, others)
+            arm.keep(order)
+            arm.say(f'concludes {par(result.x)} {par(result.i)} {par(self.own["ends"](self.facts))}')
 
-        w.say('first !')
-        self.match(w, s, arm_of)
+        head.say('first !')
+        self.match(head, s, arm_of)
+        w.keep(order)
+        w.say(f'matched {" ".join(numbered("l", self.locals))}')
+
+    def closing_lemmas(self):
+        """from the `match` on: the parameters are there, and room for all else; and what follows it, from what every arm leaves"""
+        closing, f = self.closing, self.f
+        source, result = closing['source'], f.result
+        w = Walk(self)
+        w.context = list(closing['order'])
+        w.values = {**closing['values'], source: Value(f.locals[source], 'r', f.locals[source].value('r'), 'is')}
+
+        def items(values):
+            cells = [f'‵ (fat fullShare {t.mir()} l{i} 0 ({values[i].v}))' if i in values else f'‵ (froom {t.mir()} l{i} 0)' for i, t in enumerate(f.locals)]
+            return list_of(cells + [f'‵ (fdies {t.mir()} l{i})' for i, t in enumerate(f.locals)] + self.kept_items())
+
+        left, entered = items(w.values), items(closing['values'])
+        for s in closing['rest'][:-1]:
+            self.statement(w, s)
+        self.leave(w, 'e')
+        cells = list_of(f'({t.mir()}, l{i})' for i, t in enumerate(f.locals))
+        return f'''    module _ ({' '.join(numbered('l', self.locals))} : ℕ) where
+      abbrev En : Env 𝓤 H
+      En = {cells}
+
+      concludes : (r : {result.denotation()}) → Is {result.row()} r ({result.value('r')} ∷ []) → {par(self.contract.says(self.xs, 'r'))}
+          → Sq W ({left}) (runs C Λ En parts.t-2 (atRet En Post))
+      concludes r is e =
+        {w.text()}
+
+      matched : Sq W ({entered}) (runs C Λ En parts.t-1 (atRet En Post))
+      matched =
+        {closing['head'].text()}
+'''
 
     def go_on(self, w):
         """the last statement of an arm is done: to what follows the `match`. What a call was lent comes back there"""
@@ -717,7 +772,7 @@ class Printer:
             arm.say(f'rewrite ! {cell} (λ (u : {type_.denotation()}). ‵ (fat fullShare {type_.mir()} l{local} 0 ({value}))) {is_} refl')
             x = f'variant-at {type_.record} {keys[0]} {fields}'
             i = f'(subst (λ (u : {type_.denotation()}). Is {row} u ({value} ∷ [])) {is_} {par(enum.i)})'
-            arm.values[local] = Value(type_, x, type_.value(x), i, variant=int(keys[0]), fields=fields)
+            arm.values[local] = Value(type_, x, type_.value(x), i, variant=int(keys[0]), fields=fields, known=is_)
             self.facts = Facts([*facts, ('match', None, is_)])
             walk(arm, statements(body))
             texts.append(f'(λ {tag}. {arm.text()})')
@@ -874,11 +929,7 @@ class Printer:
             else:
                 stays.append(f'stay-none (λ _. {p.row()}) yes')
                 goes.append(f'goes-none 𝓤 H A W {n} (λ _. {p.row()}) yes (λ κs x f. refl)')
-        kept = [f'‵ (flft κ{k} q{k})' for k in self.lifetimes] + [f'‵ ({self.owned(i)})' for i in self.shared]
-        for i in self.muts:
-            p = self.param(i)
-            kept.append(f'‵ (fobs (x{i} .name) ({p.elem.row()} .coded .code y{i}))')
-            kept.append(f'‵ (fbor κ{p.lifetime} (Behind (mem-of {p.elem.row()}) (x{i} .ptr .0) (x{i} .ptr .1) (x{i} .name)))')
+        kept = self.kept_items()
         lasts = tuple_of([f'y{i}' if i in self.muts else 'tt' for i in range(1, f.nparams + 1)])
         last_bound = ''.join(f'(y{i} : {self.param(i).elem.denotation()}) ' for i in self.muts)
         last_names = ''.join(f'y{i} ' for i in self.muts)
@@ -925,6 +976,8 @@ class Printer:
 ''')
         if self.turn:
             out.append(self.loop_lemmas())
+        if self.closing:
+            out.append(self.closing_lemmas())
         allocations = ' '.join(f'alloc1 ! (λ l{i}.' for i in self.locals)
         self.main.open += len(self.locals)
         out.append(f'''    walk : ent 𝓤 (onEntry 𝓤 H A self.signature {kappas} {shares} {tuple_of(xs)} at-entry) (WpFn 𝓤 H (𝓣 .C) (𝓣 .Λ) code.function ({value_list}) Post)

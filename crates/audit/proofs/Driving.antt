@@ -24,9 +24,6 @@ use Rattle.definition.specs.declared.End.{End}
 use Rattle.definition.specs.declared.End.the-variants.{Page, Invalid, LevelStop, BusError, Config}
 use Rattle.definition.specs.declared.Audit.{Audit}
 use Rattle.definition.proofs.Narrow.{narrow-030, end-narrow, narrow-040}
-use Rattle.walks.specs.Walked.{walksOf}
-use Rattle.walks.specs.declared.Way.{Way}
-use Rattle.walks.specs.declared.Walks.{Walks}
 use Rattle.cache.specs.Packed.{odd}
 use Rattle.cache.specs.Atc030.{entryOf, entriesOf, tagsOf, pagesOf, stampsOf, shiftIn, cacheOf}
 use Rattle.cache.specs.Atc040.{slotOf, slotsOf, keysOf, basesOf, cache040Of}
@@ -38,6 +35,9 @@ use Rattle.cache.proofs.Slots.{keyIn, slots-get, slots-read, level-040}
 use Rattle.memory.proofs.Tests.{T-true, T-false}
 use Rattle.audit.specs.declared.Auditing.{Auditing}
 use Rattle.audit.specs.declared.Cached.{Cached}
+use Rattle.audit.specs.declared.walking.Way.{Way}
+use Rattle.audit.specs.declared.walking.Walks.{Walks}
+use Rattle.audit.specs.Ways.{walksOf}
 use Rattle.audit.specs.Machine.{goingTo, doneBy, goingFrom, atShift, auditRefusal, beginFamily, auditBegin, Begun, cachedAt, way030, way040, wayFor, wrappedOf, addressFor, staleBy030, staleBy040, turnedOf, auditTook}
 
 -- ---- one entry
@@ -57,7 +57,7 @@ module _ (m : Memory) (g : Registers) where
   unfolding stale030
   by-030 t p st s = go (odd t && isAccessCode (t / 2 % 8))
     where
-      go : (b : Bool) → staleBy030 t p (wrappedOf (t / 16) s) (walksOf m g (wrappedOf (t / 16) s) (if b then Way.By030 (t / 2 % 8) everyLevel else Way.Idle))
+      go : (b : Bool) → staleBy030 t p (wrappedOf (t / 16) s) (walksOf m g (wrappedOf (t / 16) s) (if b then Way.By030 (t / 2 % 8) else Way.Idle))
           ≡ (b && not (ends030 (entryOf t p st) (firstOfPage (t / 16) s) (walk030 m g (firstOfPage (t / 16) s) (t / 2 % 8) everyLevel)))
       go true =
           ap (λ (o : Outcome). not (ends030 (entryOf t p 0) (wrappedOf (t / 16) s) o)) (narrow-030 (firstOfPage (t / 16) s) m g (t / 2 % 8) everyLevel)

@@ -1,4 +1,5 @@
+pub mod Ways
 pub mod Steps
 pub mod Driving
 pub mod Saying
-pub mod Sixteen
+pub mod Fronts

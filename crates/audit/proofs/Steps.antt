@@ -23,18 +23,18 @@ use Rattle.definition.specs.declared.End.the-variants.{Page}
 use Rattle.definition.specs.declared.End040.{End040}
 use Rattle.definition.specs.declared.End040.the-variants.{Resident}
 use Rattle.definition.specs.declared.Audit.{Audit}
-use Rattle.walks.specs.declared.Way.{Way}
-use Rattle.walks.specs.declared.Walks.{Walks}
-use Rattle.walks.specs.declared.Walks.the-variants as walks
 use Rattle.walk030.specs.declared.Walked.{Walked}
 use Rattle.walk040.specs.declared.Walked040.{Walked040}
 use Rattle.cache.specs.Packed.{odd, part}
 use Rattle.cache.specs.Atc030.{entryOf, tagsOf, pagesOf, shiftIn, cacheOf}
 use Rattle.cache.specs.Atc040.{slotOf, keysOf, basesOf}
 use Rattle.cache.proofs.Parts.{part-get}
-use Rattle.plan.specs.Plans.{checksOf}
+use Rattle.checks.specs.Given.{checksOf}
 use Rattle.audit.specs.declared.Auditing.{Auditing}
 use Rattle.audit.specs.declared.Cached.{Cached}
+use Rattle.audit.specs.declared.walking.Way.{Way}
+use Rattle.audit.specs.declared.walking.Walks.{Walks}
+use Rattle.audit.specs.declared.walking.Walks.the-variants as walks
 use Rattle.audit.specs.Machine.{goingTo, doneBy, goingFrom, atShift, auditRefusal, beginFamily, auditBegin, cachedAt, way030, way040, wayFor, wrappedOf, addressFor, staleBy030, staleBy040, turnedOf, auditTook}
 
 pub past-end : (l : List ℕ) (i : ℕ) → length l ≤ i → 0 ≡ getD l i 0
@@ -96,7 +96,7 @@ module _ (g : Registers) (two three : Bool) (l : List ℕ) (from : ℕ) {n : ℕ
 
 -- ---- entry i
 module _ (t : ℕ) {met : Bool} (is : met ≡ isAccessCode (t / 2 % 8)) where
-  pub way-met : (odd t && met) ≡ true → Way.By030 (t / 2 % 8) 5 ≡ way030 t
+  pub way-met : (odd t && met) ≡ true → Way.By030 (t / 2 % 8) ≡ way030 t
   way-met h = let k : (odd t && isAccessCode (t / 2 % 8)) ≡ true = ap (λ (b : Bool). odd t && b) (sym is) ∙ h in rw k
 
   pub way-idle : (odd t && met) ≡ false → Way.Idle ≡ way030 t

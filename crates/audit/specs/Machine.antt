@@ -7,7 +7,7 @@ use mathlib.Core.List.{List}
 use lib.Dec.{eqb, ltb}
 use lib.ListN.{getD}
 use Rattle.definition.specs.Words.{if_then_else_}
-use Rattle.definition.specs.Walk030.{everyLevel, shiftOf}
+use Rattle.definition.specs.Walk030.{shiftOf}
 use Rattle.definition.specs.Walk040.{pageBits}
 use Rattle.definition.specs.Cache030.{Cache030}
 use Rattle.definition.specs.Refusal.{noFamily, badCache, refusalOf}
@@ -16,16 +16,16 @@ use Rattle.definition.specs.declared.Registers.{Registers}
 use Rattle.definition.specs.declared.Shift.{Shift}
 use Rattle.definition.specs.declared.Shift.the-variants.{Bits, NoPage}
 use Rattle.definition.specs.declared.Audit.{Audit}
-use Rattle.walks.specs.declared.Way.{Way}
-use Rattle.walks.specs.declared.Walks.{Walks}
-use Rattle.walks.specs.declared.Walks.the-variants as walks
 use Rattle.cache.specs.Packed.{odd}
 use Rattle.cache.specs.Atc030.{entryOf, tagsOf, pagesOf, shiftIn}
 use Rattle.cache.specs.Atc040.{slotOf, keysOf, basesOf}
 use Rattle.cache.specs.Pair.{SizedAll}
-use Rattle.plan.specs.Plans.{checksOf}
+use Rattle.checks.specs.Given.{checksOf}
 use Rattle.audit.specs.declared.Auditing.{Auditing}
 use Rattle.audit.specs.declared.Cached.{Cached}
+use Rattle.audit.specs.declared.walking.Way.{Way}
+use Rattle.audit.specs.declared.walking.Walks.{Walks}
+use Rattle.audit.specs.declared.walking.Walks.the-variants as walks
 
 -- ---- states
 -- entry i is next
@@ -76,7 +76,7 @@ pub record LooksAt (g : Registers) (c3 c4 : List ℕ) (i : ℕ) (r : Cached) : T
 
 -- the walk that it wants, if it wants one
 abbrev pub way030 : ℕ → Way
-way030 t = if odd t && isAccessCode (t / 2 % 8) then Way.By030 (t / 2 % 8) everyLevel else Way.Idle
+way030 t = if odd t && isAccessCode (t / 2 % 8) then Way.By030 (t / 2 % 8) else Way.Idle
 
 abbrev pub way040 : ℕ → Way
 way040 k = if odd k then Way.By040 (odd (k / 2)) else Way.Idle

@@ -20,6 +20,7 @@ use crate::telling::bare;
 use crate::telling::no_caches;
 use crate::telling::told;
 use crate::took;
+use crate::walking::walk_for;
 use crate::way_for;
 use cache::CachePair;
 use definition::Audit;
@@ -27,7 +28,6 @@ use definition::Finding;
 use definition::Range;
 use definition::Registers;
 use mmu::by_value;
-use plan::checks;
 
 // Where an audit of this pair begins.
 fn begin_in(caches: CachePair, two: bool, three: bool, g: Registers, from: u32) -> Auditing
@@ -85,7 +85,7 @@ pub fn audit(
         let x = next_in(caches, g, s);
         let address = address_for(g, x);
         let way = way_for(g, x);
-        let walks = walks::walk_for(longs, base, ranges, g, address, way);
+        let walks = walk_for(longs, base, ranges, g, address, way);
         s = took(g, s, x, address, walks);
     };
     said(answer)

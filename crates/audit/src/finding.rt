@@ -15,7 +15,6 @@ use definition::Finding;
 use definition::Range;
 use definition::Registers;
 use mmu::by_value;
-use plan::checks;
 
 // What is said of entry i of the family's cache, over the caches and the ranges that the caller lends.
 pub fn finding_lent(

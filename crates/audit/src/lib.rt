@@ -2,8 +2,9 @@
 // A call that is lent the ranges is thin: its proof is a walk by hand, which tools/ prints.
 pub mod by_value;
 pub mod finding;
-pub mod kept;
+pub mod sixteen;
 mod telling;
+mod walking;
 
 ghost use mathlib.Core.Path.{_≡_};
 ghost use Prim.Native.Nat.{_<_};
@@ -16,6 +17,9 @@ ghost use Rattle.cache.specs.Atc030.{cacheOf, entryOf};
 ghost use Rattle.cache.specs.Atc040.{slotOf};
 ghost use Rattle.cache.specs.Pair.{cachesOf};
 ghost use Rattle.audit.specs.Machine.{goingTo, doneBy, goingFrom, atShift, auditRefusal, auditBegin, Begun, cachedAt, LooksAt, way030, way040, wayFor, wrappedOf, addressFor, staleBy030, staleBy040, turnedOf, auditTook};
+use crate::walking::Walks;
+use crate::walking::Way;
+use crate::walking::walk_for;
 use cache::atc030;
 use cache::atc030::Atc030;
 use cache::atc040::Atc040;
@@ -25,9 +29,6 @@ use definition::End040;
 use definition::Range;
 use definition::Registers;
 use definition::Shift;
-use plan::checks;
-use walks::Walks;
-use walks::Way;
 
 // Where an audit stands between two entries: it is over with this answer, or entry `i` is next.
 struct Auditing {
@@ -193,7 +194,7 @@ fn way_030(t: u64) -> Way
     let valid = t % 2 == 1;
     let met = is_access_code(code);
     if valid & met {
-        return Way::By030 { code, limit: 5 };
+        return Way::By030 { code };
     }
     Way::Idle
 }
@@ -377,7 +378,7 @@ pub fn audit_lent(
         let x = next_at(c030, c040, g, s);
         let address = address_for(g, x);
         let way = way_for(g, x);
-        let walks = walks::walk_for(longs, base, ranges, g, address, way);
+        let walks = walk_for(longs, base, ranges, g, address, way);
         s = took(g, s, x, address, walks);
     };
     said(answer)

@@ -15,7 +15,6 @@ use definition::Hit;
 use definition::Override;
 use definition::Registers;
 use mmu::by_value::Translated;
-use plan::checks;
 
 // The code of an entry; a 68040 slot has the data code of its privilege.
 pub fn code_for(g: Registers, x: Cached) -> u32

@@ -1,7 +1,7 @@
 // Tries the audit on each kind of damage and on each harmless kind, in both caches, on its refusals, and what is said of an entry.
 // What must be written stands in the file stdout, from document 01 by hand: `e` an entry of the 68030, `d` a slot of the 68040.
-use audit::kept::audit_kept;
-use audit::kept::finding_kept;
+use audit::sixteen::audit_kept;
+use audit::sixteen::finding_kept;
 use cache::atc030::Atc030;
 use cache::atc030::PAGES;
 use cache::atc030::RECENT;
@@ -87,7 +87,7 @@ fn tables(longs: &mut [u32; 8192]) {
 // The page of 02041ABC is cached.
 fn warm(c030: &mut Atc030, c040: &mut Atc040, longs: &[u32; 8192], g: Registers, supervisor: bool) {
     let list = ranges(0, 0);
-    translate::translate_in(c030, c040, longs, 0, list, 0, false, g, reading(supervisor));
+    kept::translate(c030, c040, longs, 0, list, 0, false, g, reading(supervisor));
 }
 
 // ---- What is written.

@@ -1,6 +1,6 @@
 // What is said of the caches that a trace leaves: a line for each stale entry, and a last line from which a script tells.
-use audit::kept::audit_kept;
-use audit::kept::finding_kept;
+use audit::sixteen::audit_kept;
+use audit::sixteen::finding_kept;
 use cache::atc030::Atc030;
 use cache::atc040::Atc040;
 use definition::Audit;

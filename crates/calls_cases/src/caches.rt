@@ -117,7 +117,7 @@ fn tried(then: Atc030, a: Access) {
     let longs = setting::tree();
     let list = setting::ranges(0, 0);
     let g = setting::registers(30, true);
-    let r = translate::translate_in(&mut c030, &mut c040, &longs, 0x1000, list, 0, false, g, a);
+    let r = kept::translate(&mut c030, &mut c040, &longs, 0x1000, list, 0, false, g, a);
     let answer = r.answer;
     show_answer(answer);
     io::write_all(1, b" ");

@@ -51,7 +51,7 @@ fn load(t: Trial) -> Given {
     let longs = setting::tree();
     let list = setting::ranges(t.first, t.last);
     let g = setting::registers(t.family, t.enabled);
-    let r = load::load_in(
+    let r = kept::load(
         &mut c030,
         &longs,
         t.base,
@@ -90,7 +90,7 @@ fn translate(t: Trial) -> Given {
     let list = setting::ranges(t.first, t.last);
     let g = setting::registers(t.family, t.enabled);
     let a = setting::access(Override::Code(t.code), false, true);
-    let r = translate::translate_in(
+    let r = kept::translate(
         &mut c030,
         &mut c040,
         &longs,
@@ -125,7 +125,7 @@ fn test(t: Trial, level: u32) -> Given {
     let longs = setting::tree();
     let list = setting::ranges(t.first, t.last);
     let g = setting::registers(t.family, t.enabled);
-    let r = inquiry::test::test_in(
+    let r = kept::test(
         &longs,
         t.base,
         list,
@@ -160,7 +160,7 @@ fn probe(t: Trial) -> Given {
     let c030 = threes_030(t.recent, t.shift);
     let c040 = [3u64; 128];
     let g = setting::registers(t.family, t.enabled);
-    let answer = inquiry::probe::probe_in(&c030, &c040, g, false, false, false, 0x0204_1ABC);
+    let answer = probe::probe(&c030, &c040, g, false, false, false, 0x0204_1ABC);
     Given {
         number: probe_number(answer),
         kept: true,

@@ -19,7 +19,7 @@ use Rattle.definition.proofs.Audited.{clean-after, clean-run, clean-independenc
 use Rattle.cache.specs.Atc030.{cacheOf}
 use Rattle.cache.proofs.Laws030.{entries-22}
 use Rattle.chain.specs.Chain.{Arrays, cachesIn, Translates, Passes, translates, loads, tests, probes, flushesAll, flushesCode, flushesPage, flushesFrame, Chain, none, watch, pass}
-use Rattle.plan.proofs.Pairs.{beside}
+use Rattle.checks.proofs.Pairs.{beside}
 use Rattle.load.proofs.Loading.{load-beside}
 
 -- ---- one call
@@ -61,7 +61,7 @@ chains-alike : (g : Registers) {x x′ y y′ : Arrays} {l l′ : List Moment} {
 chains-alike g chain chain′ d = let one = chain-answers g chain in (one ∙ d .0 ∙ sym (chain-answers g chain′), one ∙ d .1)
 
 -- ---- from the empty caches
--- after any calls in place whatever, translate_in answers a watched access as the cacheless walk does
+-- after any calls in place whatever, `translate` answers a watched access as the cacheless walk does
 pub after-calls : (g : Registers) {x y z : Arrays} {before : List Moment} {answers : List Translation} {answer : Translation} {count : ℕ} (a : Access) (m : Memory)
     → cachesIn x ≡ emptyCaches → Chain g x before answers y → Translates g a m y answer count z
     → ((now : Moment) (at : ℕ) → In now before → In at (cacheless g a m .asked) → fetchOf (memoryAt now) at ≡ fetchOf m at)
@@ -80,7 +80,7 @@ snapshot-in : (g : Registers) (m : Memory) (x : Arrays) → length (x .c030) ≡
 unfolding cacheOf
 snapshot-in g m x size e = record { size = entries-22 (x .c030) size; clean = e }
 
--- after any calls in place whatever, translate_in answers a watched access as the cacheless walk does
+-- after any calls in place whatever, `translate` answers a watched access as the cacheless walk does
 pub after-calls-from-clean : (g : Registers) {x y z : Arrays} {before : List Moment} {answers : List Translation} {answer : Translation} {count : ℕ}
     (m : Memory) (a : Access) (n : Memory) → length (x .c030) ≡ 69 → audit g m (cachesIn x) ≡ Audit.Clean → Chain g x before answers y → Translates g a n y answer count z
     → ((at : ℕ) → In at (cacheless g a n .asked) → fetchOf m at ≡ fetchOf n at)

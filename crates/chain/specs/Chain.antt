@@ -1,5 +1,5 @@
 -- Calls in place, one after the other: each link is what one call's contract promises of the two arrays at its entry and at its exit.
--- translate_in, load_in and test_in promise it where the caller's `three` is true of the ranges, so a chain speaks of callers that say it rightly.
+-- `translate`, `load` and `test` promise it with the true word of check 3 (`given-true` of each), so a chain speaks of callers that say it rightly.
 use Prim.Native.Nat.{ℕ}
 use mathlib.Core.Path.{_≡_}
 use mathlib.Core.Bool.{Bool}
@@ -33,12 +33,12 @@ pub record Arrays : Type 0 where
 abbrev pub cachesIn : Arrays → Caches
 cachesIn x = cachesOf (x .c030) (x .c040)
 
--- what translate_in promises, from x to y
+-- what `translate` promises, from x to y
 abbrev pub Translates : Registers → Access → Memory → Arrays → Translation → ℕ → Arrays → Type 0
 Translates g a m x answer count y =
     AnsweredIn (shownTranslated (translate g a m (cachesIn x))) answer count (y .c030) (y .c040)
 
--- what each call promises, from x to y: translate_in, load_in, test_in and probe_in (which change no array), the flushes
+-- what each call promises, from x to y: translate, load, test and probe (which change no array), the flushes
 pub data Passes (g : Registers) (m : Memory) (x : Arrays) : Call → Arrays → Type 0 where
   translates : {y : Arrays} {answer : Translation} {count : ℕ} (a : Access) → Translates g a m x answer count y → Passes g m x (calls.access a) y
   loads : {c030 : List ℕ} {answer : Load} {count : ℕ} (code : ℕ) (write : Bool) (address : ℕ)

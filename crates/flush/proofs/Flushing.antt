@@ -15,7 +15,7 @@ use Rattle.definition.specs.Flush.{Flushed, flushed, flushChecks, flushUnless, 
 use Rattle.definition.specs.declared.Flush.{Flush}
 use Rattle.cache.specs.Atc030.{cacheOf, Stepped}
 use Rattle.cache.specs.Atc040.{cache040Of, Stepped040}
-use Rattle.plan.specs.Plans.{checksOf}
+use Rattle.checks.specs.Given.{checksOf}
 use Rattle.cache.specs.Pair.{cachesOf, pairWith, SizedAll}
 use Rattle.flush.specs.Flushed.{FlushedIn, FlushedIn030, FlushedIn040}
 

@@ -4,7 +4,6 @@ use cache::atc030::Atc030;
 use cache::atc040;
 use cache::atc040::Atc040;
 use definition::Flush;
-use plan::checks;
 ghost use Rattle.definition.specs.Cache030.{Cache030};
 ghost use Rattle.definition.specs.Cache040.{Cache040};
 ghost use Rattle.definition.specs.Flush.{flushAll, flushCode, flushPage, flushFrame};

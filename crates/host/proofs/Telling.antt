@@ -27,6 +27,7 @@ use Rattle.definition.specs.Flush.{Flushed}
 use Rattle.definition.specs.declared.Override.{Override}
 use Rattle.definition.specs.declared.FaultKind.{FaultKind}
 use Rattle.definition.specs.declared.FaultCause.{FaultCause}
+use Rattle.definition.specs.Refusal.{badRange}
 use Rattle.definition.specs.declared.Translation.{Translation}
 use Rattle.definition.specs.declared.Translation.the-variants as translation
 use Rattle.definition.specs.declared.Load.{Load}
@@ -36,10 +37,13 @@ use Rattle.definition.specs.declared.Test.the-variants as test′
 use Rattle.definition.specs.declared.Flush.{Flush}
 use Rattle.cache.specs.Pair.{cachesOf, pairWith}
 use Rattle.translate.specs.InPlace.{AnsweredIn}
-use Rattle.load.specs.Loaded.{LoadedIn, shownLoaded}
-use Rattle.inquiry.specs.Tested.{TestedIn, shownTested}
+use Rattle.load.specs.Loaded.{loadGiven, LoadedIn, shownLoaded}
+use Rattle.test.specs.Tested.{testGiven, TestedIn, shownTested}
 use Rattle.flush.specs.Flushed.{FlushedIn, FlushedIn030, FlushedIn040}
-use Rattle.translate.specs.Stages.{shownTranslated}
+use Rattle.translate.specs.Stages.{translateGiven, shownTranslated}
+use Rattle.translate.proofs.Staged.{given-true}
+use Rattle.load.proofs.Loading as loading
+use Rattle.test.proofs.Testing as testing
 use Rattle.cache.specs.Atc030.{cacheOf}
 use Rattle.cache.specs.Atc040.{cache040Of}
 use Rattle.host.specs.declared.Held.{Held}
@@ -106,15 +110,19 @@ probed ns flags address c t p g o i w = rw (← g, ← o, ← i, ← w, ← p) t
 
 -- ---- the calls over the ranges: the answer's numbers, from the call's promise in place
 module _ (ns : List ℕ) {g : Registers} (is-g : g ≡ registersOf ns) (m : Memory) {out : List ℕ} where
-  pub translates : (flags code address : ℕ) (c : Caches) {a : Access} {t : Translation} {count : ℕ} {c030 c040 : List ℕ} → a ≡ accessOf flags code address
-      → AnsweredIn (shownTranslated (translate g a m c)) t count c030 c040 → out ≡ translationNumbers t count
+  pub translates : (flags code address : ℕ) (c : Caches) {a : Access} {crossed : Bool} {t : Translation} {count : ℕ} {c030 c040 : List ℕ} → a ≡ accessOf flags code address
+      → crossed ≡ badRange m → AnsweredIn (shownTranslated (translateGiven crossed g a m c)) t count c030 c040 → out ≡ translationNumbers t count
       → TranslatedTo (translate (registersOf ns) (accessOf flags code address) m c) out (cachesOf c030 c040)
-  translates flags code address c is-a q e = rw (← is-g, ← is-a) (record { answers = e ∙ rw (q .answers, q .counts); leaves = q .leaves })
+  translates flags code address c {a} {t = t} {count} {c030} {c040} is-a is-crossed k e =
+      let q : AnsweredIn (shownTranslated (translate g a m c)) t count c030 c040 = rw (← given-true g a m c is-crossed) k in
+      rw (← is-g, ← is-a) (record { answers = e ∙ rw (q .answers, q .counts); leaves = q .leaves })
 
-  pub loads : (code : ℕ) (write : Bool) (address : ℕ) (c : Cache030) {l : Load} {count : ℕ} {c030 : List ℕ}
-      → ((k : Cache040) → LoadedIn (shownLoaded (load g code write address m (pairWith c k))) l count c030) → out ≡ loadNumbers l count
+  pub loads : (code : ℕ) (write : Bool) (address : ℕ) (c : Cache030) {crossed : Bool} {l : Load} {count : ℕ} {c030 : List ℕ} → crossed ≡ badRange m
+      → ((k : Cache040) → LoadedIn (shownLoaded (loadGiven crossed g code write address m (pairWith c k))) l count c030) → out ≡ loadNumbers l count
       → (k : Cache040) → LoadedTo (load (registersOf ns) code write address m (pairWith c k)) out (cacheOf c030)
-  loads code write address c f e k = let q = f k in rw (← is-g) (record { answers = e ∙ rw (q .answers, q .counts); leaves = q .leaves })
+  loads code write address c {l = l} {count} {c030} is-crossed f e k =
+      let q : LoadedIn (shownLoaded (load g code write address m (pairWith c k))) l count c030 = rw (← loading.given-true g code write address m (pairWith c k) is-crossed) (f k) in
+      rw (← is-g) (record { answers = e ∙ rw (q .answers, q .counts); leaves = q .leaves })
 
   pub audits : (c : Caches) (from : ℕ) {a : Audit} → a ≡ auditFrom g m c from → out ≡ auditNumbers a → out ≡ auditNumbers (auditFrom (registersOf ns) m c from)
   audits c from q e = rw (← is-g) (e ∙ rw q)
@@ -123,10 +131,12 @@ module _ (ns : List ℕ) {g : Registers} (is-g : g ≡ registersOf ns) (m : Memo
       → out ≡ findingNumbers (findingOf (registersOf ns) m c i write)
   finds c i write q e = rw (← is-g) (e ∙ rw q)
 
-  pub tests : (code : ℕ) (write : Bool) (level address : ℕ) {t : Test} {count : ℕ}
-      → TestedIn (shownTested (test g code write level address m)) t count → out ≡ testNumbers t count
+  pub tests : (code : ℕ) (write : Bool) (level address : ℕ) {crossed : Bool} {t : Test} {count : ℕ} → crossed ≡ badRange m
+      → TestedIn (shownTested (testGiven crossed g code write level address m)) t count → out ≡ testNumbers t count
       → out ≡ testedNumbers (test (registersOf ns) code write level address m)
-  tests code write level address q e = rw (← is-g) (e ∙ rw (q .answers, q .counts))
+  tests code write level address {t = t} {count} is-crossed k e =
+      let q : TestedIn (shownTested (test g code write level address m)) t count = rw (← testing.given-true g code write level address m is-crossed) k in
+      rw (← is-g) (e ∙ rw (q .answers, q .counts))
 
 -- ---- what is said of one entry
 pub held-at : {h : Hit} {base : ℕ} → h ≡ hit.At base → record { what = 0; low = base % 4294967296; high = base / 4294967296 } ≡ heldOf h

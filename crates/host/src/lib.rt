@@ -17,10 +17,9 @@ use definition::Registers;
 use definition::Root;
 use definition::Test;
 use definition::Translation;
-use inquiry::probe;
-use inquiry::test::TestOutcome;
 use load::LoadOutcome;
-use mmu::by_value;
+use memory::ranges::any_crossed;
+use test::TestOutcome;
 use translate::Outcome;
 ghost use mathlib.Core.Path.{_≡_};
 ghost use mathlib.Core.List.{[], _∷_};
@@ -309,7 +308,8 @@ pub extern "C" fn mmu_translate(
 {
     let g = registers_of(registers);
     let a = access_of(flags, code, address);
-    let o = lent::translate_lent(c030, c040, longs, base, ranges, g, a);
+    let crossed = any_crossed(ranges);
+    let o = translate::translate(c030, c040, longs, base, ranges, crossed, g, a);
     tell_translation(out, o)
 }
 
@@ -329,7 +329,8 @@ pub extern "C" fn mmu_load(
     ensures { λ _. ⌜ ((k : Cache040) → LoadedTo (loadOf (registersOf (now (registers .entry))) code write address (memory (now (longs .entry)) base (now (ranges .entry))) (pairWith (cacheOf (now (c030 .entry))) k)) (now (out .exit)) (cacheOf (now (c030 .exit)))) ⌝ }
 {
     let g = registers_of(registers);
-    let o = lent::load_lent(c030, longs, base, ranges, g, code, write, address);
+    let crossed = any_crossed(ranges);
+    let o = load::load(c030, longs, base, ranges, crossed, g, code, write, address);
     tell_load(out, o)
 }
 
@@ -349,7 +350,8 @@ pub extern "C" fn mmu_test(
     ensures { λ _. ⌜ now (out .exit) ≡ testedNumbers (testOf (registersOf (now (registers .entry))) code write level address (memory (now (longs .entry)) base (now (ranges .entry)))) ⌝ }
 {
     let g = registers_of(registers);
-    let o = by_value::test(longs, base, ranges, g, code, write, level, address);
+    let crossed = any_crossed(ranges);
+    let o = test::test(longs, base, ranges, crossed, g, code, write, level, address);
     tell_test(out, o)
 }
 
@@ -408,7 +410,7 @@ pub extern "C" fn mmu_probe(
     let own = memory::bits::bit(flags, 3);
     let instruction = memory::bits::bit(flags, 2);
     let write = memory::bits::bit(flags, 0);
-    let answer = probe::probe_in(c030, c040, g, own, instruction, write, address);
+    let answer = probe::probe(c030, c040, g, own, instruction, write, address);
     tell_probe(out, answer)
 }
 

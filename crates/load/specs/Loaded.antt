@@ -1,45 +1,73 @@
 -- PLOAD in three stages, what is planned without the tables, the walk, and what is concluded from it; and what it promises in place.
 -- The stages serve the code alone: the meaning is the definition's, and proofs/Loading.antt ties the two.
-use Prim.Native.Nat.{ℕ}
+use Prim.Native.Nat.{ℕ, _%_}
 use mathlib.Core.Path.{_≡_}
-use mathlib.Core.List.{List}
+use mathlib.Core.List.{List, []}
 use mathlib.Core.Bool.{Bool, not}
 use lib.Dec.{eqb}
 use lib.ListN.{length}
 use Rattle.definition.specs.Words.{if_then_else_}
 use Rattle.definition.specs.Registers.{on}
 use Rattle.definition.specs.Transparent.{transparent030}
-use Rattle.definition.specs.Walk030.{everyLevel, shiftOf}
+use Rattle.definition.specs.Walk030.{everyLevel, walk030, shiftOf}
 use Rattle.definition.specs.Cache030.{Cache030, flushedPage}
-use Rattle.definition.specs.Refusal.{noFamily, not030, aboveSeven, badCache, refusalOf}
-use Rattle.definition.specs.Load.{Loaded, stopped}
+use Rattle.definition.specs.Memory.{Memory}
+use Rattle.definition.specs.Translate.{Caches}
+use Rattle.definition.specs.Refusal.{noFamily, not030, aboveSeven, badCache, refusalOf, unless}
+use Rattle.definition.specs.Load.{Loaded, loaded, stopped, loadInOrder, loadChecks}
 use Rattle.definition.specs.declared.Registers.{Registers}
 use Rattle.definition.specs.declared.Load.{Load}
-use Rattle.walks.specs.declared.Way.{Way}
-use Rattle.walks.specs.declared.Walks.{Walks}
-use Rattle.walks.specs.declared.Walks.the-variants as walks
 use Rattle.cache.specs.Atc030.{cacheOf}
-use Rattle.plan.specs.declared.Plan.{Plan}
-use Rattle.plan.specs.declared.Plan.the-variants as plan
-use Rattle.plan.specs.Plans.{checksOf}
-use Rattle.search.specs.Searched.{Planned030, planned030, end030}
+use Rattle.walk030.specs.Walked.{shown}
+use Rattle.walk030.specs.declared.Walked.{Walked}
+use Rattle.checks.specs.Given.{checksOf, withThird}
+use Rattle.search.specs.Searched.{end030}
+use Rattle.load.specs.declared.Plan.{Plan}
+use Rattle.load.specs.declared.Plan.the-variants as plan
+use Rattle.load.specs.declared.Found.{Found}
+use Rattle.load.specs.declared.Found.the-variants as found
+
+-- ---- the call, where the caller says whether a range is crossed: with the true word it is `load` (proofs/Loading.antt, given-true)
+unfoldable pub loadGiven : Bool → Registers → ℕ → Bool → ℕ → Memory → Caches → Loaded
+loadGiven crossed g code write address m c =
+    unless (withThird crossed (loadChecks g code m c))
+    (λ (n : ℕ). loaded (Load.Refused n) [] (c .c030) c) (loadInOrder g code write address m c)
+
+-- ---- the plan, and the 68030 cache after it
+pub record Planned : Type 0 where
+  pub plan : Plan
+  pub cache : Cache030
+
+abbrev pub planned : Plan → Cache030 → Planned
+planned p c = record { plan = p; cache = c }
 
 abbrev pub loadPlan : Bool → ℕ → Plan
-loadPlan stop code = if stop then Plan.Settled 0 else Plan.Walk (Way.By030 code everyLevel)
+loadPlan stop code = if stop then Plan.Settled Load.Loaded else Plan.Walk030 code
 
 unfoldable pub loadRefusal : Registers → ℕ → Bool → Bool → Cache030 → ℕ
-loadRefusal g code two three c =
-    refusalOf (checksOf (noFamily (g .family)) (not030 (g .family)) (aboveSeven code) two three (badCache c))
+loadRefusal g code two crossed c =
+    refusalOf (checksOf (noFamily (g .family)) (not030 (g .family)) (aboveSeven code) two crossed (badCache c))
 
-unfoldable pub planLoad : Registers → ℕ → ℕ → Bool → Bool → Cache030 → Planned030
-planLoad g code address two three c =
-    if eqb (loadRefusal g code two three c) 0
+unfoldable pub planLoad : Registers → ℕ → ℕ → Bool → Bool → Cache030 → Planned
+planLoad g code address two crossed c =
+    if eqb (loadRefusal g code two crossed c) 0
     then if not (on g)
-    then planned030 (Plan.Settled 0) c
-    else planned030 (loadPlan (stopped (shiftOf (g .tc)) (transparent030 g address code)) code) (flushedPage c code 7 address)
-    else planned030 (Plan.Refused (loadRefusal g code two three c)) c
+    then planned (Plan.Settled Load.Loaded) c
+    else planned (loadPlan (stopped (shiftOf (g .tc)) (transparent030 g address code)) code) (flushedPage c code 7 address)
+    else planned (Plan.Settled (Load.Refused (loadRefusal g code two crossed c))) c
 
--- an answer, its count and the next 68030 cache
+-- a plan r, with the array after it
+pub record PlannedIn (p : Planned) (r : Plan) (c030 : List ℕ) : Type 0 where
+  pub plans : r ≡ p .plan
+  pub leaves : cacheOf c030 ≡ p .cache
+  pub sized : length c030 ≡ 69
+
+-- ---- the walk that a plan asks for, made
+abbrev pub foundLoad : Memory → Registers → ℕ → Plan → Found
+foundLoad m g address (plan.Settled l) = Found.Settled l
+foundLoad m g address (plan.Walk030 code) = Found.By030 code (shown (walk030 m g address code everyLevel))
+
+-- ---- and what it gives: an answer, its count and the next 68030 cache
 pub record LoadEnded : Type 0 where
   pub answer : Load
   pub count : ℕ
@@ -52,18 +80,13 @@ loadEnded l n c = record { answer = l; count = n; cache = c }
 abbrev pub shownLoaded : Loaded → LoadEnded
 shownLoaded l = loadEnded (l .answer) (length (l .asked)) (l .caches .c030)
 
-unfoldable pub loadWalks : ℕ → ℕ → ℕ → Bool → Cache030 → Walks → LoadEnded
-loadWalks tc code address write c walks.Idle = loadEnded Load.Loaded 0 c
-loadWalks tc code address write c (walks.By030 w) =
-    loadEnded Load.Loaded (w .asked) (end030 tc c code address write w .cache)
-loadWalks tc code address write c (walks.By040 w) = loadEnded Load.Loaded 0 c
+-- a code has three bits
+unfoldable pub concludedLoad : ℕ → Bool → ℕ → Cache030 → Found → LoadEnded
+concludedLoad tc write address c (found.Settled l) = loadEnded l 0 c
+concludedLoad tc write address c (found.By030 code w) =
+    loadEnded Load.Loaded (w .asked) (end030 tc c (code % 8) address write w .cache)
 
-unfoldable pub concludeLoad : ℕ → ℕ → ℕ → Bool → Cache030 → Plan → Walks → LoadEnded
-concludeLoad tc code address write c (plan.Refused n) w = loadEnded (Load.Refused n) 0 c
-concludeLoad tc code address write c (plan.Settled x) w = loadEnded Load.Loaded 0 c
-concludeLoad tc code address write c (plan.Walk x) w = loadWalks tc code address write c w
-
--- a load's answer and its count, with the 68030 arrays after them
+-- a load's answer and its count, with the 68030 array after them
 pub record LoadedIn (e : LoadEnded) (answer : Load) (count : ℕ) (c030 : List ℕ) : Type 0 where
   pub answers : answer ≡ e .answer
   pub counts : count ≡ e .count

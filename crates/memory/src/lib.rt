@@ -6,3 +6,4 @@ pub mod longs;
 pub mod page030;
 pub mod page040;
 pub mod ranges;
+pub mod registers;

@@ -1,89 +1,70 @@
--- From the stages of a call by value to what it promises. Assumes nothing.
-use Prim.Native.Nat.{ℕ, _%_}
+-- From a call in place to the call by value. Assumes nothing.
+use Prim.Native.Nat.{ℕ}
 use mathlib.Core.Path.{_≡_, refl, ap, sym, subst, _∙_}
+use mathlib.Core.List.{List}
 use mathlib.Core.Bool.{Bool}
+use lib.ListN.{length}
 use Rattle.definition.specs.Memory.{Memory}
-use Rattle.definition.specs.Cache030.{Cache030}
+use Rattle.definition.specs.Refusal.{badRange}
 use Rattle.definition.specs.Cache040.{Cache040}
-use Rattle.definition.specs.Refusal.{badBase, badRange}
 use Rattle.definition.specs.Translate.{Caches, translate}
 use Rattle.definition.specs.Load.{load}
+use Rattle.definition.specs.Test.{test}
 use Rattle.definition.specs.declared.Registers.{Registers}
 use Rattle.definition.specs.declared.Access.{Access}
-use Rattle.definition.specs.declared.Root.{Root}
+use Rattle.definition.specs.declared.Load.{Load}
 use Rattle.definition.specs.declared.Test.{Test}
-use Rattle.definition.specs.Test.{test}
-use Rattle.walks.specs.Walked.{walks030, walksOf}
-use Rattle.walks.specs.Choice.{rootBy}
-use Rattle.walks.specs.declared.Way.{Way}
-use Rattle.walks.specs.declared.Way.the-variants as ways
-use Rattle.walks.specs.declared.Walks.{Walks}
-use Rattle.cache.specs.Pair.{pairOf}
+use Rattle.definition.specs.declared.Translation.{Translation}
+use Rattle.cache.specs.Atc030.{cacheOf}
+use Rattle.cache.specs.Atc040.{cache040Of}
+use Rattle.cache.specs.Pair.{pairWith, cachesOf, pairOf}
 use Rattle.cache.specs.declared.CachePair.{CachePair}
-use Rattle.plan.specs.declared.Plan.{Plan}
-use Rattle.plan.specs.declared.Plan.the-variants as plan
-use Rattle.mmu.specs.declared.by_value.PlannedPair.{PlannedPair}
+use Rattle.checks.proofs.Pairs.{beside}
+use Rattle.translate.specs.Stages.{translateGiven, shownTranslated}
+use Rattle.translate.specs.InPlace.{AnsweredIn}
+use Rattle.translate.proofs.Staged.{given-true}
+use Rattle.load.specs.Loaded.{loadGiven, shownLoaded, LoadedIn}
+use Rattle.load.proofs.Loading as loading
+use Rattle.test.specs.Tested.{testGiven, shownTested, TestedIn}
+use Rattle.test.proofs.Testing as testing
+use Rattle.mmu.specs.ByValue.{TranslatedBy, LoadedBy}
 use Rattle.mmu.specs.declared.by_value.Translated.{Translated}
 use Rattle.mmu.specs.declared.by_value.Loaded.{Loaded}
-use Rattle.plan.specs.Plans.{wayOf}
-use Rattle.translate.specs.Stages.{planAccess, shownTranslated, concludeAccess}
-use Rattle.load.specs.Loaded.{planLoad, shownLoaded, concludeLoad, LoadedIn}
-use Rattle.inquiry.specs.Tested.{planTest, TestAnswered, shownTested, testWalks, concludeTest, TestedIn}
-use Rattle.search.specs.Searched.{PlannedIn030}
-use Rattle.translate.specs.InPlace.{PlannedIn, AnsweredIn}
-use Rattle.mmu.specs.ByValue.{TranslatedBy, LoadedBy, Beside}
-use Rattle.translate.proofs.Staged.{translated-by}
-use Rattle.load.proofs.Loading.{load-beside, load-by}
-use Rattle.inquiry.proofs.Testing.{test-by}
 
 -- ---- translate
-pub translates : (g : Registers) (a : Access) (m : Memory) (caches : CachePair) {two three : Bool} {p : PlannedPair} {address : ℕ} {way : Way} {w : Walks} {r : Translated}
-    → two ≡ badBase m → three ≡ badRange m
-    → PlannedIn (planAccess g a two three (pairOf caches)) (p .plan) (p .caches .c030) (p .caches .c040)
-    → address ≡ a .address → way ≡ wayOf (p .plan) → w ≡ walksOf m g address way
-    → AnsweredIn (concludeAccess g a (pairOf (p .caches)) (p .plan) w) (r .answer) (r .count) (r .caches .c030) (r .caches .c040)
+pub translates : (g : Registers) (a : Access) (m : Memory) (caches : CachePair) {crossed : Bool} → crossed ≡ badRange m
+    → {c030 c040 : List ℕ} → c030 ≡ caches .c030 → (c040 ≡ caches .c040) × (length c040 ≡ 128) → {t : Translation} {n : ℕ} {c030′ c040′ : List ℕ}
+    → AnsweredIn (shownTranslated (translateGiven crossed g a m (cachesOf c030 c040))) t n c030′ c040′
+    → {r : Translated} → (r .answer ≡ t) × (r .count ≡ n) × (r .caches .c030 ≡ c030′) × (r .caches .c040 ≡ c040′)
     → TranslatedBy (translate g a m (pairOf caches)) r
-translates g a m caches {two} {three} {p} {address} {way} {w} {r} is-two is-three k is-address is-way walked q =
-    let planned : PlannedIn (planAccess g a (badBase m) (badRange m) (pairOf caches)) (p .plan) (p .caches .c030) (p .caches .c040) = rw (← is-two, ← is-three) k in
-    let s : AnsweredIn (shownTranslated (translate g a m (pairOf caches))) (r .answer) (r .count) (r .caches .c030) (r .caches .c040) = translated-by g a m (pairOf caches) (planned .plans) (planned .leaves) (subst (λ (x : Walks). AnsweredIn (concludeAccess g a (pairOf (p .caches)) (p .plan) x) (r .answer) (r .count) (r .caches .c030) (r .caches .c040)) (walked ∙ rw (is-address, is-way)) q) in
-    record { answers = s .answers; counts = s .counts; leaves = s .leaves; whole = record { sized = s .whole .sized; sized040 = s .whole .sized040 } }
+translates g a m caches {crossed} is-crossed {c030} {c040} e f {t} {n} {c030′} {c040′} k {r} q =
+    let true-word : translateGiven crossed g a m (cachesOf c030 c040) ≡ translate g a m (pairOf caches) = given-true g a m (cachesOf c030 c040) is-crossed ∙ rw (e, f .0) in
+    let s : AnsweredIn (shownTranslated (translate g a m (pairOf caches))) t n c030′ c040′ = rw (← true-word) k in
+    record {
+      answers = q .0 ∙ s .answers;
+      counts = q .1 ∙ s .counts;
+      leaves = rw (q .2, q .3) (s .leaves);
+      whole = rw (q .2, q .3) (s .whole);
+    }
 
 -- ---- load
--- two caches are the same where each is
-both : {c d : Caches} → c .c030 ≡ d .c030 → c .c040 ≡ d .c040 → c ≡ d
-both {c} {d} e f = go e f
-  where
-    pair : Cache030 → Cache040 → Caches
-    pair x y = record { c030 = x; c040 = y }
-
-    go : c .c030 ≡ d .c030 → c .c040 ≡ d .c040 → pair (c .c030) (c .c040) ≡ pair (d .c030) (d .c040)
-    go e f = cc
-
-module _ (g : Registers) (code address : ℕ) (caches : CachePair) (two three : Bool) {p : PlannedPair}
-    (k : PlannedIn030 (planLoad g code address two three (pairOf caches .c030)) (p .plan) (p .caches .c030) × Beside caches (p .caches)) where
-  pub loads : (write : Bool) (m : Memory) {way : Way} {w : Walks} {r : Loaded} → two ≡ badBase m → three ≡ badRange m → way ≡ wayOf (p .plan) → w ≡ walksOf m g address way
-      → LoadedIn (concludeLoad (g .tc) (code % 8) address write (pairOf (p .caches) .c030) (p .plan) w) (r .answer) (r .count) (r .caches .c030) × Beside (p .caches) (r .caches)
-      → LoadedBy (load g code write address m (pairOf caches)) r
-  loads write m {way} {w} {r} is-two is-three is-way walked q =
-      let s : LoadedIn (shownLoaded (load g code write address m (pairOf caches))) (r .answer) (r .count) (r .caches .c030) = load-by g code write address m (pairOf caches) is-two is-three (k .0) is-way walked (q .0) in
-      let beside : pairOf (r .caches) .c040 ≡ load g code write address m (pairOf caches) .caches .c040 = rw (q .1 .same ∙ k .1 .same) (sym (load-beside g code write address m (pairOf caches))) in
-      record { answers = s .answers; counts = s .counts; leaves = both (s .leaves) beside; whole = record { sized = s .sized; sized040 = q .1 .sized040 } }
+pub loads : (g : Registers) (code : ℕ) (write : Bool) (address : ℕ) (m : Memory) (caches : CachePair) {crossed : Bool} → crossed ≡ badRange m
+    → {c030 c040 : List ℕ} → c030 ≡ caches .c030 → (c040 ≡ caches .c040) × (length c040 ≡ 128) → {l : Load} {n : ℕ} {c030′ : List ℕ}
+    → ((k : Cache040) → LoadedIn (shownLoaded (loadGiven crossed g code write address m (pairWith (cacheOf c030) k))) l n c030′)
+    → {r : Loaded} → (r .answer ≡ l) × (r .count ≡ n) × (r .caches .c030 ≡ c030′) × (r .caches .c040 ≡ c040)
+    → LoadedBy (load g code write address m (pairOf caches)) r
+loads g code write address m caches {crossed} is-crossed {c030} {c040} e f {l} {n} {c030′} k {r} q =
+    let true-word : loadGiven crossed g code write address m (cachesOf c030 c040) ≡ load g code write address m (pairOf caches) = loading.given-true g code write address m (cachesOf c030 c040) is-crossed ∙ rw (e, f .0) in
+    let s : LoadedIn (shownLoaded (load g code write address m (pairOf caches))) l n c030′ = rw (← true-word) (k (cache040Of c040)) in
+    let stays : cache040Of c040 ≡ load g code write address m (pairOf caches) .caches .c040 = rw (f .0) (sym (loading.load-beside g code write address m (pairOf caches))) in
+    record {
+      answers = q .0 ∙ s .answers;
+      counts = q .1 ∙ s .counts;
+      leaves = rw (q .2, q .3) (beside (load g code write address m (pairOf caches) .caches) (s .leaves) stays);
+      whole = rw (q .2, q .3) (record { sized = s .sized; sized040 = f .1 });
+    }
 
 -- ---- test
-module _ (g : Registers) (code : ℕ) (address : ℕ) (m : Memory) where
-  -- a test makes the same of no walk and of a 68040 walk
-  searched : (p : Plan) (way : Way) → concludeTest code p (walks030 m (g .tc) (rootBy g way) address way) ≡ concludeTest code p (walksOf m g address way)
-  unfolding concludeTest testWalks
-  searched (plan.Refused n) way = refl
-  searched (plan.Settled n) way = refl
-  searched (plan.Walk y) ways.Idle = refl
-  searched (plan.Walk y) (ways.By030 by limit) = refl
-  searched (plan.Walk y) (ways.By040 supervisor) = refl
-
-  pub tests : (write : Bool) (level : ℕ) {two three : Bool} {p : Plan} {way : Way} {tc : ℕ} {root : Root} {w : Walks} {t : Test} {n : ℕ}
-      → two ≡ badBase m → three ≡ badRange m → p ≡ planTest g code level address two three
-      → way ≡ wayOf p → tc ≡ g .tc → root ≡ rootBy g way → w ≡ walks030 m tc root address way
-      → TestedIn (concludeTest code p w) t n → TestedIn (shownTested (test g code write level address m)) t n
-  tests write level {p = p} {way = way} {t = t} {n = n} is-two is-three k is-way is-tc is-root walked q =
-      let same = ap (concludeTest code p) (walked ∙ rw (is-tc, is-root)) ∙ searched p way in
-      test-by g code write level address m is-two is-three k is-way refl (subst (λ (x : TestAnswered). TestedIn x t n) same q)
+pub tests : (g : Registers) (code : ℕ) (write : Bool) (level address : ℕ) (m : Memory) {crossed : Bool} → crossed ≡ badRange m → {t : Test} {n : ℕ}
+    → TestedIn (shownTested (testGiven crossed g code write level address m)) t n → TestedIn (shownTested (test g code write level address m)) t n
+tests g code write level address m is-crossed k = rw (← testing.given-true g code write level address m is-crossed) k

@@ -22,11 +22,11 @@ use Rattle.definition.proofs.Refusals.{numbers, inTranslation, translate-refuse
 use Rattle.cache.specs.Pair.{pairOf, SizedPair}
 use Rattle.cache.specs.declared.CachePair.{CachePair}
 use Rattle.cache.proofs.Pairs.{pair-same}
-use Rattle.inquiry.specs.declared.test.TestOutcome.{TestOutcome}
+use Rattle.test.specs.declared.TestOutcome.{TestOutcome}
 use Rattle.mmu.specs.declared.by_value.Translated.{Translated}
 use Rattle.mmu.specs.declared.by_value.Loaded.{Loaded}
 use Rattle.tableless.specs.declared.Flushed.{Flushed}
-use Rattle.inquiry.specs.Tested.{shownTested, TestedIn}
+use Rattle.test.specs.Tested.{shownTested, TestedIn}
 use Rattle.mmu.specs.ByValue.{TranslatedBy, LoadedBy}
 use Rattle.tableless.specs.ByValue.{FlushedBy}
 

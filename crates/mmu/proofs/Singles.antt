@@ -9,11 +9,11 @@ use Rattle.definition.specs.declared.Test.{Test}
 use Rattle.definition.specs.declared.Probe.{Probe}
 use Rattle.definition.specs.declared.Flush.{Flush}
 use Rattle.cache.proofs.Pairs.{pair-same}
-use Rattle.inquiry.specs.declared.test.TestOutcome.{TestOutcome}
+use Rattle.test.specs.declared.TestOutcome.{TestOutcome}
 use Rattle.mmu.specs.declared.by_value.Translated.{Translated}
 use Rattle.mmu.specs.declared.by_value.Loaded.{Loaded}
 use Rattle.tableless.specs.declared.Flushed.{Flushed}
-use Rattle.inquiry.specs.Tested.{TestAnswered, TestedIn}
+use Rattle.test.specs.Tested.{TestAnswered, TestedIn}
 use Rattle.mmu.specs.ByValue.{translatedWith, TranslatedBy, loadedWith, LoadedBy}
 use Rattle.tableless.specs.ByValue.{flushedWith, FlushedBy}
 

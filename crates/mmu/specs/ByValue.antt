@@ -29,8 +29,3 @@ pub record LoadedBy (l : LoadedOf) (r : Loaded) : Type 0 where
   pub counts : r .count ≡ length (l .asked)
   pub leaves : pairOf (r .caches) ≡ l .caches
   pub whole : SizedPair (r .caches)
-
--- a call that takes the 68030 cache alone: the 68040 arrays stay
-pub record Beside (p r : CachePair) : Type 0 where
-  pub same : r .c040 ≡ p .c040
-  pub sized040 : length (r .c040) ≡ 128

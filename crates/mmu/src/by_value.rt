@@ -1,31 +1,26 @@
-// The calls of document 01 that walk, by value: 'Two caches, by value first.' Each copies the pair's arrays, lends them to a function in place and builds the pair anew.
+// The calls of document 01 that walk, by value: 'Two caches, by value first.' Each copies the pair's arrays, lends them to the call in place and builds the pair anew.
 // A call that is lent the ranges is thin: its proof is a walk by hand, which tools/ prints.
 use cache::CachePair;
+use cache::atc030::Atc030;
+use cache::atc040::Atc040;
 use definition::Access;
 use definition::Load;
 use definition::Range;
 use definition::Registers;
 use definition::Translation;
-use inquiry::test;
-use inquiry::test::TestOutcome;
-use plan::Plan;
-use plan::checks;
-use walks::Walks;
-use walks::Way;
+use load::LoadOutcome;
+use memory::ranges::any_crossed;
+use test::TestOutcome;
+use translate::Outcome;
 ghost use mathlib.Core.Path.{_≡_};
-ghost use Prim.Native.Nat.{_%_};
+ghost use lib.ListN.{length};
 ghost use Rattle.definition.specs.Memory.{memory};
 ghost use Rattle.definition.specs.Translate.{translate as translateOf};
 ghost use Rattle.definition.specs.Load.{load as loadOf};
 ghost use Rattle.definition.specs.Test.{test as testOf};
 ghost use Rattle.cache.specs.Pair.{pairOf};
-ghost use Rattle.plan.specs.Plans.{wayOf};
-ghost use Rattle.translate.specs.Stages.{planAccess, concludeAccess};
-ghost use Rattle.load.specs.Loaded.{planLoad, concludeLoad, LoadedIn};
-ghost use Rattle.inquiry.specs.Tested.{shownTested, TestedIn};
-ghost use Rattle.search.specs.Searched.{PlannedIn030};
-ghost use Rattle.translate.specs.InPlace.{PlannedIn, AnsweredIn};
-ghost use Rattle.mmu.specs.ByValue.{TranslatedBy, LoadedBy, Beside};
+ghost use Rattle.test.specs.Tested.{shownTested, TestedIn};
+ghost use Rattle.mmu.specs.ByValue.{TranslatedBy, LoadedBy};
 
 // An answer, its count and the next caches.
 pub struct Translated {
@@ -41,55 +36,32 @@ pub struct Loaded {
     pub caches: CachePair,
 }
 
-// A plan and the caches after it.
-struct PlannedPair {
-    plan: Plan,
-    caches: CachePair,
+// A copy of a pair's 68030 cache.
+fn c030_of(caches: CachePair) -> Atc030
+    ensures { λ r. ⌜ r ≡ caches .c030 ⌝ }
+{
+    let c030 = caches.c030;
+    c030
 }
 
-// The walk that a plan wants.
-fn wanted(p: PlannedPair) -> Way
-    ensures { λ r. ⌜ r ≡ wayOf (p .plan) ⌝ }
+// And of its 68040 cache.
+fn c040_of(caches: CachePair) -> Atc040
+    ensures { λ r. ⌜ (r ≡ caches .c040) × (length r ≡ 128) ⌝ }
 {
-    let plan = p.plan;
-    plan::way_of(plan)
+    let c040 = caches.c040;
+    c040
 }
 
 // ---- Translate.
 
-// The address of an access.
-fn address_of(a: Access) -> u32
-    ensures { λ r. ⌜ r ≡ a .address ⌝ }
+// What a translation gives, with the pair.
+fn with_pair(o: Outcome, c030: Atc030, c040: Atc040) -> Translated
+    ensures { λ r. ⌜ (r .answer ≡ o .answer) × (r .count ≡ o .count) × (r .caches .c030 ≡ c030) × (r .caches .c040 ≡ c040) ⌝ }
 {
-    a.address
-}
-
-// The plan of an access, over copies of the arrays.
-fn planned(two: bool, three: bool, g: Registers, a: Access, caches: CachePair) -> PlannedPair
-    ensures { λ r. ⌜ PlannedIn (planAccess g a two three (pairOf caches)) (r .plan) (r .caches .c030) (r .caches .c040) ⌝ }
-{
-    let mut c030 = caches.c030;
-    let c040 = caches.c040;
-    let plan = translate::plan_access(&mut c030, &c040, two, three, g, a);
-    PlannedPair {
-        plan,
-        caches: CachePair { c030, c040 },
-    }
-}
-
-// What the plan and its walk give, over copies of the arrays.
-fn concluded(g: Registers, a: Access, p: PlannedPair, walks: Walks) -> Translated
-    ensures { λ r. ⌜ AnsweredIn (concludeAccess g a (pairOf (p .caches)) (p .plan) walks) (r .answer) (r .count) (r .caches .c030) (r .caches .c040) ⌝ }
-{
-    let plan = p.plan;
-    let caches = p.caches;
-    let mut c030 = caches.c030;
-    let mut c040 = caches.c040;
-    let outcome = translate::conclude_access(&mut c030, &mut c040, g, a, plan, walks);
-    let answer = outcome.answer;
+    let answer = o.answer;
     Translated {
         answer,
-        count: outcome.count,
+        count: o.count,
         caches: CachePair { c030, c040 },
     }
 }
@@ -105,62 +77,28 @@ pub fn translate(
 ) -> Translated
     ensures { λ r. ⌜ TranslatedBy (translateOf g a (memory (now (longs .entry)) base (now (ranges .entry))) (pairOf caches)) r ⌝ }
 {
-    let two = checks::bad_longs(longs, base);
-    let three = memory::ranges::any_crossed(ranges);
-    let p = planned(two, three, g, a, caches);
-    let address = address_of(a);
-    let way = wanted(p);
-    let walks = walks::walk_for(longs, base, ranges, g, address, way);
-    concluded(g, a, p, walks)
+    let crossed = any_crossed(ranges);
+    let mut c030 = c030_of(caches);
+    let mut c040 = c040_of(caches);
+    let o = translate::translate(&mut c030, &mut c040, longs, base, ranges, crossed, g, a);
+    with_pair(o, c030, c040)
 }
 
 // ---- Load.
 
-// The plan of a load, over copies of the arrays.
-fn planned_load(
-    two: bool,
-    three: bool,
-    g: Registers,
-    code: u32,
-    address: u32,
-    caches: CachePair,
-) -> PlannedPair
-    ensures { λ r. ⌜ PlannedIn030 (planLoad g code address two three (pairOf caches .c030)) (r .plan) (r .caches .c030) × Beside caches (r .caches) ⌝ }
+// What a load gives, with the pair.
+fn load_with_pair(o: LoadOutcome, c030: Atc030, c040: Atc040) -> Loaded
+    ensures { λ r. ⌜ (r .answer ≡ o .answer) × (r .count ≡ o .count) × (r .caches .c030 ≡ c030) × (r .caches .c040 ≡ c040) ⌝ }
 {
-    let mut c030 = caches.c030;
-    let c040 = caches.c040;
-    let plan = load::plan_load(&mut c030, two, three, g, code, address);
-    PlannedPair {
-        plan,
-        caches: CachePair { c030, c040 },
-    }
-}
-
-// What the plan and its walk give, over copies of the arrays.
-fn concluded_load(
-    g: Registers,
-    code: u32,
-    write: bool,
-    address: u32,
-    p: PlannedPair,
-    walks: Walks,
-) -> Loaded
-    ensures { λ r. ⌜ LoadedIn (concludeLoad (g .tc) (code % 8) address write (pairOf (p .caches) .c030) (p .plan) walks) (r .answer) (r .count) (r .caches .c030) × Beside (p .caches) (r .caches) ⌝ }
-{
-    let plan = p.plan;
-    let caches = p.caches;
-    let mut c030 = caches.c030;
-    let c040 = caches.c040;
-    let outcome = load::conclude_load(&mut c030, g.tc, code, address, write, plan, walks);
-    let answer = outcome.answer;
+    let answer = o.answer;
     Loaded {
         answer,
-        count: outcome.count,
+        count: o.count,
         caches: CachePair { c030, c040 },
     }
 }
 
-// Load: 'drops the page (mask 7), .. and searches and caches'.
+// Load: 'drops the page (mask 7), .. and searches and caches'. The 68040 cache stays.
 pub fn load(
     longs: &[u32],
     base: u32,
@@ -173,12 +111,21 @@ pub fn load(
 ) -> Loaded
     ensures { λ r. ⌜ LoadedBy (loadOf g code write address (memory (now (longs .entry)) base (now (ranges .entry))) (pairOf caches)) r ⌝ }
 {
-    let two = checks::bad_longs(longs, base);
-    let three = memory::ranges::any_crossed(ranges);
-    let p = planned_load(two, three, g, code, address, caches);
-    let way = wanted(p);
-    let walks = walks::walk_for(longs, base, ranges, g, address, way);
-    concluded_load(g, code, write, address, p, walks)
+    let crossed = any_crossed(ranges);
+    let mut c030 = c030_of(caches);
+    let c040 = c040_of(caches);
+    let o = load::load(
+        &mut c030,
+        longs,
+        base,
+        ranges,
+        crossed,
+        g,
+        code,
+        write,
+        address,
+    );
+    load_with_pair(o, c030, c040)
 }
 
 // ---- Test.
@@ -196,12 +143,6 @@ pub fn test(
 ) -> TestOutcome
     ensures { λ r. ⌜ TestedIn (shownTested (testOf g code write level address (memory (now (longs .entry)) base (now (ranges .entry))))) (r .answer) (r .count) ⌝ }
 {
-    let two = checks::bad_longs(longs, base);
-    let three = memory::ranges::any_crossed(ranges);
-    let plan = test::plan_test(two, three, g, code, level, address);
-    let way = plan::way_of(plan);
-    let tc = walks::tc_of(g);
-    let root = walks::root_for(g, way);
-    let walks = walks::walk_030_for(longs, base, ranges, tc, root, address, way);
-    test::conclude_test(code, plan, walks)
+    let crossed = any_crossed(ranges);
+    test::test(longs, base, ranges, crossed, g, code, write, level, address)
 }

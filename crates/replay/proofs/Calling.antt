@@ -4,6 +4,7 @@ use mathlib.Core.Path.{_≡_, refl, ap, sym, _∙_}
 use mathlib.Core.List.{List}
 use mathlib.Core.Bool.{Bool}
 use Rattle.definition.specs.Memory.{Memory}
+use Rattle.definition.specs.Refusal.{badRange}
 use Rattle.definition.specs.Cache030.{Cache030}
 use Rattle.definition.specs.Cache040.{Cache040}
 use Rattle.definition.specs.Translate.{Caches, translate}
@@ -26,15 +27,32 @@ use Rattle.trace.specs.declared.Call.{Call as Made}
 use Rattle.trace.specs.declared.Line.{Line}
 use Rattle.cache.specs.Atc030.{cacheOf}
 use Rattle.cache.specs.Atc040.{cache040Of}
-use Rattle.translate.specs.Stages.{shownTranslated}
-use Rattle.load.specs.Loaded.{shownLoaded, LoadedIn}
-use Rattle.inquiry.specs.Tested.{shownTested, TestedIn}
+use Rattle.translate.specs.Stages.{translateGiven, shownTranslated}
+use Rattle.translate.proofs.Staged.{given-true}
+use Rattle.test.proofs.Testing as testing
+use Rattle.load.specs.Loaded.{loadGiven, shownLoaded, LoadedIn}
+use Rattle.test.specs.Tested.{testGiven, shownTested, TestedIn}
 use Rattle.cache.specs.Pair.{cachesOf, pairWith}
 use Rattle.translate.specs.InPlace.{AnsweredIn}
 use Rattle.flush.specs.Flushed.{FlushedIn, FlushedIn030, FlushedIn040}
 use Rattle.load.proofs.Loading.{load-beside}
-use Rattle.plan.proofs.Pairs.{beside}
+use Rattle.load.proofs.Loading as loading
+use Rattle.checks.proofs.Pairs.{beside}
 use Rattle.replay.specs.Playing.{CalledIn, Tests}
+
+-- what the caller says is true: a call with that word is the definition's
+module _ (g : Registers) (m : Memory) {crossed : Bool} where
+  pub true-translate : (a : Access) (c : Caches) → crossed ≡ badRange m → {t : Translation} {n : ℕ} {c030 c040 : List ℕ}
+      → AnsweredIn (shownTranslated (translateGiven crossed g a m c)) t n c030 c040 → AnsweredIn (shownTranslated (translate g a m c)) t n c030 c040
+  true-translate a c h k = rw (← given-true g a m c h) k
+
+  pub true-load : (code : ℕ) (write : Bool) (address : ℕ) (c : Caches) → crossed ≡ badRange m → {l : Load} {n : ℕ} {c030 : List ℕ}
+      → LoadedIn (shownLoaded (loadGiven crossed g code write address m c)) l n c030 → LoadedIn (shownLoaded (load g code write address m c)) l n c030
+  true-load code write address c h k = rw (← loading.given-true g code write address m c h) k
+
+  pub true-test : (code : ℕ) (write : Bool) (level address : ℕ) → crossed ≡ badRange m → {t : Test} {n : ℕ}
+      → TestedIn (shownTested (testGiven crossed g code write level address m)) t n → TestedIn (shownTested (test g code write level address m)) t n
+  true-test code write level address h k = rw (← testing.given-true g code write level address m h) k
 
 module _ (g : Registers) (m : Memory) {l : Line} where
   pub of-translate : (a : Access) (c : Caches) {t : Translation} {n : ℕ} {c030 c040 : List ℕ}

@@ -101,7 +101,7 @@ fn access_line(
 ) -> Line
     ensures { λ r. ⌜ (three ≡ anyOf crossed (take n list) → CalledIn (calling g (memory (now (longs .entry)) 0 (take n list)) (cachesOf (now (c030 .entry)) (now (c040 .entry))) (access a)) r (now (c030 .exit)) (now (c040 .exit))) ⌝ }
 {
-    let o = translate::translate_in(c030, c040, longs, 0, list, n, three, g, a);
+    let o = kept::translate(c030, c040, longs, 0, list, n, three, g, a);
     let answer = o.answer;
     translation_line(answer, o.count)
 }
@@ -121,7 +121,7 @@ fn load_call(
 ) -> Line
     ensures { λ r. ⌜ (three ≡ anyOf crossed (take n list) → CalledIn (calling g (memory (now (longs .entry)) 0 (take n list)) (cachesOf (now (c030 .entry)) (now (c040 .entry))) (loading code write address)) r (now (c030 .exit)) (now (c040 .entry))) ⌝ }
 {
-    let o = load::load_in(c030, longs, 0, list, n, three, g, code, write, address);
+    let o = kept::load(c030, longs, 0, list, n, three, g, code, write, address);
     let answer = o.answer;
     load_line(answer, o.count)
 }
@@ -140,7 +140,7 @@ fn test_call(
 ) -> Line
     ensures { λ r. ⌜ (three ≡ anyOf crossed (take n list) → Tests g (memory (now (longs .entry)) 0 (take n list)) code write level address r) ⌝ }
 {
-    let o = inquiry::test::test_in(longs, 0, list, n, three, g, code, write, level, address);
+    let o = kept::test(longs, 0, list, n, three, g, code, write, level, address);
     let answer = o.answer;
     test_line(answer, o.count)
 }
@@ -198,7 +198,7 @@ pub fn make(
             write,
             address,
         } => {
-            let answer = inquiry::probe::probe_in(c030, c040, g, own, instruction, write, address);
+            let answer = probe::probe(c030, c040, g, own, instruction, write, address);
             probe_line(answer)
         }
     }

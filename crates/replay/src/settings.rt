@@ -24,7 +24,7 @@ pub struct Step {
 fn set_registers(kept: Kept, g: Registers) -> Step
     ensures { λ r. ⌜ ((longs c030 c040 : List ℕ) → PlayedIn (stepOf (stateOf kept longs c030 c040) (Loads g)) (r .line) (r .kept) longs c030 c040) × (rangesOf (r .kept) ≡ rangesOf kept) ⌝ }
 {
-    if plan::checks::no_family(g.family) {
+    if checks::no_family(g.family) {
         return Step {
             line: Line::R { number: 1 },
             kept,

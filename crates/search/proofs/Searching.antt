@@ -10,33 +10,16 @@ use Rattle.definition.specs.Cache030.{Cache030, inserted}
 use Rattle.definition.specs.Translate.{baseOf, violation, busError, configuration, cached, onEnd030, searched}
 use Rattle.definition.specs.declared.Shift.{Shift}
 use Rattle.definition.specs.declared.Shift.the-variants.{Bits, NoPage}
-use Rattle.definition.specs.declared.Hit.{Hit}
 use Rattle.definition.specs.declared.End.{End}
 use Rattle.definition.specs.declared.End.the-variants as end
 use Rattle.definition.specs.declared.FaultCause.{FaultCause}
 use Rattle.definition.specs.declared.Translation.{Translation}
-use Rattle.walks.specs.declared.Way.{Way}
 use Rattle.walk030.specs.declared.Walked.{Walked}
-use Rattle.cache.specs.Atc030.{cacheOf, Stepped, Looked}
-use Rattle.plan.specs.declared.Plan.{Plan}
-use Rattle.plan.proofs.Bounds.{in-three-bits}
-use Rattle.search.specs.Searched.{lookPlan, plan030, missingCause, permittedOf, page030, end030, PlannedIn030, Ended}
+use Rattle.cache.specs.Atc030.{cacheOf, Stepped}
+use Rattle.checks.proofs.Bounds.{in-three-bits}
+use Rattle.search.specs.Searched.{missingCause, permittedOf, page030, end030, Ended}
 
 module _ {a : List ℕ} (code address : ℕ) {r s : Shift} (is : r ≡ s) where
-  -- ---- the plan
-  module _ (write recorded : Bool) where
-    pub plan-none : r ≡ NoPage → length a ≡ 69
-        → PlannedIn030 (plan030 (cacheOf a) recorded code address write s) (Plan.Walk (Way.By030 code 5)) a
-    plan-none none z = rw (sym is ∙ none) (record { plans = refl; leaves = refl; sized = z })
-
-    pub plan-look : {shift : ℕ} {hit : Hit} {p : Plan} {a′ : List ℕ} → code < 8 → r ≡ Bits shift
-        → Looked a (code % 8) (address / 2 ^ shift) shift write recorded hit a′ → p ≡ lookPlan code address shift hit
-        → PlannedIn030 (plan030 (cacheOf a) recorded code address write s) p a′
-    plan-look {shift} {hit} {p} {a′} small some k q =
-        let looked : Looked a code (address / 2 ^ shift) shift write recorded hit a′ = rw (← in-three-bits small) k in
-        rw (sym is ∙ some)
-        (record { plans = q ∙ ap (lookPlan code address shift) (looked .answers); leaves = looked .steps .leaves; sized = k .steps .sized })
-
   -- ---- what is cached
   module _ (physical : ℕ) (wp : Bool) where
     pub cache-none : r ≡ NoPage → length a ≡ 69 → Stepped (λ (c : Cache030). cached s c code address physical wp) a a

@@ -1,17 +1,12 @@
-// A 68030 search in place: what is planned before the walk, and what the walk's end gives. Translate and load share it. A code has three bits.
+// What the end of a 68030 walk gives, in place: translate and load share it. A code has three bits.
 use cache::atc030::Atc030;
 use cache::atc030::insert;
-use cache::atc030::look;
 use definition::End;
 use definition::FaultCause;
 use definition::FaultKind;
-use definition::Hit;
 use definition::Shift;
 use definition::Translation;
-use plan::Plan;
-use plan::checks;
 use walk030::Walked;
-use walks::Way;
 ghost use lib.ListN.{length};
 ghost use mathlib.Core.Path.{_≡_};
 ghost use Prim.Native.Nat.{_%_, _<_};
@@ -20,40 +15,7 @@ ghost use Rattle.definition.specs.Walk030.{shiftOf};
 ghost use Rattle.definition.specs.Cache030.{Cache030};
 ghost use Rattle.definition.specs.Translate.{violation, busError, configuration, cached};
 ghost use Rattle.cache.specs.Atc030.{cacheOf, Stepped};
-ghost use Rattle.search.specs.Searched.{lookPlan, plan030, missingCause, permittedOf, page030, end030, PlannedIn030, Ended};
-
-// By what the look gave: a hit adds the address's low page-shift bits.
-fn looked(hit: Hit, code: u32, address: u32, shift: u32) -> Plan
-    ensures { λ r. ⌜ r ≡ lookPlan code address shift hit ⌝ }
-{
-    match hit {
-        Hit::At(base) => Plan::Settled(memory::page030::hit_address(base, address, shift)),
-        Hit::Miss => Plan::Walk(Way::By030 { code, limit: 5 }),
-    }
-}
-
-// The cache, where there is a page shift; else the walk.
-pub fn plan_030(
-    c030: &mut Atc030,
-    tc: u32,
-    code: u32,
-    address: u32,
-    write: bool,
-    recorded: bool,
-) -> Plan
-    ensures { λ r. ⌜ PlannedIn030 (plan030 (cacheOf (now (c030 .entry))) recorded (code % 8) address write (shiftOf tc)) r (now (c030 .exit)) ⌝ }
-{
-    checks::sized(c030);
-    let code = code % 8;
-    match memory::page030::page_shift(tc) {
-        Shift::NoPage => Plan::Walk(Way::By030 { code, limit: 5 }),
-        Shift::Bits(shift) => {
-            let page = address >> shift;
-            let hit = look(c030, code, page, shift, write, recorded);
-            looked(hit, code, address, shift)
-        }
-    }
-}
+ghost use Rattle.search.specs.Searched.{missingCause, permittedOf, page030, end030, Ended};
 
 // A fault of an access: AccessLevelViolation, which reports the logical address.
 pub fn fault(cause: FaultCause, address: u32) -> Translation

@@ -29,7 +29,7 @@ pub fn probe(
 {
     let c030 = caches.c030;
     let c040 = caches.c040;
-    inquiry::probe::probe_in(&c030, &c040, g, own, instruction, write, address)
+    probe::probe(&c030, &c040, g, own, instruction, write, address)
 }
 
 // ---- The flushes.

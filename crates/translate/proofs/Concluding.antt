@@ -1,13 +1,12 @@
--- What the parts of a translation's conclusion give together. Assumes nothing.
-use Prim.Native.Nat.{ℕ, _/_, _%_, _^_}
+-- What a 68040 walk's end gives. Assumes nothing.
+use Prim.Native.Nat.{ℕ, _/_, _^_}
 use mathlib.Core.Path.{_≡_, refl, ap, _∙_}
 use mathlib.Core.List.{List}
 use mathlib.Core.Bool.{Bool, true, false, not, _&&_}
 use lib.ListN.{length}
-use Rattle.definition.specs.Registers.{asSupervisor, walkCode}
 use Rattle.definition.specs.Walk040.{pageBits, frameOf, physical040}
 use Rattle.definition.specs.Cache040.{Cache040, inserted040}
-use Rattle.definition.specs.Translate.{Caches, violation, busError}
+use Rattle.definition.specs.Translate.{violation, busError}
 use Rattle.definition.specs.declared.Registers.{Registers}
 use Rattle.definition.specs.declared.Access.{Access}
 use Rattle.definition.specs.declared.End040.{End040}
@@ -15,21 +14,15 @@ use Rattle.definition.specs.declared.End040.the-variants as end
 use Rattle.definition.specs.declared.FaultCause.{FaultCause}
 use Rattle.definition.specs.declared.FaultCause.the-variants as cause
 use Rattle.definition.specs.declared.Translation.{Translation}
-use Rattle.walks.specs.declared.Walks.{Walks}
-use Rattle.walks.specs.declared.Walks.the-variants as walks
 use Rattle.walk030.specs.declared.Walked.{Walked}
 use Rattle.walk040.specs.declared.Walked040.{Walked040}
-use Rattle.walks.specs.declared.Way.{Way}
 use Rattle.cache.specs.Atc030.{cacheOf}
 use Rattle.cache.specs.Atc040.{cache040Of, Stepped040}
-use Rattle.plan.specs.declared.Plan.{Plan}
-use Rattle.plan.specs.declared.Plan.the-variants as plan
-use Rattle.search.specs.Searched.{end030, Ended}
-use Rattle.translate.specs.Stages.{resident040, end040, onWalks, concludeAccess}
 use Rattle.cache.specs.Pair.{cachesOf, SizedAll}
-use Rattle.plan.proofs.Bounds.{in-three-bits}
-use Rattle.translate.specs.InPlace.{Ended040, AnsweredIn}
-use Rattle.translate.proofs.Planning.{walk-small}
+use Rattle.translate.specs.Stages.{resident040, end040, after030, after040, concludedOf}
+use Rattle.translate.specs.InPlace.{Ended040, Gave030, Gave040, AnsweredIn}
+use Rattle.translate.specs.declared.Found.{Found}
+use Rattle.translate.specs.declared.Found.the-variants as found
 
 -- ---- a resident 68040 page
 module _ (tc address : ℕ) (supervisor write : Bool) {c040 : List ℕ} where
@@ -70,43 +63,20 @@ pub end-resident : (tc : ℕ) (c : Cache040) (address : ℕ) (supervisor write :
 unfolding end040
 end-resident tc c address supervisor write e k = rw e k
 
--- ---- the walks
-module _ (g : Registers) (a : Access) {c030 c040 : List ℕ} (z : SizedAll c030 c040) {w : Walks} where
-  pub walked-idle : w ≡ walks.Idle
-      → AnsweredIn (onWalks g a (cachesOf c030 c040) w) (Translation.Address (a .address)) 0 c030 c040
-  unfolding onWalks
-  walked-idle e = rw e (record { answers = refl; counts = refl; leaves = refl; whole = z })
+-- ---- what the walk that was asked for gives
+module _ (g : Registers) (a : Access) {c030 c040 : List ℕ} (z : SizedAll c030 c040) {f : Found} {t : Translation} {n : ℕ} where
+  pub concludes : {x : Translation} → f ≡ found.Settled x → t ≡ x → n ≡ 0 → AnsweredIn (concludedOf g a (cachesOf c030 c040) f) t n c030 c040
+  unfolding concludedOf
+  concludes e et en = rw e (record { answers = et; counts = en; leaves = refl; whole = z })
 
-  pub walked-030 : {x : Walked} {code : ℕ} {t : Translation} {c030′ : List ℕ} → w ≡ walks.By030 x → code ≡ walkCode a
-      → Ended (end030 (g .tc) (cacheOf c030) (code % 8) (a .address) (a .write) x) t c030′
-      → AnsweredIn (onWalks g a (cachesOf c030 c040) w) t (x .asked) c030′ c040
-  unfolding onWalks
-  walked-030 {x} {code} {t} {c030′} e f k =
-      let q : Ended (end030 (g .tc) (cacheOf c030) code (a .address) (a .write) x) t c030′ = rw (← in-three-bits (walk-small a f)) k in
-      rw (e, ← f)
-      (record { answers = q .answers; counts = refl; leaves = rw (q .leaves) refl; whole = record { sized = q .sized; sized040 = z .sized040 } })
+  pub concludes-030 : {code : ℕ} {w : Walked} {c030′ : List ℕ} → f ≡ found.By030 code w → Gave030 g a (cacheOf c030) code w t n c030′
+      → AnsweredIn (concludedOf g a (cachesOf c030 c040) f) t n c030′ c040
+  unfolding concludedOf after030
+  concludes-030 e q =
+      rw e (record { answers = q .0 .answers; counts = q .1; leaves = rw (q .0 .leaves) refl; whole = record { sized = q .0 .sized; sized040 = z .sized040 } })
 
-  pub walked-040 : {x : Walked040} {supervisor : Bool} {t : Translation} {c040′ : List ℕ} → w ≡ walks.By040 x → supervisor ≡ asSupervisor a
-      → Ended040 (end040 (g .tc) (cache040Of c040) (a .address) supervisor (a .write) (x .end)) t c040′
-      → AnsweredIn (onWalks g a (cachesOf c030 c040) w) t (x .asked) c030 c040′
-  unfolding onWalks
-  walked-040 e f k =
-      rw (e, ← f)
-      (record { answers = k .answers; counts = refl; leaves = rw (k .leaves) refl; whole = record { sized = z .sized; sized040 = k .sized } })
-
--- ---- the plans
-module _ (g : Registers) (a : Access) {p : Plan} (w : Walks) where
-  pub concluded-refused : {c030 c040 : List ℕ} {n : ℕ} → p ≡ plan.Refused n → SizedAll c030 c040
-      → AnsweredIn (concludeAccess g a (cachesOf c030 c040) p w) (Translation.Refused n) 0 c030 c040
-  unfolding concludeAccess
-  concluded-refused e z = rw e (record { answers = refl; counts = refl; leaves = refl; whole = z })
-
-  pub concluded-settled : {c030 c040 : List ℕ} {x : ℕ} → p ≡ plan.Settled x → SizedAll c030 c040
-      → AnsweredIn (concludeAccess g a (cachesOf c030 c040) p w) (Translation.Address x) 0 c030 c040
-  unfolding concludeAccess
-  concluded-settled e z = rw e (record { answers = refl; counts = refl; leaves = refl; whole = z })
-
-  pub concluded-walk : (c : Caches) {x : Way} {t : Translation} {n : ℕ} {c030 c040 : List ℕ} → p ≡ plan.Walk x
-      → AnsweredIn (onWalks g a c w) t n c030 c040 → AnsweredIn (concludeAccess g a c p w) t n c030 c040
-  unfolding concludeAccess
-  concluded-walk c e k = rw e k
+  pub concludes-040 : {supervisor : Bool} {w : Walked040} {c040′ : List ℕ} → f ≡ found.By040 supervisor w → Gave040 g a (cache040Of c040) supervisor w t n c040′
+      → AnsweredIn (concludedOf g a (cachesOf c030 c040) f) t n c030 c040′
+  unfolding concludedOf after040
+  concludes-040 e q =
+      rw e (record { answers = q .0 .answers; counts = q .1; leaves = rw (q .0 .leaves) refl; whole = record { sized = z .sized; sized040 = q .0 .sized } })

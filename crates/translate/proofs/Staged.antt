@@ -23,14 +23,13 @@ use Rattle.definition.specs.declared.Hit.the-variants.{At, Miss}
 use Rattle.definition.specs.declared.End040.{End040}
 use Rattle.definition.specs.declared.End040.the-variants as end040′
 use Rattle.definition.specs.declared.Translation.{Translation}
-use Rattle.walks.specs.Walked.{walksOf}
-use Rattle.walks.specs.declared.Way.{Way}
-use Rattle.plan.specs.declared.Plan.{Plan}
-use Rattle.translate.specs.InPlace.{AnsweredIn}
-use Rattle.plan.specs.Plans.{wayOf}
-use Rattle.search.specs.Searched.{lookPlan, plan030, end030}
+use Rattle.checks.specs.Given.{withThird}
+use Rattle.checks.proofs.Bounds.{in-three-bits}
+use Rattle.search.specs.Searched.{end030}
 use Rattle.search.proofs.Searching.{end030-asked}
-use Rattle.translate.specs.Stages.{Planned, planned, with030Of, with040Of, besidePlan, lookPlan040, plan040, planOn, accessRefusal, planAccess, Answered, shownTranslated, Searched040, searched040, resident040, end040, onWalks, concludeAccess}
+use Rattle.translate.specs.Stages.{translateGiven, Planned, planned, with030Of, with040Of, besidePlan, lookPlan, plan030, lookPlan040, plan040, planOn, accessRefusal, planAccess, Answered, shownTranslated, Searched040, searched040, resident040, end040, after030, after040, foundOf, concludedOf}
+use Rattle.translate.specs.declared.Plan.{Plan}
+use Rattle.translate.proofs.Planning.{walk-small}
 
 -- ---- an end's answer and cache don't depend on what was asked for
 module _ (g : Registers) (a : Access) (c : Caches) (asked : List ℕ) where
@@ -56,21 +55,21 @@ module _ (g : Registers) (a : Access) (c : Caches) (asked : List ℕ) where
 module _ (g : Registers) (a : Access) (m : Memory) where
   -- what is concluded from a plan and its walk
   abbrev pub finish : Planned → Answered
-  finish p = concludeAccess g a (p .caches) (p .plan) (walksOf m g (a .address) (wayOf (p .plan)))
+  finish p = concludedOf g a (p .caches) (foundOf m g a (p .plan))
 
   finish-if : (b : Bool) (x y : Planned) (t u : Translated) → finish x ≡ shownTranslated t → finish y ≡ shownTranslated u
       → finish (if b then x else y) ≡ shownTranslated (if b then t else u)
   finish-if true x y t u h k = h
   finish-if false x y t u h k = k
 
-  search-staged : (c : Caches) → finish (planned (Plan.Walk (Way.By030 (walkCode a) everyLevel)) c) ≡ shownTranslated (beside c (search030 g m (c .c030) (walkCode a) (a .address) (a .write)))
-  unfolding search030 end030 onWalks concludeAccess
+  search-staged : (c : Caches) → finish (planned (Plan.Walk030 (walkCode a)) c) ≡ shownTranslated (beside c (search030 g m (c .c030) (walkCode a) (a .address) (a .write)))
+  unfolding search030 end030 after030 concludedOf
   search-staged c =
       let o = walk030 m g (a .address) (walkCode a) everyLevel in
-      rw (end030-asked (g .tc) (c .c030) (walkCode a) (a .address) (a .write) (o .found .wp) (o .found .sup) (o .found .asked) (o .end))
+      rw (in-three-bits (walk-small a refl), end030-asked (g .tc) (c .c030) (walkCode a) (a .address) (a .write) (o .found .wp) (o .found .sup) (o .found .asked) (o .end))
 
   hit030-staged : (c : Caches) (shift : ℕ) (h : Hit) → finish (planned (lookPlan (walkCode a) (a .address) shift h) c) ≡ shownTranslated (beside c (onHit030 g m (c .c030) (walkCode a) (a .address) (a .write) shift h))
-  unfolding concludeAccess
+  unfolding concludedOf
   hit030-staged c shift (At base) = refl
   hit030-staged c shift Miss = search-staged c
 
@@ -85,7 +84,7 @@ module _ (g : Registers) (a : Access) (m : Memory) where
   translate030-staged c = with030-staged c (shiftOf (g .tc))
 
   hit040-staged : (c : Caches) (h : Hit) → finish (planned (lookPlan040 (g .tc) (a .address) (asSupervisor a) h) c) ≡ shownTranslated (onHit040 g a m c h)
-  unfolding onWalks concludeAccess
+  unfolding after040 concludedOf
   hit040-staged c (At base) = refl
   hit040-staged c Miss =
       let o = walk040 m g (a .address) (asSupervisor a) in rw (end040-asked g a c (o .asked) (o .end))
@@ -94,18 +93,16 @@ module _ (g : Registers) (a : Access) (m : Memory) where
   unfolding translate040
   translate040-staged c = hit040-staged c (hit040 (c .c040) (a .address / 2 ^ pageBits (g .tc)) (asSupervisor a) (a .write))
 
-  pub translate-staged : (c : Caches) → finish (planAccess g a (badBase m) (badRange m) c) ≡ shownTranslated (translate g a m c)
-  unfolding translate inOrder planAccess planOn accessRefusal concludeAccess
-  translate-staged c =
-      finish-if (eqb (refusalOf (translateChecks g a m c)) 0) _ _ _ _
+  pub translate-staged : (crossed : Bool) (c : Caches) → finish (planAccess g a (badBase m) crossed c) ≡ shownTranslated (translateGiven crossed g a m c)
+  unfolding translateGiven inOrder planAccess planOn accessRefusal concludedOf
+  translate-staged crossed c =
+      finish-if (eqb (refusalOf (withThird crossed (translateChecks g a m c))) 0) _ _ _ _
       (finish-if (not (on g)) _ _ _ _ refl
       (finish-if (transparent g (a .address) (comparedCode a) (asInstruction a)) _ _ _ _ refl
       (finish-if (eqb (g .family) 30) _ _ _ _ (translate030-staged c) (translate040-staged c))))
       refl
 
-  -- the law for the code: from a plan and its walk to the call
-  pub translated-by : (c : Caches) {d : Caches} {p : Plan} {t : Translation} {n : ℕ} {c030 c040 : List ℕ}
-      → p ≡ planAccess g a (badBase m) (badRange m) c .plan → d ≡ planAccess g a (badBase m) (badRange m) c .caches
-      → AnsweredIn (concludeAccess g a d p (walksOf m g (a .address) (wayOf p))) t n c030 c040
-      → AnsweredIn (shownTranslated (translate g a m c)) t n c030 c040
-  translated-by c e f k = rw (← translate-staged c, ← e, ← f) k
+  -- with the true word it is the call's definition
+  pub given-true : (c : Caches) {crossed : Bool} → crossed ≡ badRange m → translateGiven crossed g a m c ≡ translate g a m c
+  unfolding translateGiven translate
+  given-true c e = rw e

@@ -1,41 +1,46 @@
 -- From a plan and its walk to the call. Assumes nothing.
 use Prim.Native.Nat.{ℕ}
-use mathlib.Core.Path.{_≡_}
+use mathlib.Core.Path.{_≡_, refl, ap, sym, _∙_}
 use mathlib.Core.List.{List}
 use mathlib.Core.Bool.{Bool}
 use Rattle.definition.specs.Memory.{Memory}
-use Rattle.definition.specs.Refusal.{badBase, badRange}
-use Rattle.definition.specs.Translate.{Caches, translate}
+use Rattle.definition.specs.Refusal.{badBase}
+use Rattle.definition.specs.Walk030.{everyLevel, walk030}
+use Rattle.definition.specs.Walk040.{walk040}
+use Rattle.definition.specs.Translate.{Caches}
 use Rattle.definition.specs.declared.Registers.{Registers}
 use Rattle.definition.specs.declared.Access.{Access}
 use Rattle.definition.specs.declared.Translation.{Translation}
-use Rattle.walks.specs.Walked.{walksOf}
-use Rattle.walks.specs.declared.Way.{Way}
-use Rattle.walks.specs.declared.Walks.{Walks}
-use Rattle.plan.specs.declared.Plan.{Plan}
-use Rattle.plan.specs.declared.Plan.the-variants as plan
-use Rattle.plan.specs.Plans.{wayOf}
-use Rattle.translate.specs.Stages.{planAccess, shownTranslated, onWalks}
+use Rattle.walk030.specs.Walked.{shown}
+use Rattle.walk030.specs.declared.Walked.{Walked}
+use Rattle.walk040.specs.Walked.{shown040}
+use Rattle.walk040.specs.declared.Walked040.{Walked040}
 use Rattle.cache.specs.Pair.{cachesOf}
+use Rattle.translate.specs.Stages.{translateGiven, planAccess, shownTranslated, foundOf, concludedOf}
 use Rattle.translate.specs.InPlace.{PlannedIn, AnsweredIn}
-use Rattle.translate.proofs.Staged.{translated-by}
-use Rattle.translate.proofs.Concluding.{concluded-refused, concluded-settled, concluded-walk}
+use Rattle.translate.specs.declared.Plan.{Plan}
+use Rattle.translate.specs.declared.Plan.the-variants as plan
+use Rattle.translate.specs.declared.Found.{Found}
+use Rattle.translate.proofs.Staged.{translate-staged}
 
-module _ (g : Registers) (a : Access) (m : Memory) (c : Caches) {two three : Bool} (is-two : two ≡ badBase m) (is-three : three ≡ badRange m)
-    {p : Plan} {c030 c040 : List ℕ} (k : PlannedIn (planAccess g a two three c) p c030 c040) where
-  -- the plan is the one of the memory's own checks
-  planned : PlannedIn (planAccess g a (badBase m) (badRange m) c) p c030 c040
-  planned = rw (← is-two, ← is-three) k
+-- ---- the walk that a plan asks for
+module _ (m : Memory) (g : Registers) (a : Access) (p : Plan) {f : Found} where
+  pub settles : {t : Translation} → p ≡ plan.Settled t → f ≡ Found.Settled t → f ≡ foundOf m g a p
+  settles e ef = ef ∙ ap (foundOf m g a) (sym e)
 
-  pub in-refused : {n : ℕ} → p ≡ plan.Refused n → AnsweredIn (shownTranslated (translate g a m c)) (Translation.Refused n) 0 c030 c040
-  in-refused e = translated-by g a m c (planned .plans) (planned .leaves) (concluded-refused g a _ e (k .whole))
+  pub walks-030 : {code : ℕ} → p ≡ plan.Walk030 code → {address : ℕ} → address ≡ a .address → {limit : ℕ} → limit ≡ everyLevel
+      → {w : Walked} → w ≡ shown (walk030 m g address code limit) → f ≡ Found.By030 code w → f ≡ foundOf m g a p
+  walks-030 {code} e ea el ew ef = ef ∙ ap (Found.By030 code) (ew ∙ rw (ea, el)) ∙ ap (foundOf m g a) (sym e)
 
-  pub in-settled : {x : ℕ} → p ≡ plan.Settled x → AnsweredIn (shownTranslated (translate g a m c)) (Translation.Address x) 0 c030 c040
-  in-settled e = translated-by g a m c (planned .plans) (planned .leaves) (concluded-settled g a _ e (k .whole))
+  pub walks-040 : {supervisor : Bool} → p ≡ plan.Walk040 supervisor → {address : ℕ} → address ≡ a .address
+      → {w : Walked040} → w ≡ shown040 (walk040 m g address supervisor) → f ≡ Found.By040 supervisor w → f ≡ foundOf m g a p
+  walks-040 {supervisor} e ea ew ef = ef ∙ ap (Found.By040 supervisor) (ew ∙ rw ea) ∙ ap (foundOf m g a) (sym e)
 
-  pub in-walked : {way : Way} {w : Walks} {t : Translation} {n : ℕ} {c030′ c040′ : List ℕ} → p ≡ plan.Walk way
-      → w ≡ walksOf m g (a .address) way → AnsweredIn (onWalks g a (cachesOf c030 c040) w) t n c030′ c040′
-      → AnsweredIn (shownTranslated (translate g a m c)) t n c030′ c040′
-  in-walked {way} {w} e f q =
-      translated-by g a m c (planned .plans) (planned .leaves)
-      (concluded-walk g a (walksOf m g (a .address) (wayOf p)) (cachesOf c030 c040) e (rw (e, ← f) q))
+-- ---- the call
+pub translates : (g : Registers) (a : Access) (m : Memory) (c : Caches) (crossed : Bool) {two : Bool} → two ≡ badBase m
+    → {p : Plan} {c030 c040 : List ℕ} → PlannedIn (planAccess g a two crossed c) p c030 c040 → {f : Found} → f ≡ foundOf m g a p
+    → {t : Translation} {n : ℕ} {c030′ c040′ : List ℕ} → AnsweredIn (concludedOf g a (cachesOf c030 c040) f) t n c030′ c040′
+    → AnsweredIn (shownTranslated (translateGiven crossed g a m c)) t n c030′ c040′
+translates g a m c crossed is-two {p} {c030} {c040} k ef q =
+    let planned : PlannedIn (planAccess g a (badBase m) crossed c) p c030 c040 = rw (← is-two) k in
+    rw (← translate-staged g a m crossed c, ← planned .plans, ← planned .leaves, ← ef) q

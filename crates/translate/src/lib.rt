@@ -1,33 +1,30 @@
-// Translate in place, over arrays that the caller keeps: 'No PMMU or not enabled: the address itself. .. Then transparent registers, cache, walk.'
+// Translate in place: 'No PMMU or not enabled: the address itself. .. Then transparent registers, cache, walk.'
+// It is written here and nowhere else: the calls by value, the host's door and the replay hand on to `translate`.
+// It is lent the ranges, so it is thin: its proof is a walk by hand, which tools/ prints.
+mod after;
+mod before;
+
 use cache::atc030::Atc030;
-use cache::atc030::bad_cache;
 use cache::atc040::Atc040;
-use cache::atc040::insert_040;
-use cache::atc040::look_040;
 use definition::Access;
-use definition::End040;
-use definition::FaultCause;
-use definition::Hit;
 use definition::Range;
 use definition::Registers;
 use definition::Translation;
-use plan::Plan;
-use plan::checks;
-use walks::Walks;
-use walks::Way;
+use walk030::Walked;
+use walk040::Walked040;
 ghost use mathlib.Core.Path.{_≡_};
-ghost use lib.ListN.{length, take};
-ghost use Rattle.definition.specs.Words.{anyOf};
 ghost use Rattle.definition.specs.Memory.{memory};
-ghost use Rattle.definition.specs.Refusal.{crossed};
-ghost use Rattle.definition.specs.Translate.{translate};
-ghost use Prim.Native.Nat.{_/_, _^_};
-ghost use Rattle.definition.specs.Walk040.{pageBits};
-ghost use Rattle.definition.specs.Cache040.{hit040};
-ghost use Rattle.cache.specs.Atc040.{cache040Of};
-ghost use Rattle.translate.specs.Stages.{lookPlan040, planOn, planAccess, resident040, end040, onWalks, concludeAccess, shownTranslated};
-ghost use Rattle.cache.specs.Pair.{cachesOf, SizedAll};
-ghost use Rattle.translate.specs.InPlace.{PlannedIn, Ended040, AnsweredIn};
+ghost use Rattle.cache.specs.Pair.{cachesOf};
+ghost use Rattle.translate.specs.Stages.{foundOf, shownTranslated, translateGiven};
+ghost use Rattle.translate.specs.InPlace.{AnsweredIn};
+ghost use Rattle.translate.specs.declared.Found.{Found};
+
+// What is settled before the tables are asked: the answer itself, or the walk to make.
+pub enum Plan {
+    Settled(Translation),
+    Walk030 { code: u32 },
+    Walk040 { supervisor: bool },
+}
 
 // An answer with its count: how many longs were asked for.
 pub struct Outcome {
@@ -35,216 +32,70 @@ pub struct Outcome {
     pub count: u32,
 }
 
-// ---- The plan.
-
-// By what the look into the 68040 cache gave: a hit joins base and low bits.
-fn looked_040(hit: Hit, tc: u32, address: u32, supervisor: bool) -> Plan
-    ensures { λ r. ⌜ r ≡ lookPlan040 tc address supervisor hit ⌝ }
-{
-    match hit {
-        Hit::At(base) => Plan::Settled(memory::page040::joined_040(tc, base, address)),
-        Hit::Miss => Plan::Walk(Way::By040 { supervisor }),
-    }
+// The walk that the plan asked for is made: the answer itself, or how the walk ended.
+pub enum Found {
+    Settled(Translation),
+    By030 { code: u32, walk: Walked },
+    By040 { supervisor: bool, walk: Walked040 },
 }
 
-// The 68040 cache, keyed by frame and supervisor; else the walk.
-fn plan_040(c040: &Atc040, tc: u32, address: u32, supervisor: bool, write: bool) -> Plan
-    ensures { λ r. ⌜ r ≡ lookPlan040 tc address supervisor (hit040 (cache040Of (now (c040 .entry))) (address / 2 ^ pageBits tc) supervisor write) ⌝ }
+// The answer itself.
+fn settled(answer: Translation) -> Found
+    ensures { λ r. ⌜ r ≡ Found.Settled answer ⌝ }
 {
-    let bits = memory::page040::page_bits(tc);
-    let frame = address >> bits;
-    let hit = look_040(c040, frame, supervisor, write);
-    looked_040(hit, tc, address, supervisor)
+    Found::Settled(answer)
 }
 
-// The transparent registers before either cache.
-fn plan_on(c030: &mut Atc030, c040: &Atc040, g: Registers, a: Access) -> Plan
-    requires { ⌜ SizedAll (now c030) (now c040) ⌝ }
-    ensures { λ r. ⌜ PlannedIn (planOn g a (cachesOf (now (c030 .entry)) (now (c040 .entry)))) r (now (c030 .exit)) (now (c040 .entry)) ⌝ }
+// How a 68030 walk in a code's space ended.
+fn by_030(code: u32, walk: Walked) -> Found
+    ensures { λ r. ⌜ r ≡ Found.By030 code walk ⌝ }
 {
-    let compared = checks::compared_code(a);
-    let instruction = checks::as_instruction(a);
-    if transparent::is_transparent(g, a.address, compared, instruction) {
-        return Plan::Settled(a.address);
-    }
-    if g.family == 30 {
-        let code = checks::walk_code(a);
-        return search::plan_030(c030, g.tc, code, a.address, a.write, a.recorded);
-    }
-    let supervisor = checks::as_supervisor(a);
-    plan_040(c040, g.tc, a.address, supervisor, a.write)
+    Found::By030 { code, walk }
 }
 
-// The refusals, before the test for an enabled PMMU. `two`: the base is bad; `three`: a range is crossed.
-pub fn plan_access(
-    c030: &mut Atc030,
-    c040: &Atc040,
-    two: bool,
-    three: bool,
-    g: Registers,
-    a: Access,
-) -> Plan
-    ensures { λ r. ⌜ PlannedIn (planAccess g a two three (cachesOf (now (c030 .entry)) (now (c040 .entry)))) r (now (c030 .exit)) (now (c040 .entry)) ⌝ }
+// How a 68040 walk ended.
+fn by_040(supervisor: bool, walk: Walked040) -> Found
+    ensures { λ r. ⌜ r ≡ Found.By040 supervisor walk ⌝ }
 {
-    checks::lengths(c030, c040);
-    let code = a.code;
-    let five = checks::bad_override(code);
-    let four = bad_cache(c030);
-    let one = checks::no_family(g.family);
-    let enabled = checks::is_on(g);
-    let n = checks::first_refusal(one, false, five, two, three, four);
-    if n != 0 {
-        return Plan::Refused(n);
-    }
-    if !enabled {
-        return Plan::Settled(a.address);
-    }
-    plan_on(c030, c040, g, a)
+    Found::By040 { supervisor, walk }
 }
 
-// ---- The conclusion.
-
-// A write with W faults first, then user with S. Only a permitted access is cached.
-fn resident(
-    c040: &mut Atc040,
-    tc: u32,
-    address: u32,
-    supervisor: bool,
-    write: bool,
-    field: u32,
-    wp: bool,
-    sup: bool,
-) -> Translation
-    requires { ⌜ (length (now c040) ≡ 128) ⌝ }
-    ensures { λ r. ⌜ Ended040 (resident040 tc (cache040Of (now (c040 .entry))) address supervisor write field wp sup) r (now (c040 .exit)) ⌝ }
+// The walk that a plan asks for.
+fn walked(longs: &[u32], base: u32, ranges: &[Range], g: Registers, a: Access, plan: Plan) -> Found
+    ensures { λ r. ⌜ r ≡ foundOf (memory (now (longs .entry)) base (now (ranges .entry))) g a plan ⌝ }
 {
-    if write & wp {
-        return search::fault(FaultCause::WriteProtect, address);
-    }
-    if !supervisor & sup {
-        return search::fault(FaultCause::SupervisorProtect, address);
-    }
-    let bits = memory::page040::page_bits(tc);
-    let frame = address >> bits;
-    let base = memory::page040::frame_base(tc, field);
-    insert_040(c040, frame, supervisor, base, wp, sup);
-    Translation::Address(memory::page040::physical_040(tc, field, address))
-}
-
-// What a 68040 walk's end gives.
-fn end_040(
-    c040: &mut Atc040,
-    tc: u32,
-    address: u32,
-    supervisor: bool,
-    write: bool,
-    end: End040,
-) -> Translation
-    requires { ⌜ (length (now c040) ≡ 128) ⌝ }
-    ensures { λ r. ⌜ Ended040 (end040 tc (cache040Of (now (c040 .entry))) address supervisor write end) r (now (c040 .exit)) ⌝ }
-{
-    match end {
-        End040::Resident { field, wp, sup } => resident(
-            c040,
-            tc,
-            address,
-            supervisor,
-            write,
-            field,
-            wp,
-            sup,
-        ),
-        End040::Absent(cause) => search::fault(cause, address),
-        End040::Lost { at } => search::bus_fault(at),
-    }
-}
-
-// What a walk gives: its end's answer, and the longs that it asked for.
-fn walked(c030: &mut Atc030, c040: &mut Atc040, g: Registers, a: Access, walks: Walks) -> Outcome
-    requires { ⌜ SizedAll (now c030) (now c040) ⌝ }
-    ensures { λ r. ⌜ AnsweredIn (onWalks g a (cachesOf (now (c030 .entry)) (now (c040 .entry))) walks) (r .answer) (r .count) (now (c030 .exit)) (now (c040 .exit)) ⌝ }
-{
-    match walks {
-        Walks::Idle => Outcome {
-            answer: Translation::Address(a.address),
-            count: 0,
-        },
-        Walks::By030(w) => {
-            let code = checks::walk_code(a);
-            let answer = search::end_030(c030, g.tc, code, a.address, a.write, w);
-            Outcome {
-                answer,
-                count: w.asked,
-            }
-        }
-        Walks::By040(walk) => {
-            let supervisor = checks::as_supervisor(a);
-            let end = walk.end;
-            let answer = end_040(c040, g.tc, a.address, supervisor, a.write, end);
-            Outcome {
-                answer,
-                count: walk.asked,
-            }
-        }
-    }
-}
-
-// The answer, its count and the next caches, from the plan and the walk that it asked for.
-pub fn conclude_access(
-    c030: &mut Atc030,
-    c040: &mut Atc040,
-    g: Registers,
-    a: Access,
-    plan: Plan,
-    walks: Walks,
-) -> Outcome
-    ensures { λ r. ⌜ AnsweredIn (concludeAccess g a (cachesOf (now (c030 .entry)) (now (c040 .entry))) plan walks) (r .answer) (r .count) (now (c030 .exit)) (now (c040 .exit)) ⌝ }
-{
-    checks::lengths(c030, c040);
     match plan {
-        Plan::Refused(n) => Outcome {
-            answer: Translation::Refused(n),
-            count: 0,
-        },
-        Plan::Settled(x) => Outcome {
-            answer: Translation::Address(x),
-            count: 0,
-        },
-        Plan::Walk(_) => walked(c030, c040, g, a, walks),
+        Plan::Settled(answer) => settled(answer),
+        Plan::Walk030 { code } => {
+            let address = checks::address_of(a);
+            let limit = walk030::every_level();
+            let walk = walk030::walk(longs, base, ranges, g, address, code, limit);
+            by_030(code, walk)
+        }
+        Plan::Walk040 { supervisor } => {
+            let address = checks::address_of(a);
+            let walk = walk040::walk(longs, base, ranges, g, address, supervisor);
+            by_040(supervisor, walk)
+        }
     }
 }
 
-// ---- The call, in place.
-
-// Translate over caches that the caller keeps, with the first `n` of the ranges that it keeps.
-// `three` says whether one of these is crossed: a caller that keeps ranges knows it, and no call has to search them.
-pub fn translate_in(
+// Translate over the caches, the longs and the ranges that the caller lends: planned, walked, concluded. `crossed` is what the caller says of
+// check 3, that a range is crossed: one that keeps ranges knows it, and no call has to search them.
+pub fn translate(
     c030: &mut Atc030,
     c040: &mut Atc040,
     longs: &[u32],
     base: u32,
-    list: [Range; 16],
-    n: usize,
-    three: bool,
+    ranges: &[Range],
+    crossed: bool,
     g: Registers,
     a: Access,
 ) -> Outcome
-    ensures { λ r. ⌜ (three ≡ anyOf crossed (take n list) → AnsweredIn (shownTranslated (translate g a (memory (now (longs .entry)) base (take n list)) (cachesOf (now (c030 .entry)) (now (c040 .entry))))) (r .answer) (r .count) (now (c030 .exit)) (now (c040 .exit))) ⌝ }
+    ensures { λ r. ⌜ AnsweredIn (shownTranslated (translateGiven crossed g a (memory (now (longs .entry)) base (now (ranges .entry))) (cachesOf (now (c030 .entry)) (now (c040 .entry))))) (r .answer) (r .count) (now (c030 .exit)) (now (c040 .exit)) ⌝ }
 {
-    let two = memory::longs::bad_base(longs.len(), base);
-    let plan = plan_access(c030, c040, two, three, g, a);
-    match plan {
-        Plan::Refused(number) => Outcome {
-            answer: Translation::Refused(number),
-            count: 0,
-        },
-        Plan::Settled(x) => Outcome {
-            answer: Translation::Address(x),
-            count: 0,
-        },
-        Plan::Walk(way) => {
-            let walks = walks::walk_kept(longs, base, list, n, g, a.address, way);
-            walked(c030, c040, g, a, walks)
-        }
-    }
+    let two = checks::bad_longs(longs, base);
+    let plan = before::plan_access(c030, c040, two, crossed, g, a);
+    let found = walked(longs, base, ranges, g, a, plan);
+    after::concluded(c030, c040, g, a, found)
 }

@@ -13,7 +13,9 @@ use lib.ListN.{length, getD, drop, length-append, length-drop, drop-of-length-le
 use lib.Seq.{drop-cons}
 use Rattle.definition.specs.Words.{if_then_else_, bitOf}
 use Rattle.definition.specs.Memory.{Memory, fetchOf}
-use Rattle.definition.specs.Walk030.{entryOf, shortOf, longOf, onSecond, readOf, isOf, used, widthsOf, topIndex, Step, steps, stepsWith, Found, Outcome, ended, longsAt, asking, deeper, guarded, byKind, onTarget, onTable, onDescriptor, walkFrom, start, walkSteps, outcomeOf}
+use Rattle.definition.specs.Walk030.{entryOf, shortOf, longOf, onSecond, readOf, isOf, used, widthsOf, topIndex, Step, steps, stepsWith, Found, Outcome, ended, longsAt, asking, deeper, guarded, byKind, onTarget, onTable, onDescriptor, walkFrom, start, walkSteps, outcomeOf, walk030}
+use Rattle.definition.specs.Registers.{rootOf}
+use Rattle.definition.specs.declared.Registers.{Registers}
 use Rattle.definition.specs.declared.Root.{Root}
 use Rattle.definition.specs.declared.Fetched.{Fetched}
 use Rattle.definition.specs.declared.Fetched.the-variants.{Long, Failed}
@@ -530,3 +532,8 @@ module _ (m : Memory) (tc : ℕ) (root : Root) (address code limit : ℕ) where
 
               abbrev pub next : Turn
               next = record { ws = t .ws; n = t .n; s = r₂; asked = now n; ws-is = t .ws-is; n-is = t .n-is; stands = next-stands }
+
+-- from the root of a code's space it is the definition's walk
+pub from-root : (m : Memory) (g : Registers) (address code limit : ℕ) {tc : ℕ} → tc ≡ g .tc → {root : Root} → root ≡ rootOf g code
+    → {w : Walked} → w ≡ shown (outcomeOf m tc root address code limit) → w ≡ shown (walk030 m g address code limit)
+from-root m g address code limit et er ew = ew ∙ rw (et, er)

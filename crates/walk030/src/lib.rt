@@ -9,10 +9,11 @@ use definition::Root;
 use memory::bits::bit;
 use memory::descriptor::read_desc;
 use memory::page030::widths;
+use memory::registers::tc_of;
 ghost use mathlib.Core.Path.{_≡_};
 ghost use Rattle.definition.specs.Memory.{memory};
 ghost use Rattle.definition.specs.Registers.{rootOf};
-ghost use Rattle.definition.specs.Walk030.{outcomeOf};
+ghost use Rattle.definition.specs.Walk030.{everyLevel, outcomeOf, walk030};
 ghost use Rattle.walk030.specs.Walked.{shown};
 
 // How a 68030 walk ended, with WP and S, the levels, the last descriptor's address and the number of longs asked for.
@@ -26,7 +27,7 @@ pub struct Walked {
 }
 
 // SRP is used if TC bit 25 is set and code bit 2 is set; else CRP.
-pub fn root_of(g: Registers, code: u32) -> Root
+fn root_of(g: Registers, code: u32) -> Root
     ensures { λ r. ⌜ r ≡ rootOf g code ⌝ }
 {
     let sre = bit(g.tc, 25);
@@ -39,8 +40,15 @@ pub fn root_of(g: Registers, code: u32) -> Root
     crp
 }
 
+// As many levels as there can be: the function code's and four widths.
+pub fn every_level() -> u32
+    ensures { λ r. ⌜ r ≡ everyLevel ⌝ }
+{
+    5
+}
+
 // The walk ends at the first descriptor that decides. It is handed TC and its root, and no more of the registers: they are not copied.
-pub fn walk_030(
+fn walk_030(
     longs: &[u32],
     base: u32,
     ranges: &[Range],
@@ -89,4 +97,21 @@ pub fn walk_030(
         }
     };
     machine::answer(s, end)
+}
+
+// The walk in a code's space under these registers, of at most `limit` levels.
+pub fn walk(
+    longs: &[u32],
+    base: u32,
+    ranges: &[Range],
+    g: Registers,
+    address: u32,
+    code: u32,
+    limit: u32,
+) -> Walked
+    ensures { λ r. ⌜ r ≡ shown (walk030 (memory (now (longs .entry)) base (now (ranges .entry))) g address code limit) ⌝ }
+{
+    let tc = tc_of(g);
+    let root = root_of(g, code);
+    walk_030(longs, base, ranges, tc, root, address, code, limit)
 }

@@ -9,7 +9,8 @@ use lib.Dec.{T, ltb, eqb}
 use lib.ListN.{length, length-append}
 use Rattle.definition.specs.Words.{if_then_else_, bitOf}
 use Rattle.definition.specs.Memory.{Memory, fetchOf}
-use Rattle.definition.specs.Walk040.{Outcome040, ended040, asks, pointerAt, pageAt, onPage, onEntry}
+use Rattle.definition.specs.Walk040.{Outcome040, ended040, asks, rootAt, pointerAt, pageAt, onPage, onEntry, walk040}
+use Rattle.definition.specs.declared.Registers.{Registers}
 use Rattle.definition.specs.declared.Fetched.{Fetched}
 use Rattle.definition.specs.declared.Fetched.the-variants.{Long, Failed}
 use Rattle.definition.specs.declared.End040.{End040}
@@ -199,3 +200,9 @@ module _ (m : Memory) (tc first address : ℕ) where
 
             abbrev pub next : Turn
             next = record { s = r; before = after; same = next-same; counted = next-counted; room = next-room }
+
+-- from the root table's entry of a supervisor or a user it is the definition's walk
+pub from-root : (m : Memory) (g : Registers) (address : ℕ) (supervisor : Bool) {tc : ℕ} → tc ≡ g .tc → {first : ℕ} → first ≡ rootAt g supervisor address
+    → {w : Walked040} → w ≡ shown040 (walk040From m tc first address) → w ≡ shown040 (walk040 m g address supervisor)
+unfolding walk040
+from-root m g address supervisor et ef ew = ew ∙ rw (et, ef)

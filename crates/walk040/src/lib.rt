@@ -7,9 +7,10 @@ use definition::Range;
 use definition::Registers;
 use memory::descriptor::entry;
 use memory::longs::fetch;
+use memory::registers::tc_of;
 ghost use mathlib.Core.Path.{_≡_};
 ghost use Rattle.definition.specs.Memory.{memory};
-ghost use Rattle.definition.specs.Walk040.{rootAt};
+ghost use Rattle.definition.specs.Walk040.{rootAt, walk040};
 ghost use Rattle.walk040.specs.Walked.{shown040, walk040From};
 
 // How a 68040 walk ended, and the number of longs asked for.
@@ -19,7 +20,7 @@ pub struct Walked040 {
 }
 
 // Root SRP (supervisor) or CRP & FFFFFE00, index bits 31:25.
-pub fn root_at(g: Registers, supervisor: bool, address: u32) -> u32
+fn root_at(g: Registers, supervisor: bool, address: u32) -> u32
     ensures { λ r. ⌜ r ≡ rootAt g supervisor address ⌝ }
 {
     let mut root = g.crp.address;
@@ -30,7 +31,7 @@ pub fn root_at(g: Registers, supervisor: bool, address: u32) -> u32
 }
 
 // The 68040 walk, also for family 60, from the root table's entry at `first`.
-pub fn walk_040(
+fn walk_040(
     longs: &[u32],
     base: u32,
     ranges: &[Range],
@@ -60,4 +61,20 @@ pub fn walk_040(
         }
     };
     machine::answer(s, end)
+}
+
+// The walk of a supervisor or a user under these registers.
+pub fn walk(
+    longs: &[u32],
+    base: u32,
+    ranges: &[Range],
+    g: Registers,
+    address: u32,
+    supervisor: bool,
+) -> Walked040
+    ensures { λ r. ⌜ r ≡ shown040 (walk040 (memory (now (longs .entry)) base (now (ranges .entry))) g address supervisor) ⌝ }
+{
+    let tc = tc_of(g);
+    let first = root_at(g, supervisor, address);
+    walk_040(longs, base, ranges, tc, first, address)
 }

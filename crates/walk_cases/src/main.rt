@@ -10,25 +10,22 @@ use rows::Case;
 use rows::Parts;
 use vectors::Progress;
 use walk030::Walked;
-use walks::Walks;
-use walks::Way;
+use walk040::Walked040;
 ghost use Prim.Native.Nat.{_+_, _*_, _≤_};
 
-// The walk of a translation: every level of the 68030's, or the 68040's.
-fn way_of(family: u32, code: u32) -> Way {
-    if family == 30 {
-        return Way::By030 { code, limit: 5 };
-    }
-    Way::By040 {
-        supervisor: answers::is_supervisor(code),
-    }
-}
-
-// The walk of a case.
-fn walked(longs: &[u32], c: Case, way: Way) -> Walks {
+// The 68030 walk of a case.
+fn walked_030(longs: &[u32], c: Case, limit: u32) -> Walked {
     let list = c.list;
     let g = c.registers;
-    walks::walk_kept(longs, c.base, list, c.ranges, g, c.address, way)
+    kept::walk_030(longs, c.base, list, c.ranges, g, c.address, c.code, limit)
+}
+
+// The 68040 walk of a case.
+fn walked_040(longs: &[u32], c: Case) -> Walked040 {
+    let list = c.list;
+    let g = c.registers;
+    let supervisor = answers::is_supervisor(c.code);
+    kept::walk_040(longs, c.base, list, c.ranges, g, c.address, supervisor)
 }
 
 // Whether the five numbers at `at` are this answer: fault address kind cause count.
@@ -62,18 +59,14 @@ fn has_translation(row: &[u32; 128], at: usize, t: Translation, count: u32) -> b
 fn same_translation(row: &[u32; 128], at: usize, longs: &[u32], c: Case) -> bool
     requires { ⌜ at + 5 ≤ 128 ⌝ }
 {
-    let way = way_of(row[0], c.code);
-    match walked(longs, c, way) {
-        Walks::Idle => false,
-        Walks::By030(w) => {
-            let t = answers::translated_030(w, c.code, c.write, c.address);
-            has_translation(row, at, t, w.asked)
-        }
-        Walks::By040(w) => {
-            let t = answers::translated_040(w, row[1], c.code, c.write, c.address);
-            has_translation(row, at, t, w.asked)
-        }
+    if row[0] == 30 {
+        let w = walked_030(longs, c, 5);
+        let t = answers::translated_030(w, c.code, c.write, c.address);
+        return has_translation(row, at, t, w.asked);
     }
+    let w = walked_040(longs, c);
+    let t = answers::translated_040(w, row[1], c.code, c.write, c.address);
+    has_translation(row, at, t, w.asked)
 }
 
 // Whether the three numbers at `at` are this test: MMUSR address count.
@@ -87,15 +80,8 @@ fn has_test(row: &[u32; 128], at: usize, w: Walked, code: u32) -> bool
 fn same_test(row: &[u32; 128], at: usize, longs: &[u32], c: Case, level: u32) -> bool
     requires { ⌜ at + 3 ≤ 128 ⌝ }
 {
-    let way = Way::By030 {
-        code: c.code,
-        limit: level,
-    };
-    match walked(longs, c, way) {
-        Walks::Idle => false,
-        Walks::By030(w) => has_test(row, at, w, c.code),
-        Walks::By040(_) => false,
-    }
+    let w = walked_030(longs, c, level);
+    has_test(row, at, w, c.code)
 }
 
 // Whether PTEST at each level answers so.

@@ -4,8 +4,8 @@ use Rattle.audit.proofs.refusal.Tie as tie
 use Rattle.audit.proofs.refusal.Reads as reads
 use Rattle.audit.proofs.refusal.Lts as lts
 use Rattle.cache.proofs.atc030.bad_cache.Reads as bad-cache-reads
-use Rattle.plan.proofs.checks.first_refusal.Reads as first-refusal-reads
-use Rattle.plan.proofs.checks.no_family.Reads as no-family-reads
+use Rattle.checks.proofs.first_refusal.Reads as first-refusal-reads
+use Rattle.checks.proofs.no_family.Reads as no-family-reads
 use Rattle.audit.proofs.Steps as law
 
 -- src/lib.rt:91:9

@@ -15,14 +15,14 @@ bit-requires-2 c κs = search needs
 bit-requires-3 : tie.Need-bit-requires-3
 bit-requires-3 c κs = search needs
 
-probe-in-requires : tie.Need-probe-in-requires
-probe-in-requires c κs = search needs
+probe-requires : tie.Need-probe-requires
+probe-requires c κs = search needs
 
 tell-probe-requires : tie.Need-tell-probe-requires
 tell-probe-requires c κs = search needs
 
 returns : tie.Need-returns
-returns c = law.probed (c .before .before .before .before .before .before .before .args .registers .now) (c .before .before .before .before .before .before .before .args .flags) _ _ (c .tell-probe .ensures) (c .before .before .probe-in .ensures) (c .before .before .before .before .before .before .registers-of .ensures) (c .before .before .before .before .before .bit .ensures) (c .before .before .before .before .bit2 .ensures) (c .before .before .before .bit3 .ensures)
+returns c = law.probed (c .before .before .before .before .before .before .before .args .registers .now) (c .before .before .before .before .before .before .before .args .flags) _ _ (c .tell-probe .ensures) (c .before .before .probe .ensures) (c .before .before .before .before .before .before .registers-of .ensures) (c .before .before .before .before .before .bit .ensures) (c .before .before .before .before .bit2 .ensures) (c .before .before .before .bit3 .ensures)
 
 pub mmu-probe-spec : {M : Type 1} → statement M
 mmu-probe-spec =
@@ -32,6 +32,6 @@ mmu-probe-spec =
     bit-requires
     bit-requires-2
     bit-requires-3
-    probe-in-requires
+    probe-requires
     tell-probe-requires
     returns)

@@ -1,4 +1,4 @@
-use Rattle.plan.proofs.Bounds.{shift-small}
+use Rattle.checks.proofs.Bounds.{shift-small}
 use Rattle.search.proofs.Searching as law
 use borrow.Author.Needs.{needs}
 use Rattle.search.proofs.cache_page.Statement.{statement}

@@ -71,10 +71,10 @@ use Rattle.definition.proofs.Registers.Laws as law-Registers
 use Rattle.mmu.specs.declared.by_value.Translated.{Translated}
 use Rattle.mmu.proofs.by_value.Translated as row-Translated
 use Rattle.mmu.proofs.by_value.Translated.Laws as law-Translated
-use Rattle.plan.proofs.checks.bad_longs as c0
-use Rattle.plan.proofs.checks.bad_longs.Symbol as c0-def
-use Rattle.plan.proofs.checks.bad_longs.Symbol.{name as #plan·checks·bad-longs}
-use Rattle.plan.proofs.checks.bad_longs.Met as c0-thm
+use Rattle.checks.proofs.bad_longs as c0
+use Rattle.checks.proofs.bad_longs.Symbol as c0-def
+use Rattle.checks.proofs.bad_longs.Symbol.{name as #checks·bad-longs}
+use Rattle.checks.proofs.bad_longs.Met as c0-thm
 use Rattle.memory.proofs.ranges.any_crossed as c1
 use Rattle.memory.proofs.ranges.any_crossed.Symbol as c1-def
 use Rattle.memory.proofs.ranges.any_crossed.Symbol.{name as #memory·ranges·any-crossed}
@@ -156,7 +156,7 @@ module _ {M : Type 1} (𝓤 : URA M) (H : Heap 𝓤) (A : Atoms 𝓤) (W : Given
       suffices ! _ (ends-at 𝓤 H A self.ended stayed (self.clauses 𝓤 H A mem run) W (((κ0, (κ1, tt)), (q0, (q1, tt)), tt, (x1, (x2, (x3, (x4, (x5, (x6, (x7, tt))))))), at-entry), tt) u r (tt, (tt, (tt, (tt, (tt, (tt, (tt, tt))))))) (tt, (tt, (tt, (tt, (tt, (tt, (tt, tt)))))))) $ says ! e $
       nothing ! $ move ! (2 ∷ 0 ∷ []) $ join ! $ move ! (1 ∷ 0 ∷ []) $ join ! $ frame ! $ nothing ! $ owned ! Boolean (Is Boolean) (bool-makes 𝓤 H A W) x7 _ i7 $ fjoin ! $ owned ! u32 (Is u32) (uint-makes 𝓤 H A W w32) x6 _ i6 $ fjoin ! $ owned ! row-CachePair.the-row (Is row-CachePair.the-row) (LL.makes row-CachePair.the-type law-CachePair.the-plain 𝓤 H A) x5 _ i5 $ fjoin ! $ owned ! row-Registers.the-row (Is row-Registers.the-row) (LL.makes row-Registers.the-type law-Registers.the-plain 𝓤 H A) x4 _ i4 $ fjoin ! $ move ! (2 ∷ 0 ∷ []) $ fjoin ! $ owned ! u32 (Is u32) (uint-makes 𝓤 H A W w32) x2 _ i2 $ fjoin ! $ move ! (1 ∷ 0 ∷ []) $ fjoin ! $ frame ! $ owned ! row-Finding.the-row (Is row-Finding.the-row) (EL.makes row-Finding.the-type law-Finding.the-plain 𝓤 H A) r _ is $ done !
 
-  -- the call of `checks.bad_longs`: what it is passed, what it asks, and what is known of its result
+  -- the call of `bad_longs`: what it is passed, what it asks, and what is known of its result
   abbrev to-0 : (a0 : RefT (List ℕ)) (v0 : Val) (a1 : ℕ) (v1 : Val) → C0 𝓤 H A mem run .Ghost
   to-0 a0 v0 a1 v1 = (((κ0, tt), (q0, tt), tt, (a0, (a1, tt)), (v0 ∷ [], (v1 ∷ [], tt))), tt)
 
@@ -255,7 +255,7 @@ module _ {M : Type 1} (𝓤 : URA M) (H : Heap 𝓤) (A : Atoms 𝓤) (W : Given
   said-8 : (a0 : Registers) (a1 : Cached) (a2 : Bool) (a3 : ℕ) (a4 : Translated) (r : Finding) → ent 𝓤 (ensured 𝓤 H A c8.ended (c8.clauses 𝓤 H A mem run) tt (a0, (a1, (a2, (a3, (a4, tt))))) tt r) (fact 𝓤 (r ≡ toldOf a0 a1 a2 a3 (a4 .answer)))
   said-8 a0 a1 a2 a3 a4 r = exE 𝓤 _ (λ ws. snd∗ 𝓤 (sem 𝓤 H A (lasts c8.ended tt (a0, (a1, (a2, (a3, (a4, tt))))) ws)) (fact 𝓤 (r ≡ toldOf a0 a1 a2 a3 (a4 .answer))))
 
-  module _ (𝓣 : Tables 𝓤 H) (known-0 : Triple 𝓤 (𝓣 .C #plan·checks·bad-longs) (C0 𝓤 H A mem run)) (known-1 : Triple 𝓤 (𝓣 .C #memory·ranges·any-crossed) (C1 𝓤 H A mem run)) (known-2 : Triple 𝓤 (𝓣 .C #audit·by-value·refusal-in) (C2 𝓤 H A mem run)) (known-3 : Triple 𝓤 (𝓣 .C #audit·by-value·looked-in) (C3 𝓤 H A mem run)) (known-4 : Triple 𝓤 (𝓣 .C #audit·telling·access-for) (C4 𝓤 H A mem run)) (known-5 : Triple 𝓤 (𝓣 .C #audit·telling·bare) (C5 𝓤 H A mem run)) (known-6 : Triple 𝓤 (𝓣 .C #audit·telling·no-caches) (C6 𝓤 H A mem run)) (known-7 : Triple 𝓤 (𝓣 .C #mmu·by-value·translate) (C7 𝓤 H A mem run)) (known-8 : Triple 𝓤 (𝓣 .C #audit·telling·told) (C8 𝓤 H A mem run)) where
+  module _ (𝓣 : Tables 𝓤 H) (known-0 : Triple 𝓤 (𝓣 .C #checks·bad-longs) (C0 𝓤 H A mem run)) (known-1 : Triple 𝓤 (𝓣 .C #memory·ranges·any-crossed) (C1 𝓤 H A mem run)) (known-2 : Triple 𝓤 (𝓣 .C #audit·by-value·refusal-in) (C2 𝓤 H A mem run)) (known-3 : Triple 𝓤 (𝓣 .C #audit·by-value·looked-in) (C3 𝓤 H A mem run)) (known-4 : Triple 𝓤 (𝓣 .C #audit·telling·access-for) (C4 𝓤 H A mem run)) (known-5 : Triple 𝓤 (𝓣 .C #audit·telling·bare) (C5 𝓤 H A mem run)) (known-6 : Triple 𝓤 (𝓣 .C #audit·telling·no-caches) (C6 𝓤 H A mem run)) (known-7 : Triple 𝓤 (𝓣 .C #mmu·by-value·translate) (C7 𝓤 H A mem run)) (known-8 : Triple 𝓤 (𝓣 .C #audit·telling·told) (C8 𝓤 H A mem run)) where
     abbrev C : Calls 𝓤 H
     C = 𝓣 .C
 
@@ -275,63 +275,63 @@ module _ {M : Type 1} (𝓤 : URA M) (H : Heap 𝓤) (A : Atoms 𝓤) (W : Given
         use1 W (‵ ((ShrSlice (named 0) κ0 u32) .own x1 (sliceVal (x1 .ptr) (length (x1 .now)) ∷ [])) ⊛ ‵ ((ShrSlice (named 0) κ0 u32) .own x1 (sliceVal (x1 .ptr) (length (x1 .now)) ∷ []))) (shr-slice-copy 𝓤 H A W (named 0) κ0 u32 .twice x1 _) $
         split ! $ move ! (3 ∷ 0 ∷ []) $ group ! 2 $
         use1 W (raw (C0 𝓤 H A mem run .pre (to-0 x1 (sliceVal (x1 .ptr) (length (x1 .now))) x2 (vint w32 x2)))) (goes-0 x1 (sliceVal (x1 .ptr) (length (x1 .now))) x2 (vint w32 x2) i2) $
-        calls-at ! fm (C0 𝓤 H A mem run) known-0 (to-0 x1 (sliceVal (x1 .ptr) (length (x1 .now))) x2 (vint w32 x2)) (and-then ! (load ! (from ! (stop !)) (look ! 32 refl)) (and-then ! (load ! (from ! (stop !)) (look ! 30 refl)) (no-more !))) (λ u1.
-        use1 W (later (some (λ (r : Bool). ((‵ (flft κ0 q0) ⊛ ‵ ftrue) ⊛ ‵ (Boolean .own r (u1 ∷ []))) ⊛ raw (ensured 𝓤 H A c0.ended (c0.clauses 𝓤 H A mem run) (κ0, tt) (x1, (x2, tt)) tt r)))) (id⊢ 𝓤 _) $ await ! tt $ choose ! (λ r2. split ! $ move ! (1 ∷ []) $ use1 W (raw (fact 𝓤 (r2 ≡ badBase (memory (now x1) x2 [])))) (said-0 x1 x2 r2) $ heard ! (r2 ≡ badBase (memory (now x1) x2 [])) (λ e3. split ! $
+        calls-at ! fm (C0 𝓤 H A mem run) known-0 (to-0 x1 (sliceVal (x1 .ptr) (length (x1 .now))) x2 (vint w32 x2)) (and-then ! (load ! (from ! (stop !)) (look ! 32 refl)) (and-then ! (load ! (from ! (stop !)) (look ! 30 refl)) (no-more !))) (λ val1.
+        use1 W (later (some (λ (r : Bool). ((‵ (flft κ0 q0) ⊛ ‵ ftrue) ⊛ ‵ (Boolean .own r (val1 ∷ []))) ⊛ raw (ensured 𝓤 H A c0.ended (c0.clauses 𝓤 H A mem run) (κ0, tt) (x1, (x2, tt)) tt r)))) (id⊢ 𝓤 _) $ await ! tt $ choose ! (λ r2. split ! $ move ! (1 ∷ []) $ use1 W (raw (fact 𝓤 (r2 ≡ badBase (memory (now x1) x2 [])))) (said-0 x1 x2 r2) $ heard ! (r2 ≡ badBase (memory (now x1) x2 [])) (λ e3. split ! $
         split ! $ move ! (1 ∷ []) $ drop ! $ move ! (1 ∷ []) $
-        facts ! Boolean (Is Boolean) (shows 𝓤 H A Boolean) r2 (u1 ∷ []) (λ is4. land ! (from ! (stop !)) (init ! 18 refl (bool-lawful 𝓤 H A W .typed r2 _ is4 .0)) $
+        facts ! Boolean (Is Boolean) (shows 𝓤 H A Boolean) r2 (val1 ∷ []) (λ is4. land ! (from ! (stop !)) (init ! 18 refl (bool-lawful 𝓤 H A W .typed r2 _ is4 .0)) $
         rewrite ! 18 (λ (u : Val). ‵ (fat fullShare tyBool l8 0 u)) (ap only (bool-tells r2 _ is4)) refl $ move ! (3 ∷ []) $
         use1 W (‵ ((ShrSlice (named 1) κ1 row-Range.the-row) .own x3 (sliceVal (x3 .ptr) (length (x3 .now)) ∷ [])) ⊛ ‵ ((ShrSlice (named 1) κ1 row-Range.the-row) .own x3 (sliceVal (x3 .ptr) (length (x3 .now)) ∷ []))) (shr-slice-copy 𝓤 H A W (named 1) κ1 row-Range.the-row .twice x3 _) $
         split ! $ move ! (4 ∷ 0 ∷ []) $ group ! 2 $
         use1 W (raw (C1 𝓤 H A mem run .pre (to-1 x3 (sliceVal (x3 .ptr) (length (x3 .now)))))) (goes-1 x3 (sliceVal (x3 .ptr) (length (x3 .now)))) $
-        calls-at ! fm (C1 𝓤 H A mem run) known-1 (to-1 x3 (sliceVal (x3 .ptr) (length (x3 .now)))) (and-then ! (load ! (from ! (stop !)) (look ! 28 refl)) (no-more !)) (λ u5.
-        use1 W (later (some (λ (r : Bool). ((‵ (flft κ1 q1) ⊛ ‵ ftrue) ⊛ ‵ (Boolean .own r (u5 ∷ []))) ⊛ raw (ensured 𝓤 H A c1.ended (c1.clauses 𝓤 H A mem run) (κ1, tt) (x3, tt) tt r)))) (id⊢ 𝓤 _) $ await ! tt $ choose ! (λ r6. split ! $ move ! (1 ∷ []) $ use1 W (raw (fact 𝓤 (r6 ≡ anyOf crossed (now x3)))) (said-1 x3 r6) $ heard ! (r6 ≡ anyOf crossed (now x3)) (λ e7. split ! $
+        calls-at ! fm (C1 𝓤 H A mem run) known-1 (to-1 x3 (sliceVal (x3 .ptr) (length (x3 .now)))) (and-then ! (load ! (from ! (stop !)) (look ! 28 refl)) (no-more !)) (λ val5.
+        use1 W (later (some (λ (r : Bool). ((‵ (flft κ1 q1) ⊛ ‵ ftrue) ⊛ ‵ (Boolean .own r (val5 ∷ []))) ⊛ raw (ensured 𝓤 H A c1.ended (c1.clauses 𝓤 H A mem run) (κ1, tt) (x3, tt) tt r)))) (id⊢ 𝓤 _) $ await ! tt $ choose ! (λ r6. split ! $ move ! (1 ∷ []) $ use1 W (raw (fact 𝓤 (r6 ≡ anyOf crossed (now x3)))) (said-1 x3 r6) $ heard ! (r6 ≡ anyOf crossed (now x3)) (λ e7. split ! $
         split ! $ move ! (1 ∷ []) $ drop ! $ move ! (1 ∷ []) $
-        facts ! Boolean (Is Boolean) (shows 𝓤 H A Boolean) r6 (u5 ∷ []) (λ is8. land ! (from ! (stop !)) (init ! 16 refl (bool-lawful 𝓤 H A W .typed r6 _ is8 .0)) $
+        facts ! Boolean (Is Boolean) (shows 𝓤 H A Boolean) r6 (val5 ∷ []) (λ is8. land ! (from ! (stop !)) (init ! 16 refl (bool-lawful 𝓤 H A W .typed r6 _ is8 .0)) $
         rewrite ! 16 (λ (u : Val). ‵ (fat fullShare tyBool l9 0 u)) (ap only (bool-tells r6 _ is8)) refl $
         use0 W (raw (C2 𝓤 H A mem run .pre (to-2 x5 (LL.val row-CachePair.the-type law-CachePair.the-laws x5) r2 (vbool r2) r6 (vbool r6) x4 (LL.val row-Registers.the-type law-Registers.the-laws x4)))) (goes-2 x5 (LL.val row-CachePair.the-type law-CachePair.the-laws x5) r2 (vbool r2) r6 (vbool r6) x4 (LL.val row-Registers.the-type law-Registers.the-laws x4) i5 (subst (Is Boolean r2) (bool-tells r2 _ is4) is4) (subst (Is Boolean r6) (bool-tells r6 _ is8) is8) i4) $
-        calls-at ! fm (C2 𝓤 H A mem run) known-2 (to-2 x5 (LL.val row-CachePair.the-type law-CachePair.the-laws x5) r2 (vbool r2) r6 (vbool r6) x4 (LL.val row-Registers.the-type law-Registers.the-laws x4)) (and-then ! (load ! (from ! (stop !)) (look ! 25 refl)) (and-then ! (load ! (from ! (stop !)) (look ! 19 refl)) (and-then ! (load ! (from ! (stop !)) (look ! 17 refl)) (and-then ! (load ! (from ! (stop !)) (look ! 27 refl)) (no-more !))))) (λ u9.
-        use1 W (later (some (λ (r : ℕ). (‵ ftrue ⊛ ‵ (u32 .own r (u9 ∷ []))) ⊛ raw (ensured 𝓤 H A c2.ended (c2.clauses 𝓤 H A mem run) tt (x5, (r2, (r6, (x4, tt)))) tt r)))) (id⊢ 𝓤 _) $ await ! tt $ choose ! (λ r10. split ! $ move ! (1 ∷ []) $ use1 W (raw (fact 𝓤 (r10 ≡ auditRefusal x4 r2 r6 (cacheOf (x5 .c030))))) (said-2 x5 r2 r6 x4 r10) $ heard ! (r10 ≡ auditRefusal x4 r2 r6 (cacheOf (x5 .c030))) (λ e11. split ! $
-        drop ! $ facts ! u32 (Is u32) (shows 𝓤 H A u32) r10 (u9 ∷ []) (λ is12. land ! (from ! (stop !)) (init ! 14 refl (uint-lawful 𝓤 H A W w32 .typed r10 _ is12 .0)) $
+        calls-at ! fm (C2 𝓤 H A mem run) known-2 (to-2 x5 (LL.val row-CachePair.the-type law-CachePair.the-laws x5) r2 (vbool r2) r6 (vbool r6) x4 (LL.val row-Registers.the-type law-Registers.the-laws x4)) (and-then ! (load ! (from ! (stop !)) (look ! 25 refl)) (and-then ! (load ! (from ! (stop !)) (look ! 19 refl)) (and-then ! (load ! (from ! (stop !)) (look ! 17 refl)) (and-then ! (load ! (from ! (stop !)) (look ! 27 refl)) (no-more !))))) (λ val9.
+        use1 W (later (some (λ (r : ℕ). (‵ ftrue ⊛ ‵ (u32 .own r (val9 ∷ []))) ⊛ raw (ensured 𝓤 H A c2.ended (c2.clauses 𝓤 H A mem run) tt (x5, (r2, (r6, (x4, tt)))) tt r)))) (id⊢ 𝓤 _) $ await ! tt $ choose ! (λ r10. split ! $ move ! (1 ∷ []) $ use1 W (raw (fact 𝓤 (r10 ≡ auditRefusal x4 r2 r6 (cacheOf (x5 .c030))))) (said-2 x5 r2 r6 x4 r10) $ heard ! (r10 ≡ auditRefusal x4 r2 r6 (cacheOf (x5 .c030))) (λ e11. split ! $
+        drop ! $ facts ! u32 (Is u32) (shows 𝓤 H A u32) r10 (val9 ∷ []) (λ is12. land ! (from ! (stop !)) (init ! 14 refl (uint-lawful 𝓤 H A W w32 .typed r10 _ is12 .0)) $
         rewrite ! 14 (λ (u : Val). ‵ (fat fullShare (tyInt w32) l10 0 u)) (ap only (uint-tells w32 r10 _ is12)) refl $
         use0 W (raw (C3 𝓤 H A mem run .pre (to-3 x5 (LL.val row-CachePair.the-type law-CachePair.the-laws x5) x4 (LL.val row-Registers.the-type law-Registers.the-laws x4) x6 (vint w32 x6)))) (goes-3 x5 (LL.val row-CachePair.the-type law-CachePair.the-laws x5) x4 (LL.val row-Registers.the-type law-Registers.the-laws x4) x6 (vint w32 x6) i5 i4 i6) $
-        calls-at ! fm (C3 𝓤 H A mem run) known-3 (to-3 x5 (LL.val row-CachePair.the-type law-CachePair.the-laws x5) x4 (LL.val row-Registers.the-type law-Registers.the-laws x4) x6 (vint w32 x6)) (and-then ! (load ! (from ! (stop !)) (look ! 25 refl)) (and-then ! (load ! (from ! (stop !)) (look ! 27 refl)) (and-then ! (load ! (from ! (stop !)) (look ! 23 refl)) (no-more !)))) (λ u13.
-        use1 W (later (some (λ (r : Cached). (‵ ftrue ⊛ ‵ (row-Cached.the-row .own r (u13 ∷ []))) ⊛ raw (ensured 𝓤 H A c3.ended (c3.clauses 𝓤 H A mem run) tt (x5, (x4, (x6, tt))) tt r)))) (id⊢ 𝓤 _) $ await ! tt $ choose ! (λ r14. split ! $ move ! (1 ∷ []) $ use1 W (raw (fact 𝓤 (LooksAt x4 (x5 .c030) (x5 .c040) x6 r14))) (said-3 x5 x4 x6 r14) $ heard ! (LooksAt x4 (x5 .c030) (x5 .c040) x6 r14) (λ e15. split ! $
+        calls-at ! fm (C3 𝓤 H A mem run) known-3 (to-3 x5 (LL.val row-CachePair.the-type law-CachePair.the-laws x5) x4 (LL.val row-Registers.the-type law-Registers.the-laws x4) x6 (vint w32 x6)) (and-then ! (load ! (from ! (stop !)) (look ! 25 refl)) (and-then ! (load ! (from ! (stop !)) (look ! 27 refl)) (and-then ! (load ! (from ! (stop !)) (look ! 23 refl)) (no-more !)))) (λ val13.
+        use1 W (later (some (λ (r : Cached). (‵ ftrue ⊛ ‵ (row-Cached.the-row .own r (val13 ∷ []))) ⊛ raw (ensured 𝓤 H A c3.ended (c3.clauses 𝓤 H A mem run) tt (x5, (x4, (x6, tt))) tt r)))) (id⊢ 𝓤 _) $ await ! tt $ choose ! (λ r14. split ! $ move ! (1 ∷ []) $ use1 W (raw (fact 𝓤 (LooksAt x4 (x5 .c030) (x5 .c040) x6 r14))) (said-3 x5 x4 x6 r14) $ heard ! (LooksAt x4 (x5 .c030) (x5 .c040) x6 r14) (λ e15. split ! $
         drop ! $
-        facts ! row-Cached.the-row (Is row-Cached.the-row) (shows 𝓤 H A row-Cached.the-row) r14 (u13 ∷ []) (λ is16. land ! (from ! (stop !)) (init ! 12 refl (LL.lawful row-Cached.the-type law-Cached.the-laws 𝓤 H A W .typed r14 _ is16 .0)) $
+        facts ! row-Cached.the-row (Is row-Cached.the-row) (shows 𝓤 H A row-Cached.the-row) r14 (val13 ∷ []) (λ is16. land ! (from ! (stop !)) (init ! 12 refl (LL.lawful row-Cached.the-type law-Cached.the-laws 𝓤 H A W .typed r14 _ is16 .0)) $
         rewrite ! 12 (λ (u : Val). ‵ (fat fullShare law-Cached.mir l11 0 u)) (ap only (LL.tells row-Cached.the-type law-Cached.the-laws r14 _ is16)) refl $
         use0 W (raw (C4 𝓤 H A mem run .pre (to-4 x4 (LL.val row-Registers.the-type law-Registers.the-laws x4) r14 (LL.val row-Cached.the-type law-Cached.the-laws r14) x7 (vbool x7)))) (goes-4 x4 (LL.val row-Registers.the-type law-Registers.the-laws x4) r14 (LL.val row-Cached.the-type law-Cached.the-laws r14) x7 (vbool x7) i4 (subst (Is row-Cached.the-row r14) (LL.tells row-Cached.the-type law-Cached.the-laws r14 _ is16) is16) i7) $
-        calls-at ! fm (C4 𝓤 H A mem run) known-4 (to-4 x4 (LL.val row-Registers.the-type law-Registers.the-laws x4) r14 (LL.val row-Cached.the-type law-Cached.the-laws r14) x7 (vbool x7)) (and-then ! (load ! (from ! (stop !)) (look ! 27 refl)) (and-then ! (load ! (from ! (stop !)) (look ! 13 refl)) (and-then ! (load ! (from ! (stop !)) (look ! 21 refl)) (no-more !)))) (λ u17.
-        use1 W (later (some (λ (r : Access). (‵ ftrue ⊛ ‵ (row-Access.the-row .own r (u17 ∷ []))) ⊛ raw (ensured 𝓤 H A c4.ended (c4.clauses 𝓤 H A mem run) tt (x4, (r14, (x7, tt))) tt r)))) (id⊢ 𝓤 _) $ await ! tt $ choose ! (λ r18. split ! $ move ! (1 ∷ []) $ use1 W (raw (fact 𝓤 (r18 ≡ accessFor x4 r14 x7))) (said-4 x4 r14 x7 r18) $ heard ! (r18 ≡ accessFor x4 r14 x7) (λ e19. split ! $
+        calls-at ! fm (C4 𝓤 H A mem run) known-4 (to-4 x4 (LL.val row-Registers.the-type law-Registers.the-laws x4) r14 (LL.val row-Cached.the-type law-Cached.the-laws r14) x7 (vbool x7)) (and-then ! (load ! (from ! (stop !)) (look ! 27 refl)) (and-then ! (load ! (from ! (stop !)) (look ! 13 refl)) (and-then ! (load ! (from ! (stop !)) (look ! 21 refl)) (no-more !)))) (λ val17.
+        use1 W (later (some (λ (r : Access). (‵ ftrue ⊛ ‵ (row-Access.the-row .own r (val17 ∷ []))) ⊛ raw (ensured 𝓤 H A c4.ended (c4.clauses 𝓤 H A mem run) tt (x4, (r14, (x7, tt))) tt r)))) (id⊢ 𝓤 _) $ await ! tt $ choose ! (λ r18. split ! $ move ! (1 ∷ []) $ use1 W (raw (fact 𝓤 (r18 ≡ accessFor x4 r14 x7))) (said-4 x4 r14 x7 r18) $ heard ! (r18 ≡ accessFor x4 r14 x7) (λ e19. split ! $
         drop ! $
-        facts ! row-Access.the-row (Is row-Access.the-row) (shows 𝓤 H A row-Access.the-row) r18 (u17 ∷ []) (λ is20. land ! (from ! (stop !)) (init ! 10 refl (LL.lawful row-Access.the-type law-Access.the-laws 𝓤 H A W .typed r18 _ is20 .0)) $
+        facts ! row-Access.the-row (Is row-Access.the-row) (shows 𝓤 H A row-Access.the-row) r18 (val17 ∷ []) (λ is20. land ! (from ! (stop !)) (init ! 10 refl (LL.lawful row-Access.the-type law-Access.the-laws 𝓤 H A W .typed r18 _ is20 .0)) $
         rewrite ! 10 (λ (u : Val). ‵ (fat fullShare law-Access.mir l12 0 u)) (ap only (LL.tells row-Access.the-type law-Access.the-laws r18 _ is20)) refl $
         use0 W (raw (C5 𝓤 H A mem run .pre (to-5 x4 (LL.val row-Registers.the-type law-Registers.the-laws x4)))) (goes-5 x4 (LL.val row-Registers.the-type law-Registers.the-laws x4) i4) $
-        calls-at ! fm (C5 𝓤 H A mem run) known-5 (to-5 x4 (LL.val row-Registers.the-type law-Registers.the-laws x4)) (and-then ! (load ! (from ! (stop !)) (look ! 27 refl)) (no-more !)) (λ u21.
-        use1 W (later (some (λ (r : Registers). (‵ ftrue ⊛ ‵ (row-Registers.the-row .own r (u21 ∷ []))) ⊛ raw (ensured 𝓤 H A c5.ended (c5.clauses 𝓤 H A mem run) tt (x4, tt) tt r)))) (id⊢ 𝓤 _) $ await ! tt $ choose ! (λ r22. split ! $ move ! (1 ∷ []) $ use1 W (raw (fact 𝓤 (r22 ≡ bareOf x4))) (said-5 x4 r22) $ heard ! (r22 ≡ bareOf x4) (λ e23. split ! $
+        calls-at ! fm (C5 𝓤 H A mem run) known-5 (to-5 x4 (LL.val row-Registers.the-type law-Registers.the-laws x4)) (and-then ! (load ! (from ! (stop !)) (look ! 27 refl)) (no-more !)) (λ val21.
+        use1 W (later (some (λ (r : Registers). (‵ ftrue ⊛ ‵ (row-Registers.the-row .own r (val21 ∷ []))) ⊛ raw (ensured 𝓤 H A c5.ended (c5.clauses 𝓤 H A mem run) tt (x4, tt) tt r)))) (id⊢ 𝓤 _) $ await ! tt $ choose ! (λ r22. split ! $ move ! (1 ∷ []) $ use1 W (raw (fact 𝓤 (r22 ≡ bareOf x4))) (said-5 x4 r22) $ heard ! (r22 ≡ bareOf x4) (λ e23. split ! $
         drop ! $
-        facts ! row-Registers.the-row (Is row-Registers.the-row) (shows 𝓤 H A row-Registers.the-row) r22 (u21 ∷ []) (λ is24. land ! (from ! (stop !)) (init ! 8 refl (LL.lawful row-Registers.the-type law-Registers.the-laws 𝓤 H A W .typed r22 _ is24 .0)) $
+        facts ! row-Registers.the-row (Is row-Registers.the-row) (shows 𝓤 H A row-Registers.the-row) r22 (val21 ∷ []) (λ is24. land ! (from ! (stop !)) (init ! 8 refl (LL.lawful row-Registers.the-type law-Registers.the-laws 𝓤 H A W .typed r22 _ is24 .0)) $
         rewrite ! 8 (λ (u : Val). ‵ (fat fullShare law-Registers.mir l13 0 u)) (ap only (LL.tells row-Registers.the-type law-Registers.the-laws r22 _ is24)) refl $
         use0 W (raw (C6 𝓤 H A mem run .pre to-6)) goes-6 $
-        calls-at ! fm (C6 𝓤 H A mem run) known-6 to-6 (no-more !) (λ u25.
-        use1 W (later (some (λ (r : CachePair). (‵ ftrue ⊛ ‵ (row-CachePair.the-row .own r (u25 ∷ []))) ⊛ raw (ensured 𝓤 H A c6.ended (c6.clauses 𝓤 H A mem run) tt tt tt r)))) (id⊢ 𝓤 _) $ await ! tt $ choose ! (λ r26. split ! $ move ! (1 ∷ []) $ use1 W (raw (fact 𝓤 (pairOf r26 ≡ emptyCaches))) (said-6 r26) $ heard ! (pairOf r26 ≡ emptyCaches) (λ e27. split ! $
+        calls-at ! fm (C6 𝓤 H A mem run) known-6 to-6 (no-more !) (λ val25.
+        use1 W (later (some (λ (r : CachePair). (‵ ftrue ⊛ ‵ (row-CachePair.the-row .own r (val25 ∷ []))) ⊛ raw (ensured 𝓤 H A c6.ended (c6.clauses 𝓤 H A mem run) tt tt tt r)))) (id⊢ 𝓤 _) $ await ! tt $ choose ! (λ r26. split ! $ move ! (1 ∷ []) $ use1 W (raw (fact 𝓤 (pairOf r26 ≡ emptyCaches))) (said-6 r26) $ heard ! (pairOf r26 ≡ emptyCaches) (λ e27. split ! $
         drop ! $
-        facts ! row-CachePair.the-row (Is row-CachePair.the-row) (shows 𝓤 H A row-CachePair.the-row) r26 (u25 ∷ []) (λ is28. land ! (from ! (stop !)) (init ! 6 refl (LL.lawful row-CachePair.the-type law-CachePair.the-laws 𝓤 H A W .typed r26 _ is28 .0)) $
+        facts ! row-CachePair.the-row (Is row-CachePair.the-row) (shows 𝓤 H A row-CachePair.the-row) r26 (val25 ∷ []) (λ is28. land ! (from ! (stop !)) (init ! 6 refl (LL.lawful row-CachePair.the-type law-CachePair.the-laws 𝓤 H A W .typed r26 _ is28 .0)) $
         rewrite ! 6 (λ (u : Val). ‵ (fat fullShare law-CachePair.mir l14 0 u)) (ap only (LL.tells row-CachePair.the-type law-CachePair.the-laws r26 _ is28)) refl $ move ! (3 ∷ []) $
         use1 W (‵ ((ShrSlice (named 0) κ0 u32) .own x1 (sliceVal (x1 .ptr) (length (x1 .now)) ∷ [])) ⊛ ‵ ((ShrSlice (named 0) κ0 u32) .own x1 (sliceVal (x1 .ptr) (length (x1 .now)) ∷ []))) (shr-slice-copy 𝓤 H A W (named 0) κ0 u32 .twice x1 _) $
         split ! $ move ! (3 ∷ []) $
         use1 W (‵ ((ShrSlice (named 1) κ1 row-Range.the-row) .own x3 (sliceVal (x3 .ptr) (length (x3 .now)) ∷ [])) ⊛ ‵ ((ShrSlice (named 1) κ1 row-Range.the-row) .own x3 (sliceVal (x3 .ptr) (length (x3 .now)) ∷ []))) (shr-slice-copy 𝓤 H A W (named 1) κ1 row-Range.the-row .twice x3 _) $
         split ! $ move ! (5 ∷ 4 ∷ 2 ∷ 0 ∷ []) $ group ! 4 $
         use1 W (raw (C7 𝓤 H A mem run .pre (to-7 x1 (sliceVal (x1 .ptr) (length (x1 .now))) x2 (vint w32 x2) x3 (sliceVal (x3 .ptr) (length (x3 .now))) r22 (LL.val row-Registers.the-type law-Registers.the-laws r22) r18 (LL.val row-Access.the-type law-Access.the-laws r18) r26 (LL.val row-CachePair.the-type law-CachePair.the-laws r26)))) (goes-7 x1 (sliceVal (x1 .ptr) (length (x1 .now))) x2 (vint w32 x2) x3 (sliceVal (x3 .ptr) (length (x3 .now))) r22 (LL.val row-Registers.the-type law-Registers.the-laws r22) r18 (LL.val row-Access.the-type law-Access.the-laws r18) r26 (LL.val row-CachePair.the-type law-CachePair.the-laws r26) i2 (subst (Is row-Registers.the-row r22) (LL.tells row-Registers.the-type law-Registers.the-laws r22 _ is24) is24) (subst (Is row-Access.the-row r18) (LL.tells row-Access.the-type law-Access.the-laws r18 _ is20) is20) (subst (Is row-CachePair.the-row r26) (LL.tells row-CachePair.the-type law-CachePair.the-laws r26 _ is28) is28)) $
-        calls-at ! fm (C7 𝓤 H A mem run) known-7 (to-7 x1 (sliceVal (x1 .ptr) (length (x1 .now))) x2 (vint w32 x2) x3 (sliceVal (x3 .ptr) (length (x3 .now))) r22 (LL.val row-Registers.the-type law-Registers.the-laws r22) r18 (LL.val row-Access.the-type law-Access.the-laws r18) r26 (LL.val row-CachePair.the-type law-CachePair.the-laws r26)) (and-then ! (load ! (from ! (stop !)) (look ! 31 refl)) (and-then ! (load ! (from ! (stop !)) (look ! 29 refl)) (and-then ! (load ! (from ! (stop !)) (look ! 27 refl)) (and-then ! (load ! (from ! (stop !)) (look ! 7 refl)) (and-then ! (load ! (from ! (stop !)) (look ! 9 refl)) (and-then ! (load ! (from ! (stop !)) (look ! 5 refl)) (no-more !))))))) (λ u29.
-        use1 W (later (some (λ (r : Translated). ((‵ (flft κ0 q0) ⊛ ‵ (flft κ1 q1) ⊛ ‵ ftrue) ⊛ ‵ (row-Translated.the-row .own r (u29 ∷ []))) ⊛ raw (ensured 𝓤 H A c7.ended (c7.clauses 𝓤 H A mem run) (κ0, (κ1, tt)) (x1, (x2, (x3, (r22, (r18, (r26, tt)))))) tt r)))) (id⊢ 𝓤 _) $ await ! tt $ choose ! (λ r30. split ! $ move ! (1 ∷ []) $ use1 W (raw (fact 𝓤 (TranslatedBy (translateOf r22 r18 (memory (now x1) x2 (now x3)) (pairOf r26)) r30))) (said-7 x1 x2 x3 r22 r18 r26 r30) $ heard ! (TranslatedBy (translateOf r22 r18 (memory (now x1) x2 (now x3)) (pairOf r26)) r30) (λ e31. split ! $
+        calls-at ! fm (C7 𝓤 H A mem run) known-7 (to-7 x1 (sliceVal (x1 .ptr) (length (x1 .now))) x2 (vint w32 x2) x3 (sliceVal (x3 .ptr) (length (x3 .now))) r22 (LL.val row-Registers.the-type law-Registers.the-laws r22) r18 (LL.val row-Access.the-type law-Access.the-laws r18) r26 (LL.val row-CachePair.the-type law-CachePair.the-laws r26)) (and-then ! (load ! (from ! (stop !)) (look ! 31 refl)) (and-then ! (load ! (from ! (stop !)) (look ! 29 refl)) (and-then ! (load ! (from ! (stop !)) (look ! 27 refl)) (and-then ! (load ! (from ! (stop !)) (look ! 7 refl)) (and-then ! (load ! (from ! (stop !)) (look ! 9 refl)) (and-then ! (load ! (from ! (stop !)) (look ! 5 refl)) (no-more !))))))) (λ val29.
+        use1 W (later (some (λ (r : Translated). ((‵ (flft κ0 q0) ⊛ ‵ (flft κ1 q1) ⊛ ‵ ftrue) ⊛ ‵ (row-Translated.the-row .own r (val29 ∷ []))) ⊛ raw (ensured 𝓤 H A c7.ended (c7.clauses 𝓤 H A mem run) (κ0, (κ1, tt)) (x1, (x2, (x3, (r22, (r18, (r26, tt)))))) tt r)))) (id⊢ 𝓤 _) $ await ! tt $ choose ! (λ r30. split ! $ move ! (1 ∷ []) $ use1 W (raw (fact 𝓤 (TranslatedBy (translateOf r22 r18 (memory (now x1) x2 (now x3)) (pairOf r26)) r30))) (said-7 x1 x2 x3 r22 r18 r26 r30) $ heard ! (TranslatedBy (translateOf r22 r18 (memory (now x1) x2 (now x3)) (pairOf r26)) r30) (λ e31. split ! $
         split ! $ move ! (1 ∷ []) $ split ! $ move ! (1 ∷ []) $ drop ! $ move ! (2 ∷ []) $
-        facts ! row-Translated.the-row (Is row-Translated.the-row) (shows 𝓤 H A row-Translated.the-row) r30 (u29 ∷ []) (λ is32. land ! (from ! (stop !)) (init ! 4 refl (LL.lawful row-Translated.the-type law-Translated.the-laws 𝓤 H A W .typed r30 _ is32 .0)) $
+        facts ! row-Translated.the-row (Is row-Translated.the-row) (shows 𝓤 H A row-Translated.the-row) r30 (val29 ∷ []) (λ is32. land ! (from ! (stop !)) (init ! 4 refl (LL.lawful row-Translated.the-type law-Translated.the-laws 𝓤 H A W .typed r30 _ is32 .0)) $
         rewrite ! 4 (λ (u : Val). ‵ (fat fullShare law-Translated.mir l15 0 u)) (ap only (LL.tells row-Translated.the-type law-Translated.the-laws r30 _ is32)) refl $
         use0 W (raw (C8 𝓤 H A mem run .pre (to-8 x4 (LL.val row-Registers.the-type law-Registers.the-laws x4) r14 (LL.val row-Cached.the-type law-Cached.the-laws r14) x7 (vbool x7) r10 (vint w32 r10) r30 (LL.val row-Translated.the-type law-Translated.the-laws r30)))) (goes-8 x4 (LL.val row-Registers.the-type law-Registers.the-laws x4) r14 (LL.val row-Cached.the-type law-Cached.the-laws r14) x7 (vbool x7) r10 (vint w32 r10) r30 (LL.val row-Translated.the-type law-Translated.the-laws r30) i4 (subst (Is row-Cached.the-row r14) (LL.tells row-Cached.the-type law-Cached.the-laws r14 _ is16) is16) i7 (subst (Is u32 r10) (uint-tells w32 r10 _ is12) is12) (subst (Is row-Translated.the-row r30) (LL.tells row-Translated.the-type law-Translated.the-laws r30 _ is32) is32)) $
-        calls-at ! fm (C8 𝓤 H A mem run) known-8 (to-8 x4 (LL.val row-Registers.the-type law-Registers.the-laws x4) r14 (LL.val row-Cached.the-type law-Cached.the-laws r14) x7 (vbool x7) r10 (vint w32 r10) r30 (LL.val row-Translated.the-type law-Translated.the-laws r30)) (and-then ! (load ! (from ! (stop !)) (look ! 27 refl)) (and-then ! (load ! (from ! (stop !)) (look ! 13 refl)) (and-then ! (load ! (from ! (stop !)) (look ! 21 refl)) (and-then ! (load ! (from ! (stop !)) (look ! 15 refl)) (and-then ! (load ! (from ! (stop !)) (look ! 5 refl)) (no-more !)))))) (λ u33.
-        use1 W (later (some (λ (r : Finding). (‵ ftrue ⊛ ‵ (row-Finding.the-row .own r (u33 ∷ []))) ⊛ raw (ensured 𝓤 H A c8.ended (c8.clauses 𝓤 H A mem run) tt (x4, (r14, (x7, (r10, (r30, tt))))) tt r)))) (id⊢ 𝓤 _) $ await ! tt $ choose ! (λ r34. split ! $ move ! (1 ∷ []) $ use1 W (raw (fact 𝓤 (r34 ≡ toldOf x4 r14 x7 r10 (r30 .answer)))) (said-8 x4 r14 x7 r10 r30 r34) $ heard ! (r34 ≡ toldOf x4 r14 x7 r10 (r30 .answer)) (λ e35. split ! $
+        calls-at ! fm (C8 𝓤 H A mem run) known-8 (to-8 x4 (LL.val row-Registers.the-type law-Registers.the-laws x4) r14 (LL.val row-Cached.the-type law-Cached.the-laws r14) x7 (vbool x7) r10 (vint w32 r10) r30 (LL.val row-Translated.the-type law-Translated.the-laws r30)) (and-then ! (load ! (from ! (stop !)) (look ! 27 refl)) (and-then ! (load ! (from ! (stop !)) (look ! 13 refl)) (and-then ! (load ! (from ! (stop !)) (look ! 21 refl)) (and-then ! (load ! (from ! (stop !)) (look ! 15 refl)) (and-then ! (load ! (from ! (stop !)) (look ! 5 refl)) (no-more !)))))) (λ val33.
+        use1 W (later (some (λ (r : Finding). (‵ ftrue ⊛ ‵ (row-Finding.the-row .own r (val33 ∷ []))) ⊛ raw (ensured 𝓤 H A c8.ended (c8.clauses 𝓤 H A mem run) tt (x4, (r14, (x7, (r10, (r30, tt))))) tt r)))) (id⊢ 𝓤 _) $ await ! tt $ choose ! (λ r34. split ! $ move ! (1 ∷ []) $ use1 W (raw (fact 𝓤 (r34 ≡ toldOf x4 r14 x7 r10 (r30 .answer)))) (said-8 x4 r14 x7 r10 r30 r34) $ heard ! (r34 ≡ toldOf x4 r14 x7 r10 (r30 .answer)) (λ e35. split ! $
         drop ! $
-        facts ! row-Finding.the-row (Is row-Finding.the-row) (shows 𝓤 H A row-Finding.the-row) r34 (u33 ∷ []) (λ is36. land ! (from ! (stop !)) (init ! 34 refl (EL.lawful row-Finding.the-type law-Finding.the-laws 𝓤 H A W tt .typed r34 _ is36 .0)) $
+        facts ! row-Finding.the-row (Is row-Finding.the-row) (shows 𝓤 H A row-Finding.the-row) r34 (val33 ∷ []) (λ is36. land ! (from ! (stop !)) (init ! 34 refl (EL.lawful row-Finding.the-type law-Finding.the-laws 𝓤 H A W tt .typed r34 _ is36 .0)) $
         rewrite ! 34 (λ (u : Val). ‵ (fat fullShare law-Finding.mir l0 0 u)) (ap only (EL.tells row-Finding.the-type law-Finding.the-laws r34 _ is36)) refl $
         returns ! (look ! 34 refl) $ forget ! 34 refl $ forget ! 32 refl $ forget ! 30 refl $ forget ! 28 refl $ forget ! 26 refl $ forget ! 24 refl $ forget ! 22 refl $
         forget ! 20 refl $ forget ! 18 refl $ forget ! 16 refl $ forget ! 14 refl $ forget ! 12 refl $ forget ! 10 refl $ forget ! 8 refl $ forget ! 6 refl $ forget ! 4 refl $
@@ -342,11 +342,11 @@ module _ {M : Type 1} (𝓤 : URA M) (H : Heap 𝓤) (A : Atoms 𝓤) (W : Given
         by ! (exits r34 (EL.val row-Finding.the-type law-Finding.the-laws r34) (subst (Is row-Finding.the-row r34) (EL.tells row-Finding.the-type law-Finding.the-laws r34 _ is36) is36) (law.tells x4 (memory (now x1) x2 (now x3)) (x5 .c030) (x5 .c040) x6 x7 e3 e7 e11 e15 e19 e23 e27 e31 e35))))))))))))))))))))))))))))))))))))))))))))))))))))))
 
 module _ {M : Type 1} (𝓤 : URA M) (H : Heap 𝓤) (A : Atoms 𝓤) (W : Given 𝓤 H A) (mem : Memory → SProp 𝓤) (run : Routine → Fun 𝓤) (𝓣 : Tables 𝓤 H) where
-  self-walks : Triple 𝓤 (𝓣 .C #plan·checks·bad-longs) (C0 𝓤 H A mem run) → Triple 𝓤 (𝓣 .C #memory·ranges·any-crossed) (C1 𝓤 H A mem run) → Triple 𝓤 (𝓣 .C #audit·by-value·refusal-in) (C2 𝓤 H A mem run) → Triple 𝓤 (𝓣 .C #audit·by-value·looked-in) (C3 𝓤 H A mem run) → Triple 𝓤 (𝓣 .C #audit·telling·access-for) (C4 𝓤 H A mem run) → Triple 𝓤 (𝓣 .C #audit·telling·bare) (C5 𝓤 H A mem run) → Triple 𝓤 (𝓣 .C #audit·telling·no-caches) (C6 𝓤 H A mem run) → Triple 𝓤 (𝓣 .C #mmu·by-value·translate) (C7 𝓤 H A mem run) → Triple 𝓤 (𝓣 .C #audit·telling·told) (C8 𝓤 H A mem run) → AllWalks 𝓤 H A self.ended stayed (WpFn 𝓤 H (𝓣 .C) (𝓣 .Λ) code.function) (self.clauses 𝓤 H A mem run)
+  self-walks : Triple 𝓤 (𝓣 .C #checks·bad-longs) (C0 𝓤 H A mem run) → Triple 𝓤 (𝓣 .C #memory·ranges·any-crossed) (C1 𝓤 H A mem run) → Triple 𝓤 (𝓣 .C #audit·by-value·refusal-in) (C2 𝓤 H A mem run) → Triple 𝓤 (𝓣 .C #audit·by-value·looked-in) (C3 𝓤 H A mem run) → Triple 𝓤 (𝓣 .C #audit·telling·access-for) (C4 𝓤 H A mem run) → Triple 𝓤 (𝓣 .C #audit·telling·bare) (C5 𝓤 H A mem run) → Triple 𝓤 (𝓣 .C #audit·telling·no-caches) (C6 𝓤 H A mem run) → Triple 𝓤 (𝓣 .C #mmu·by-value·translate) (C7 𝓤 H A mem run) → Triple 𝓤 (𝓣 .C #audit·telling·told) (C8 𝓤 H A mem run) → AllWalks 𝓤 H A self.ended stayed (WpFn 𝓤 H (𝓣 .C) (𝓣 .Λ) code.function) (self.clauses 𝓤 H A mem run)
   self-walks known-0 known-1 known-2 known-3 known-4 known-5 known-6 known-7 known-8 = walked 𝓤 H A self.ended stayed (self.clauses 𝓤 H A mem run) (WpFn 𝓤 H (𝓣 .C) (𝓣 .Λ) code.function) (λ κs. (slice-vals, (uint-vals w32, (slice-vals, (LL.vals row-Registers.the-type law-Registers.the-laws, (LL.vals row-CachePair.the-type law-CachePair.the-laws, (uint-vals w32, (bool-vals, tt)))))))) (λ κs. (shr-slice-tells (named 0) (κs .0) u32, (uint-tells w32, (shr-slice-tells (named 1) (κs .1 .0) row-Range.the-row, (LL.tells row-Registers.the-type law-Registers.the-laws, (LL.tells row-CachePair.the-type law-CachePair.the-laws, (uint-tells w32, (bool-tells, tt))))))))
       (λ κs qs bounds a g are. via 𝓤 _ (fst∗ 𝓤 _ (emp 𝓤)) (walk 𝓤 H A W mem run (κs .0) (κs .1 .0) (qs .0) (qs .1 .0) (a .0) (a .1 .0) (a .1 .1 .0) (a .1 .1 .1 .0) (a .1 .1 .1 .1 .0) (a .1 .1 .1 .1 .1 .0) (a .1 .1 .1 .1 .1 .1 .0) (are .0) (are .1 .0) (are .1 .1 .0) (are .1 .1 .1 .0) (are .1 .1 .1 .1 .0) (are .1 .1 .1 .1 .1 .0) (are .1 .1 .1 .1 .1 .1 .0) 𝓣 known-0 known-1 known-2 known-3 known-4 known-5 known-6 known-7 known-8))
 
-  self-meets : Triple 𝓤 (𝓣 .C #plan·checks·bad-longs) (C0 𝓤 H A mem run) → Triple 𝓤 (𝓣 .C #memory·ranges·any-crossed) (C1 𝓤 H A mem run) → Triple 𝓤 (𝓣 .C #audit·by-value·refusal-in) (C2 𝓤 H A mem run) → Triple 𝓤 (𝓣 .C #audit·by-value·looked-in) (C3 𝓤 H A mem run) → Triple 𝓤 (𝓣 .C #audit·telling·access-for) (C4 𝓤 H A mem run) → Triple 𝓤 (𝓣 .C #audit·telling·bare) (C5 𝓤 H A mem run) → Triple 𝓤 (𝓣 .C #audit·telling·no-caches) (C6 𝓤 H A mem run) → Triple 𝓤 (𝓣 .C #mmu·by-value·translate) (C7 𝓤 H A mem run) → Triple 𝓤 (𝓣 .C #audit·telling·told) (C8 𝓤 H A mem run) → Meets 𝓤 H A self.signature (WpFn 𝓤 H (𝓣 .C) (𝓣 .Λ) code.function) (self.spec 𝓤 H A mem run)
+  self-meets : Triple 𝓤 (𝓣 .C #checks·bad-longs) (C0 𝓤 H A mem run) → Triple 𝓤 (𝓣 .C #memory·ranges·any-crossed) (C1 𝓤 H A mem run) → Triple 𝓤 (𝓣 .C #audit·by-value·refusal-in) (C2 𝓤 H A mem run) → Triple 𝓤 (𝓣 .C #audit·by-value·looked-in) (C3 𝓤 H A mem run) → Triple 𝓤 (𝓣 .C #audit·telling·access-for) (C4 𝓤 H A mem run) → Triple 𝓤 (𝓣 .C #audit·telling·bare) (C5 𝓤 H A mem run) → Triple 𝓤 (𝓣 .C #audit·telling·no-caches) (C6 𝓤 H A mem run) → Triple 𝓤 (𝓣 .C #mmu·by-value·translate) (C7 𝓤 H A mem run) → Triple 𝓤 (𝓣 .C #audit·telling·told) (C8 𝓤 H A mem run) → Meets 𝓤 H A self.signature (WpFn 𝓤 H (𝓣 .C) (𝓣 .Λ) code.function) (self.spec 𝓤 H A mem run)
   self-meets known-0 known-1 known-2 known-3 known-4 known-5 known-6 known-7 known-8 = walk-meets 𝓤 H A self.ended stayed W (goes-none-slice 𝓤 H A W 2 (0 ∷ []) tt (plain (λ _. u32)) yes, (goes-none 𝓤 H A W 2 (λ _. u32) yes (λ κs x f. refl), (goes-none-slice 𝓤 H A W 2 (1 ∷ []) tt (plain (λ _. row-Range.the-row)) yes, (goes-none 𝓤 H A W 2 (λ _. row-Registers.the-row) yes (λ κs x f. refl), (goes-none 𝓤 H A W 2 (λ _. row-CachePair.the-row) yes (λ κs x f. refl), (goes-none 𝓤 H A W 2 (λ _. u32) yes (λ κs x f. refl), (goes-none 𝓤 H A W 2 (λ _. Boolean) yes (λ κs x f. refl), tt))))))) (self.clauses 𝓤 H A mem run) (WpFn 𝓤 H (𝓣 .C) (𝓣 .Λ) code.function) (WpFn-mono 𝓤 H (W .laws) 𝓣 code.function) (self-walks known-0 known-1 known-2 known-3 known-4 known-5 known-6 known-7 known-8)
 
 pub finding-spec : {M : Type 1} → stated.statement M
@@ -355,7 +355,7 @@ finding-spec 𝓤 H 𝓜 𝓖 𝓡 =
     entered 𝓤 H (tripleOf 𝓤 H (𝓖 .A) self.signature (self.spec 𝓤 H (𝓖 .A) (𝓜 .mem) (𝓡 .run)))
     (tables 𝓤 H 𝓜 𝓡 code.env .C) (tables 𝓤 H 𝓜 𝓡 code.env .Λ) #audit·by-value·finding code.function (code.unfolded 𝓤 H 𝓜 𝓡)
     (self-meets 𝓤 H (𝓖 .A) (givenOf 𝓤 H 𝓜 𝓖) (𝓜 .mem) (𝓡 .run) (tablesOf 𝓤 H 𝓜 (tables 𝓤 H 𝓜 𝓡 code.env))
-    (cited 𝓤 H (C0 𝓤 H (𝓖 .A) (𝓜 .mem) (𝓡 .run)) 𝓜 𝓡 code.env #plan·checks·bad-longs c0-def.routine code.calls-plan·checks·bad-longs (c0-thm.met 𝓤 H 𝓜 𝓖 𝓡))
+    (cited 𝓤 H (C0 𝓤 H (𝓖 .A) (𝓜 .mem) (𝓡 .run)) 𝓜 𝓡 code.env #checks·bad-longs c0-def.routine code.calls-checks·bad-longs (c0-thm.met 𝓤 H 𝓜 𝓖 𝓡))
     (cited 𝓤 H (C1 𝓤 H (𝓖 .A) (𝓜 .mem) (𝓡 .run)) 𝓜 𝓡 code.env #memory·ranges·any-crossed c1-def.routine code.calls-memory·ranges·any-crossed (c1-thm.met 𝓤 H 𝓜 𝓖 𝓡))
     (cited 𝓤 H (C2 𝓤 H (𝓖 .A) (𝓜 .mem) (𝓡 .run)) 𝓜 𝓡 code.env #audit·by-value·refusal-in c2-def.routine code.calls-audit·by-value·refusal-in (c2-thm.met 𝓤 H 𝓜 𝓖 𝓡))
     (cited 𝓤 H (C3 𝓤 H (𝓖 .A) (𝓜 .mem) (𝓡 .run)) 𝓜 𝓡 code.env #audit·by-value·looked-in c3-def.routine code.calls-audit·by-value·looked-in (c3-thm.met 𝓤 H 𝓜 𝓖 𝓡))

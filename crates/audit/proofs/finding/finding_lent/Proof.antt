@@ -75,10 +75,10 @@ use Rattle.definition.proofs.Registers.Laws as law-Registers
 use Rattle.mmu.specs.declared.by_value.Translated.{Translated}
 use Rattle.mmu.proofs.by_value.Translated as row-Translated
 use Rattle.mmu.proofs.by_value.Translated.Laws as law-Translated
-use Rattle.plan.proofs.checks.bad_longs as c0
-use Rattle.plan.proofs.checks.bad_longs.Symbol as c0-def
-use Rattle.plan.proofs.checks.bad_longs.Symbol.{name as #plan·checks·bad-longs}
-use Rattle.plan.proofs.checks.bad_longs.Met as c0-thm
+use Rattle.checks.proofs.bad_longs as c0
+use Rattle.checks.proofs.bad_longs.Symbol as c0-def
+use Rattle.checks.proofs.bad_longs.Symbol.{name as #checks·bad-longs}
+use Rattle.checks.proofs.bad_longs.Met as c0-thm
 use Rattle.memory.proofs.ranges.any_crossed as c1
 use Rattle.memory.proofs.ranges.any_crossed.Symbol as c1-def
 use Rattle.memory.proofs.ranges.any_crossed.Symbol.{name as #memory·ranges·any-crossed}
@@ -160,7 +160,7 @@ module _ {M : Type 1} (𝓤 : URA M) (H : Heap 𝓤) (A : Atoms 𝓤) (W : Given
       suffices ! _ (ends-at 𝓤 H A self.ended stayed (self.clauses 𝓤 H A mem run) W (((κ0, (κ1, (κ2, (κ3, tt)))), (q0, (q1, (q2, (q3, tt)))), tt, (x1, (x2, (x3, (x4, (x5, (x6, (x7, (x8, tt)))))))), at-entry), tt) u r (tt, (tt, (tt, (tt, (tt, (tt, (tt, (tt, tt)))))))) (tt, (tt, (tt, (tt, (tt, (tt, (tt, (tt, tt))))))))) $ says ! e $
       nothing ! $ move ! (4 ∷ 0 ∷ []) $ join ! $ move ! (3 ∷ 0 ∷ []) $ join ! $ move ! (2 ∷ 0 ∷ []) $ join ! $ move ! (1 ∷ 0 ∷ []) $ join ! $ frame ! $ nothing ! $ owned ! Boolean (Is Boolean) (bool-makes 𝓤 H A W) x8 _ i8 $ fjoin ! $ owned ! u32 (Is u32) (uint-makes 𝓤 H A W w32) x7 _ i7 $ fjoin ! $ owned ! row-Registers.the-row (Is row-Registers.the-row) (LL.makes row-Registers.the-type law-Registers.the-plain 𝓤 H A) x6 _ i6 $ fjoin ! $ move ! (4 ∷ 0 ∷ []) $ fjoin ! $ owned ! u32 (Is u32) (uint-makes 𝓤 H A W w32) x4 _ i4 $ fjoin ! $ move ! (3 ∷ 0 ∷ []) $ fjoin ! $ move ! (2 ∷ 0 ∷ []) $ fjoin ! $ move ! (1 ∷ 0 ∷ []) $ fjoin ! $ frame ! $ owned ! row-Finding.the-row (Is row-Finding.the-row) (EL.makes row-Finding.the-type law-Finding.the-plain 𝓤 H A) r _ is $ done !
 
-  -- the call of `checks.bad_longs`: what it is passed, what it asks, and what is known of its result
+  -- the call of `bad_longs`: what it is passed, what it asks, and what is known of its result
   abbrev to-0 : (a0 : RefT (List ℕ)) (v0 : Val) (a1 : ℕ) (v1 : Val) → C0 𝓤 H A mem run .Ghost
   to-0 a0 v0 a1 v1 = (((κ2, tt), (q2, tt), tt, (a0, (a1, tt)), (v0 ∷ [], (v1 ∷ [], tt))), tt)
 
@@ -259,7 +259,7 @@ module _ {M : Type 1} (𝓤 : URA M) (H : Heap 𝓤) (A : Atoms 𝓤) (W : Given
   said-8 : (a0 : Registers) (a1 : Cached) (a2 : Bool) (a3 : ℕ) (a4 : Translated) (r : Finding) → ent 𝓤 (ensured 𝓤 H A c8.ended (c8.clauses 𝓤 H A mem run) tt (a0, (a1, (a2, (a3, (a4, tt))))) tt r) (fact 𝓤 (r ≡ toldOf a0 a1 a2 a3 (a4 .answer)))
   said-8 a0 a1 a2 a3 a4 r = exE 𝓤 _ (λ ws. snd∗ 𝓤 (sem 𝓤 H A (lasts c8.ended tt (a0, (a1, (a2, (a3, (a4, tt))))) ws)) (fact 𝓤 (r ≡ toldOf a0 a1 a2 a3 (a4 .answer))))
 
-  module _ (𝓣 : Tables 𝓤 H) (known-0 : Triple 𝓤 (𝓣 .C #plan·checks·bad-longs) (C0 𝓤 H A mem run)) (known-1 : Triple 𝓤 (𝓣 .C #memory·ranges·any-crossed) (C1 𝓤 H A mem run)) (known-2 : Triple 𝓤 (𝓣 .C #audit·refusal) (C2 𝓤 H A mem run)) (known-3 : Triple 𝓤 (𝓣 .C #audit·looked-at) (C3 𝓤 H A mem run)) (known-4 : Triple 𝓤 (𝓣 .C #audit·telling·access-for) (C4 𝓤 H A mem run)) (known-5 : Triple 𝓤 (𝓣 .C #audit·telling·bare) (C5 𝓤 H A mem run)) (known-6 : Triple 𝓤 (𝓣 .C #audit·telling·no-caches) (C6 𝓤 H A mem run)) (known-7 : Triple 𝓤 (𝓣 .C #mmu·by-value·translate) (C7 𝓤 H A mem run)) (known-8 : Triple 𝓤 (𝓣 .C #audit·telling·told) (C8 𝓤 H A mem run)) where
+  module _ (𝓣 : Tables 𝓤 H) (known-0 : Triple 𝓤 (𝓣 .C #checks·bad-longs) (C0 𝓤 H A mem run)) (known-1 : Triple 𝓤 (𝓣 .C #memory·ranges·any-crossed) (C1 𝓤 H A mem run)) (known-2 : Triple 𝓤 (𝓣 .C #audit·refusal) (C2 𝓤 H A mem run)) (known-3 : Triple 𝓤 (𝓣 .C #audit·looked-at) (C3 𝓤 H A mem run)) (known-4 : Triple 𝓤 (𝓣 .C #audit·telling·access-for) (C4 𝓤 H A mem run)) (known-5 : Triple 𝓤 (𝓣 .C #audit·telling·bare) (C5 𝓤 H A mem run)) (known-6 : Triple 𝓤 (𝓣 .C #audit·telling·no-caches) (C6 𝓤 H A mem run)) (known-7 : Triple 𝓤 (𝓣 .C #mmu·by-value·translate) (C7 𝓤 H A mem run)) (known-8 : Triple 𝓤 (𝓣 .C #audit·telling·told) (C8 𝓤 H A mem run)) where
     abbrev C : Calls 𝓤 H
     C = 𝓣 .C
 
@@ -280,70 +280,70 @@ module _ {M : Type 1} (𝓤 : URA M) (H : Heap 𝓤) (A : Atoms 𝓤) (W : Given
         use1 W (‵ ((ShrSlice (named 2) κ2 u32) .own x3 (sliceVal (x3 .ptr) (length (x3 .now)) ∷ [])) ⊛ ‵ ((ShrSlice (named 2) κ2 u32) .own x3 (sliceVal (x3 .ptr) (length (x3 .now)) ∷ []))) (shr-slice-copy 𝓤 H A W (named 2) κ2 u32 .twice x3 _) $
         split ! $ move ! (3 ∷ 0 ∷ []) $ group ! 2 $
         use1 W (raw (C0 𝓤 H A mem run .pre (to-0 x3 (sliceVal (x3 .ptr) (length (x3 .now))) x4 (vint w32 x4)))) (goes-0 x3 (sliceVal (x3 .ptr) (length (x3 .now))) x4 (vint w32 x4) i4) $
-        calls-at ! fm (C0 𝓤 H A mem run) known-0 (to-0 x3 (sliceVal (x3 .ptr) (length (x3 .now))) x4 (vint w32 x4)) (and-then ! (load ! (from ! (stop !)) (look ! 34 refl)) (and-then ! (load ! (from ! (stop !)) (look ! 32 refl)) (no-more !))) (λ u1.
-        use1 W (later (some (λ (r : Bool). ((‵ (flft κ2 q2) ⊛ ‵ ftrue) ⊛ ‵ (Boolean .own r (u1 ∷ []))) ⊛ raw (ensured 𝓤 H A c0.ended (c0.clauses 𝓤 H A mem run) (κ2, tt) (x3, (x4, tt)) tt r)))) (id⊢ 𝓤 _) $ await ! tt $ choose ! (λ r2. split ! $ move ! (1 ∷ []) $ use1 W (raw (fact 𝓤 (r2 ≡ badBase (memory (now x3) x4 [])))) (said-0 x3 x4 r2) $ heard ! (r2 ≡ badBase (memory (now x3) x4 [])) (λ e3. split ! $
+        calls-at ! fm (C0 𝓤 H A mem run) known-0 (to-0 x3 (sliceVal (x3 .ptr) (length (x3 .now))) x4 (vint w32 x4)) (and-then ! (load ! (from ! (stop !)) (look ! 34 refl)) (and-then ! (load ! (from ! (stop !)) (look ! 32 refl)) (no-more !))) (λ val1.
+        use1 W (later (some (λ (r : Bool). ((‵ (flft κ2 q2) ⊛ ‵ ftrue) ⊛ ‵ (Boolean .own r (val1 ∷ []))) ⊛ raw (ensured 𝓤 H A c0.ended (c0.clauses 𝓤 H A mem run) (κ2, tt) (x3, (x4, tt)) tt r)))) (id⊢ 𝓤 _) $ await ! tt $ choose ! (λ r2. split ! $ move ! (1 ∷ []) $ use1 W (raw (fact 𝓤 (r2 ≡ badBase (memory (now x3) x4 [])))) (said-0 x3 x4 r2) $ heard ! (r2 ≡ badBase (memory (now x3) x4 [])) (λ e3. split ! $
         split ! $ move ! (1 ∷ []) $ drop ! $ move ! (1 ∷ []) $
-        facts ! Boolean (Is Boolean) (shows 𝓤 H A Boolean) r2 (u1 ∷ []) (λ is4. land ! (from ! (stop !)) (init ! 22 refl (bool-lawful 𝓤 H A W .typed r2 _ is4 .0)) $
+        facts ! Boolean (Is Boolean) (shows 𝓤 H A Boolean) r2 (val1 ∷ []) (λ is4. land ! (from ! (stop !)) (init ! 22 refl (bool-lawful 𝓤 H A W .typed r2 _ is4 .0)) $
         rewrite ! 22 (λ (u : Val). ‵ (fat fullShare tyBool l9 0 u)) (ap only (bool-tells r2 _ is4)) refl $ move ! (5 ∷ []) $
         use1 W (‵ ((ShrSlice (named 3) κ3 row-Range.the-row) .own x5 (sliceVal (x5 .ptr) (length (x5 .now)) ∷ [])) ⊛ ‵ ((ShrSlice (named 3) κ3 row-Range.the-row) .own x5 (sliceVal (x5 .ptr) (length (x5 .now)) ∷ []))) (shr-slice-copy 𝓤 H A W (named 3) κ3 row-Range.the-row .twice x5 _) $
         split ! $ move ! (4 ∷ 0 ∷ []) $ group ! 2 $
         use1 W (raw (C1 𝓤 H A mem run .pre (to-1 x5 (sliceVal (x5 .ptr) (length (x5 .now)))))) (goes-1 x5 (sliceVal (x5 .ptr) (length (x5 .now)))) $
-        calls-at ! fm (C1 𝓤 H A mem run) known-1 (to-1 x5 (sliceVal (x5 .ptr) (length (x5 .now)))) (and-then ! (load ! (from ! (stop !)) (look ! 30 refl)) (no-more !)) (λ u5.
-        use1 W (later (some (λ (r : Bool). ((‵ (flft κ3 q3) ⊛ ‵ ftrue) ⊛ ‵ (Boolean .own r (u5 ∷ []))) ⊛ raw (ensured 𝓤 H A c1.ended (c1.clauses 𝓤 H A mem run) (κ3, tt) (x5, tt) tt r)))) (id⊢ 𝓤 _) $ await ! tt $ choose ! (λ r6. split ! $ move ! (1 ∷ []) $ use1 W (raw (fact 𝓤 (r6 ≡ anyOf crossed (now x5)))) (said-1 x5 r6) $ heard ! (r6 ≡ anyOf crossed (now x5)) (λ e7. split ! $
+        calls-at ! fm (C1 𝓤 H A mem run) known-1 (to-1 x5 (sliceVal (x5 .ptr) (length (x5 .now)))) (and-then ! (load ! (from ! (stop !)) (look ! 30 refl)) (no-more !)) (λ val5.
+        use1 W (later (some (λ (r : Bool). ((‵ (flft κ3 q3) ⊛ ‵ ftrue) ⊛ ‵ (Boolean .own r (val5 ∷ []))) ⊛ raw (ensured 𝓤 H A c1.ended (c1.clauses 𝓤 H A mem run) (κ3, tt) (x5, tt) tt r)))) (id⊢ 𝓤 _) $ await ! tt $ choose ! (λ r6. split ! $ move ! (1 ∷ []) $ use1 W (raw (fact 𝓤 (r6 ≡ anyOf crossed (now x5)))) (said-1 x5 r6) $ heard ! (r6 ≡ anyOf crossed (now x5)) (λ e7. split ! $
         split ! $ move ! (1 ∷ []) $ drop ! $ move ! (1 ∷ []) $
-        facts ! Boolean (Is Boolean) (shows 𝓤 H A Boolean) r6 (u5 ∷ []) (λ is8. land ! (from ! (stop !)) (init ! 20 refl (bool-lawful 𝓤 H A W .typed r6 _ is8 .0)) $
+        facts ! Boolean (Is Boolean) (shows 𝓤 H A Boolean) r6 (val5 ∷ []) (λ is8. land ! (from ! (stop !)) (init ! 20 refl (bool-lawful 𝓤 H A W .typed r6 _ is8 .0)) $
         rewrite ! 20 (λ (u : Val). ‵ (fat fullShare tyBool l10 0 u)) (ap only (bool-tells r6 _ is8)) refl $ move ! (7 ∷ []) $
         use1 W (‵ ((ShrRef (named 0) κ0 (Array u64 69)) .own x1 (vptr (x1 .ptr .0) (x1 .ptr .1) ∷ [])) ⊛ ‵ ((ShrRef (named 0) κ0 (Array u64 69)) .own x1 (vptr (x1 .ptr .0) (x1 .ptr .1) ∷ []))) (shr-copy 𝓤 H A W (named 0) κ0 (Array u64 69) .twice x1 _) $
         split ! $ move ! (7 ∷ 0 ∷ []) $ group ! 2 $
         use1 W (raw (C2 𝓤 H A mem run .pre (to-2 x1 (vptr (x1 .ptr .0) (x1 .ptr .1)) r2 (vbool r2) r6 (vbool r6) x6 (LL.val row-Registers.the-type law-Registers.the-laws x6)))) (goes-2 x1 (vptr (x1 .ptr .0) (x1 .ptr .1)) r2 (vbool r2) r6 (vbool r6) x6 (LL.val row-Registers.the-type law-Registers.the-laws x6) (subst (Is Boolean r2) (bool-tells r2 _ is4) is4) (subst (Is Boolean r6) (bool-tells r6 _ is8) is8) i6) $
-        calls-at ! fm (C2 𝓤 H A mem run) known-2 (to-2 x1 (vptr (x1 .ptr .0) (x1 .ptr .1)) r2 (vbool r2) r6 (vbool r6) x6 (LL.val row-Registers.the-type law-Registers.the-laws x6)) (and-then ! (load ! (from ! (stop !)) (look ! 38 refl)) (and-then ! (load ! (from ! (stop !)) (look ! 22 refl)) (and-then ! (load ! (from ! (stop !)) (look ! 20 refl)) (and-then ! (load ! (from ! (stop !)) (look ! 28 refl)) (no-more !))))) (λ u9.
-        use1 W (later (some (λ (r : ℕ). ((‵ (flft κ0 q0) ⊛ ‵ ftrue) ⊛ ‵ (u32 .own r (u9 ∷ []))) ⊛ raw (ensured 𝓤 H A c2.ended (c2.clauses 𝓤 H A mem run) (κ0, tt) (x1, (r2, (r6, (x6, tt)))) tt r)))) (id⊢ 𝓤 _) $ await ! tt $ choose ! (λ r10. split ! $ move ! (1 ∷ []) $ use1 W (raw (fact 𝓤 (r10 ≡ auditRefusal x6 r2 r6 (cacheOf (now x1))))) (said-2 x1 r2 r6 x6 r10) $ heard ! (r10 ≡ auditRefusal x6 r2 r6 (cacheOf (now x1))) (λ e11. split ! $
+        calls-at ! fm (C2 𝓤 H A mem run) known-2 (to-2 x1 (vptr (x1 .ptr .0) (x1 .ptr .1)) r2 (vbool r2) r6 (vbool r6) x6 (LL.val row-Registers.the-type law-Registers.the-laws x6)) (and-then ! (load ! (from ! (stop !)) (look ! 38 refl)) (and-then ! (load ! (from ! (stop !)) (look ! 22 refl)) (and-then ! (load ! (from ! (stop !)) (look ! 20 refl)) (and-then ! (load ! (from ! (stop !)) (look ! 28 refl)) (no-more !))))) (λ val9.
+        use1 W (later (some (λ (r : ℕ). ((‵ (flft κ0 q0) ⊛ ‵ ftrue) ⊛ ‵ (u32 .own r (val9 ∷ []))) ⊛ raw (ensured 𝓤 H A c2.ended (c2.clauses 𝓤 H A mem run) (κ0, tt) (x1, (r2, (r6, (x6, tt)))) tt r)))) (id⊢ 𝓤 _) $ await ! tt $ choose ! (λ r10. split ! $ move ! (1 ∷ []) $ use1 W (raw (fact 𝓤 (r10 ≡ auditRefusal x6 r2 r6 (cacheOf (now x1))))) (said-2 x1 r2 r6 x6 r10) $ heard ! (r10 ≡ auditRefusal x6 r2 r6 (cacheOf (now x1))) (λ e11. split ! $
         split ! $ move ! (1 ∷ []) $ drop ! $ move ! (1 ∷ []) $
-        facts ! u32 (Is u32) (shows 𝓤 H A u32) r10 (u9 ∷ []) (λ is12. land ! (from ! (stop !)) (init ! 18 refl (uint-lawful 𝓤 H A W w32 .typed r10 _ is12 .0)) $
+        facts ! u32 (Is u32) (shows 𝓤 H A u32) r10 (val9 ∷ []) (λ is12. land ! (from ! (stop !)) (init ! 18 refl (uint-lawful 𝓤 H A W w32 .typed r10 _ is12 .0)) $
         rewrite ! 18 (λ (u : Val). ‵ (fat fullShare (tyInt w32) l11 0 u)) (ap only (uint-tells w32 r10 _ is12)) refl $ move ! (1 ∷ []) $
         use1 W (‵ ((ShrRef (named 0) κ0 (Array u64 69)) .own x1 (vptr (x1 .ptr .0) (x1 .ptr .1) ∷ [])) ⊛ ‵ ((ShrRef (named 0) κ0 (Array u64 69)) .own x1 (vptr (x1 .ptr .0) (x1 .ptr .1) ∷ []))) (shr-copy 𝓤 H A W (named 0) κ0 (Array u64 69) .twice x1 _) $
         split ! $ move ! (8 ∷ []) $
         use1 W (‵ ((ShrRef (named 1) κ1 (Array u64 128)) .own x2 (vptr (x2 .ptr .0) (x2 .ptr .1) ∷ [])) ⊛ ‵ ((ShrRef (named 1) κ1 (Array u64 128)) .own x2 (vptr (x2 .ptr .0) (x2 .ptr .1) ∷ []))) (shr-copy 𝓤 H A W (named 1) κ1 (Array u64 128) .twice x2 _) $
         split ! $ move ! (4 ∷ 9 ∷ 2 ∷ 0 ∷ []) $ group ! 4 $
         use1 W (raw (C3 𝓤 H A mem run .pre (to-3 x1 (vptr (x1 .ptr .0) (x1 .ptr .1)) x2 (vptr (x2 .ptr .0) (x2 .ptr .1)) x6 (LL.val row-Registers.the-type law-Registers.the-laws x6) x7 (vint w32 x7)))) (goes-3 x1 (vptr (x1 .ptr .0) (x1 .ptr .1)) x2 (vptr (x2 .ptr .0) (x2 .ptr .1)) x6 (LL.val row-Registers.the-type law-Registers.the-laws x6) x7 (vint w32 x7) i6 i7) $
-        calls-at ! fm (C3 𝓤 H A mem run) known-3 (to-3 x1 (vptr (x1 .ptr .0) (x1 .ptr .1)) x2 (vptr (x2 .ptr .0) (x2 .ptr .1)) x6 (LL.val row-Registers.the-type law-Registers.the-laws x6) x7 (vint w32 x7)) (and-then ! (load ! (from ! (stop !)) (look ! 37 refl)) (and-then ! (load ! (from ! (stop !)) (look ! 35 refl)) (and-then ! (load ! (from ! (stop !)) (look ! 27 refl)) (and-then ! (load ! (from ! (stop !)) (look ! 25 refl)) (no-more !))))) (λ u13.
-        use1 W (later (some (λ (r : Cached). ((‵ (flft κ0 q0) ⊛ ‵ (flft κ1 q1) ⊛ ‵ ftrue) ⊛ ‵ (row-Cached.the-row .own r (u13 ∷ []))) ⊛ raw (ensured 𝓤 H A c3.ended (c3.clauses 𝓤 H A mem run) (κ0, (κ1, tt)) (x1, (x2, (x6, (x7, tt)))) tt r)))) (id⊢ 𝓤 _) $ await ! tt $ choose ! (λ r14. split ! $ move ! (1 ∷ []) $ use1 W (raw (fact 𝓤 (LooksAt x6 (now x1) (now x2) x7 r14))) (said-3 x1 x2 x6 x7 r14) $ heard ! (LooksAt x6 (now x1) (now x2) x7 r14) (λ e15. split ! $
+        calls-at ! fm (C3 𝓤 H A mem run) known-3 (to-3 x1 (vptr (x1 .ptr .0) (x1 .ptr .1)) x2 (vptr (x2 .ptr .0) (x2 .ptr .1)) x6 (LL.val row-Registers.the-type law-Registers.the-laws x6) x7 (vint w32 x7)) (and-then ! (load ! (from ! (stop !)) (look ! 37 refl)) (and-then ! (load ! (from ! (stop !)) (look ! 35 refl)) (and-then ! (load ! (from ! (stop !)) (look ! 27 refl)) (and-then ! (load ! (from ! (stop !)) (look ! 25 refl)) (no-more !))))) (λ val13.
+        use1 W (later (some (λ (r : Cached). ((‵ (flft κ0 q0) ⊛ ‵ (flft κ1 q1) ⊛ ‵ ftrue) ⊛ ‵ (row-Cached.the-row .own r (val13 ∷ []))) ⊛ raw (ensured 𝓤 H A c3.ended (c3.clauses 𝓤 H A mem run) (κ0, (κ1, tt)) (x1, (x2, (x6, (x7, tt)))) tt r)))) (id⊢ 𝓤 _) $ await ! tt $ choose ! (λ r14. split ! $ move ! (1 ∷ []) $ use1 W (raw (fact 𝓤 (LooksAt x6 (now x1) (now x2) x7 r14))) (said-3 x1 x2 x6 x7 r14) $ heard ! (LooksAt x6 (now x1) (now x2) x7 r14) (λ e15. split ! $
         split ! $ move ! (1 ∷ []) $ split ! $ move ! (1 ∷ []) $ drop ! $ move ! (2 ∷ []) $
-        facts ! row-Cached.the-row (Is row-Cached.the-row) (shows 𝓤 H A row-Cached.the-row) r14 (u13 ∷ []) (λ is16. land ! (from ! (stop !)) (init ! 16 refl (LL.lawful row-Cached.the-type law-Cached.the-laws 𝓤 H A W .typed r14 _ is16 .0)) $
+        facts ! row-Cached.the-row (Is row-Cached.the-row) (shows 𝓤 H A row-Cached.the-row) r14 (val13 ∷ []) (λ is16. land ! (from ! (stop !)) (init ! 16 refl (LL.lawful row-Cached.the-type law-Cached.the-laws 𝓤 H A W .typed r14 _ is16 .0)) $
         rewrite ! 16 (λ (u : Val). ‵ (fat fullShare law-Cached.mir l12 0 u)) (ap only (LL.tells row-Cached.the-type law-Cached.the-laws r14 _ is16)) refl $
         use0 W (raw (C4 𝓤 H A mem run .pre (to-4 x6 (LL.val row-Registers.the-type law-Registers.the-laws x6) r14 (LL.val row-Cached.the-type law-Cached.the-laws r14) x8 (vbool x8)))) (goes-4 x6 (LL.val row-Registers.the-type law-Registers.the-laws x6) r14 (LL.val row-Cached.the-type law-Cached.the-laws r14) x8 (vbool x8) i6 (subst (Is row-Cached.the-row r14) (LL.tells row-Cached.the-type law-Cached.the-laws r14 _ is16) is16) i8) $
-        calls-at ! fm (C4 𝓤 H A mem run) known-4 (to-4 x6 (LL.val row-Registers.the-type law-Registers.the-laws x6) r14 (LL.val row-Cached.the-type law-Cached.the-laws r14) x8 (vbool x8)) (and-then ! (load ! (from ! (stop !)) (look ! 29 refl)) (and-then ! (load ! (from ! (stop !)) (look ! 17 refl)) (and-then ! (load ! (from ! (stop !)) (look ! 25 refl)) (no-more !)))) (λ u17.
-        use1 W (later (some (λ (r : Access). (‵ ftrue ⊛ ‵ (row-Access.the-row .own r (u17 ∷ []))) ⊛ raw (ensured 𝓤 H A c4.ended (c4.clauses 𝓤 H A mem run) tt (x6, (r14, (x8, tt))) tt r)))) (id⊢ 𝓤 _) $ await ! tt $ choose ! (λ r18. split ! $ move ! (1 ∷ []) $ use1 W (raw (fact 𝓤 (r18 ≡ accessFor x6 r14 x8))) (said-4 x6 r14 x8 r18) $ heard ! (r18 ≡ accessFor x6 r14 x8) (λ e19. split ! $
+        calls-at ! fm (C4 𝓤 H A mem run) known-4 (to-4 x6 (LL.val row-Registers.the-type law-Registers.the-laws x6) r14 (LL.val row-Cached.the-type law-Cached.the-laws r14) x8 (vbool x8)) (and-then ! (load ! (from ! (stop !)) (look ! 29 refl)) (and-then ! (load ! (from ! (stop !)) (look ! 17 refl)) (and-then ! (load ! (from ! (stop !)) (look ! 25 refl)) (no-more !)))) (λ val17.
+        use1 W (later (some (λ (r : Access). (‵ ftrue ⊛ ‵ (row-Access.the-row .own r (val17 ∷ []))) ⊛ raw (ensured 𝓤 H A c4.ended (c4.clauses 𝓤 H A mem run) tt (x6, (r14, (x8, tt))) tt r)))) (id⊢ 𝓤 _) $ await ! tt $ choose ! (λ r18. split ! $ move ! (1 ∷ []) $ use1 W (raw (fact 𝓤 (r18 ≡ accessFor x6 r14 x8))) (said-4 x6 r14 x8 r18) $ heard ! (r18 ≡ accessFor x6 r14 x8) (λ e19. split ! $
         drop ! $
-        facts ! row-Access.the-row (Is row-Access.the-row) (shows 𝓤 H A row-Access.the-row) r18 (u17 ∷ []) (λ is20. land ! (from ! (stop !)) (init ! 14 refl (LL.lawful row-Access.the-type law-Access.the-laws 𝓤 H A W .typed r18 _ is20 .0)) $
+        facts ! row-Access.the-row (Is row-Access.the-row) (shows 𝓤 H A row-Access.the-row) r18 (val17 ∷ []) (λ is20. land ! (from ! (stop !)) (init ! 14 refl (LL.lawful row-Access.the-type law-Access.the-laws 𝓤 H A W .typed r18 _ is20 .0)) $
         rewrite ! 14 (λ (u : Val). ‵ (fat fullShare law-Access.mir l13 0 u)) (ap only (LL.tells row-Access.the-type law-Access.the-laws r18 _ is20)) refl $
         use0 W (raw (C5 𝓤 H A mem run .pre (to-5 x6 (LL.val row-Registers.the-type law-Registers.the-laws x6)))) (goes-5 x6 (LL.val row-Registers.the-type law-Registers.the-laws x6) i6) $
-        calls-at ! fm (C5 𝓤 H A mem run) known-5 (to-5 x6 (LL.val row-Registers.the-type law-Registers.the-laws x6)) (and-then ! (load ! (from ! (stop !)) (look ! 29 refl)) (no-more !)) (λ u21.
-        use1 W (later (some (λ (r : Registers). (‵ ftrue ⊛ ‵ (row-Registers.the-row .own r (u21 ∷ []))) ⊛ raw (ensured 𝓤 H A c5.ended (c5.clauses 𝓤 H A mem run) tt (x6, tt) tt r)))) (id⊢ 𝓤 _) $ await ! tt $ choose ! (λ r22. split ! $ move ! (1 ∷ []) $ use1 W (raw (fact 𝓤 (r22 ≡ bareOf x6))) (said-5 x6 r22) $ heard ! (r22 ≡ bareOf x6) (λ e23. split ! $
+        calls-at ! fm (C5 𝓤 H A mem run) known-5 (to-5 x6 (LL.val row-Registers.the-type law-Registers.the-laws x6)) (and-then ! (load ! (from ! (stop !)) (look ! 29 refl)) (no-more !)) (λ val21.
+        use1 W (later (some (λ (r : Registers). (‵ ftrue ⊛ ‵ (row-Registers.the-row .own r (val21 ∷ []))) ⊛ raw (ensured 𝓤 H A c5.ended (c5.clauses 𝓤 H A mem run) tt (x6, tt) tt r)))) (id⊢ 𝓤 _) $ await ! tt $ choose ! (λ r22. split ! $ move ! (1 ∷ []) $ use1 W (raw (fact 𝓤 (r22 ≡ bareOf x6))) (said-5 x6 r22) $ heard ! (r22 ≡ bareOf x6) (λ e23. split ! $
         drop ! $
-        facts ! row-Registers.the-row (Is row-Registers.the-row) (shows 𝓤 H A row-Registers.the-row) r22 (u21 ∷ []) (λ is24. land ! (from ! (stop !)) (init ! 12 refl (LL.lawful row-Registers.the-type law-Registers.the-laws 𝓤 H A W .typed r22 _ is24 .0)) $
+        facts ! row-Registers.the-row (Is row-Registers.the-row) (shows 𝓤 H A row-Registers.the-row) r22 (val21 ∷ []) (λ is24. land ! (from ! (stop !)) (init ! 12 refl (LL.lawful row-Registers.the-type law-Registers.the-laws 𝓤 H A W .typed r22 _ is24 .0)) $
         rewrite ! 12 (λ (u : Val). ‵ (fat fullShare law-Registers.mir l14 0 u)) (ap only (LL.tells row-Registers.the-type law-Registers.the-laws r22 _ is24)) refl $
         use0 W (raw (C6 𝓤 H A mem run .pre to-6)) goes-6 $
-        calls-at ! fm (C6 𝓤 H A mem run) known-6 to-6 (no-more !) (λ u25.
-        use1 W (later (some (λ (r : CachePair). (‵ ftrue ⊛ ‵ (row-CachePair.the-row .own r (u25 ∷ []))) ⊛ raw (ensured 𝓤 H A c6.ended (c6.clauses 𝓤 H A mem run) tt tt tt r)))) (id⊢ 𝓤 _) $ await ! tt $ choose ! (λ r26. split ! $ move ! (1 ∷ []) $ use1 W (raw (fact 𝓤 (pairOf r26 ≡ emptyCaches))) (said-6 r26) $ heard ! (pairOf r26 ≡ emptyCaches) (λ e27. split ! $
+        calls-at ! fm (C6 𝓤 H A mem run) known-6 to-6 (no-more !) (λ val25.
+        use1 W (later (some (λ (r : CachePair). (‵ ftrue ⊛ ‵ (row-CachePair.the-row .own r (val25 ∷ []))) ⊛ raw (ensured 𝓤 H A c6.ended (c6.clauses 𝓤 H A mem run) tt tt tt r)))) (id⊢ 𝓤 _) $ await ! tt $ choose ! (λ r26. split ! $ move ! (1 ∷ []) $ use1 W (raw (fact 𝓤 (pairOf r26 ≡ emptyCaches))) (said-6 r26) $ heard ! (pairOf r26 ≡ emptyCaches) (λ e27. split ! $
         drop ! $
-        facts ! row-CachePair.the-row (Is row-CachePair.the-row) (shows 𝓤 H A row-CachePair.the-row) r26 (u25 ∷ []) (λ is28. land ! (from ! (stop !)) (init ! 10 refl (LL.lawful row-CachePair.the-type law-CachePair.the-laws 𝓤 H A W .typed r26 _ is28 .0)) $
+        facts ! row-CachePair.the-row (Is row-CachePair.the-row) (shows 𝓤 H A row-CachePair.the-row) r26 (val25 ∷ []) (λ is28. land ! (from ! (stop !)) (init ! 10 refl (LL.lawful row-CachePair.the-type law-CachePair.the-laws 𝓤 H A W .typed r26 _ is28 .0)) $
         rewrite ! 10 (λ (u : Val). ‵ (fat fullShare law-CachePair.mir l15 0 u)) (ap only (LL.tells row-CachePair.the-type law-CachePair.the-laws r26 _ is28)) refl $ move ! (7 ∷ []) $
         use1 W (‵ ((ShrSlice (named 2) κ2 u32) .own x3 (sliceVal (x3 .ptr) (length (x3 .now)) ∷ [])) ⊛ ‵ ((ShrSlice (named 2) κ2 u32) .own x3 (sliceVal (x3 .ptr) (length (x3 .now)) ∷ []))) (shr-slice-copy 𝓤 H A W (named 2) κ2 u32 .twice x3 _) $
         split ! $ move ! (7 ∷ []) $
         use1 W (‵ ((ShrSlice (named 3) κ3 row-Range.the-row) .own x5 (sliceVal (x5 .ptr) (length (x5 .now)) ∷ [])) ⊛ ‵ ((ShrSlice (named 3) κ3 row-Range.the-row) .own x5 (sliceVal (x5 .ptr) (length (x5 .now)) ∷ []))) (shr-slice-copy 𝓤 H A W (named 3) κ3 row-Range.the-row .twice x5 _) $
         split ! $ move ! (9 ∷ 8 ∷ 2 ∷ 0 ∷ []) $ group ! 4 $
         use1 W (raw (C7 𝓤 H A mem run .pre (to-7 x3 (sliceVal (x3 .ptr) (length (x3 .now))) x4 (vint w32 x4) x5 (sliceVal (x5 .ptr) (length (x5 .now))) r22 (LL.val row-Registers.the-type law-Registers.the-laws r22) r18 (LL.val row-Access.the-type law-Access.the-laws r18) r26 (LL.val row-CachePair.the-type law-CachePair.the-laws r26)))) (goes-7 x3 (sliceVal (x3 .ptr) (length (x3 .now))) x4 (vint w32 x4) x5 (sliceVal (x5 .ptr) (length (x5 .now))) r22 (LL.val row-Registers.the-type law-Registers.the-laws r22) r18 (LL.val row-Access.the-type law-Access.the-laws r18) r26 (LL.val row-CachePair.the-type law-CachePair.the-laws r26) i4 (subst (Is row-Registers.the-row r22) (LL.tells row-Registers.the-type law-Registers.the-laws r22 _ is24) is24) (subst (Is row-Access.the-row r18) (LL.tells row-Access.the-type law-Access.the-laws r18 _ is20) is20) (subst (Is row-CachePair.the-row r26) (LL.tells row-CachePair.the-type law-CachePair.the-laws r26 _ is28) is28)) $
-        calls-at ! fm (C7 𝓤 H A mem run) known-7 (to-7 x3 (sliceVal (x3 .ptr) (length (x3 .now))) x4 (vint w32 x4) x5 (sliceVal (x5 .ptr) (length (x5 .now))) r22 (LL.val row-Registers.the-type law-Registers.the-laws r22) r18 (LL.val row-Access.the-type law-Access.the-laws r18) r26 (LL.val row-CachePair.the-type law-CachePair.the-laws r26)) (and-then ! (load ! (from ! (stop !)) (look ! 33 refl)) (and-then ! (load ! (from ! (stop !)) (look ! 31 refl)) (and-then ! (load ! (from ! (stop !)) (look ! 29 refl)) (and-then ! (load ! (from ! (stop !)) (look ! 11 refl)) (and-then ! (load ! (from ! (stop !)) (look ! 13 refl)) (and-then ! (load ! (from ! (stop !)) (look ! 9 refl)) (no-more !))))))) (λ u29.
-        use1 W (later (some (λ (r : Translated). ((‵ (flft κ2 q2) ⊛ ‵ (flft κ3 q3) ⊛ ‵ ftrue) ⊛ ‵ (row-Translated.the-row .own r (u29 ∷ []))) ⊛ raw (ensured 𝓤 H A c7.ended (c7.clauses 𝓤 H A mem run) (κ2, (κ3, tt)) (x3, (x4, (x5, (r22, (r18, (r26, tt)))))) tt r)))) (id⊢ 𝓤 _) $ await ! tt $ choose ! (λ r30. split ! $ move ! (1 ∷ []) $ use1 W (raw (fact 𝓤 (TranslatedBy (translateOf r22 r18 (memory (now x3) x4 (now x5)) (pairOf r26)) r30))) (said-7 x3 x4 x5 r22 r18 r26 r30) $ heard ! (TranslatedBy (translateOf r22 r18 (memory (now x3) x4 (now x5)) (pairOf r26)) r30) (λ e31. split ! $
+        calls-at ! fm (C7 𝓤 H A mem run) known-7 (to-7 x3 (sliceVal (x3 .ptr) (length (x3 .now))) x4 (vint w32 x4) x5 (sliceVal (x5 .ptr) (length (x5 .now))) r22 (LL.val row-Registers.the-type law-Registers.the-laws r22) r18 (LL.val row-Access.the-type law-Access.the-laws r18) r26 (LL.val row-CachePair.the-type law-CachePair.the-laws r26)) (and-then ! (load ! (from ! (stop !)) (look ! 33 refl)) (and-then ! (load ! (from ! (stop !)) (look ! 31 refl)) (and-then ! (load ! (from ! (stop !)) (look ! 29 refl)) (and-then ! (load ! (from ! (stop !)) (look ! 11 refl)) (and-then ! (load ! (from ! (stop !)) (look ! 13 refl)) (and-then ! (load ! (from ! (stop !)) (look ! 9 refl)) (no-more !))))))) (λ val29.
+        use1 W (later (some (λ (r : Translated). ((‵ (flft κ2 q2) ⊛ ‵ (flft κ3 q3) ⊛ ‵ ftrue) ⊛ ‵ (row-Translated.the-row .own r (val29 ∷ []))) ⊛ raw (ensured 𝓤 H A c7.ended (c7.clauses 𝓤 H A mem run) (κ2, (κ3, tt)) (x3, (x4, (x5, (r22, (r18, (r26, tt)))))) tt r)))) (id⊢ 𝓤 _) $ await ! tt $ choose ! (λ r30. split ! $ move ! (1 ∷ []) $ use1 W (raw (fact 𝓤 (TranslatedBy (translateOf r22 r18 (memory (now x3) x4 (now x5)) (pairOf r26)) r30))) (said-7 x3 x4 x5 r22 r18 r26 r30) $ heard ! (TranslatedBy (translateOf r22 r18 (memory (now x3) x4 (now x5)) (pairOf r26)) r30) (λ e31. split ! $
         split ! $ move ! (1 ∷ []) $ split ! $ move ! (1 ∷ []) $ drop ! $ move ! (2 ∷ []) $
-        facts ! row-Translated.the-row (Is row-Translated.the-row) (shows 𝓤 H A row-Translated.the-row) r30 (u29 ∷ []) (λ is32. land ! (from ! (stop !)) (init ! 8 refl (LL.lawful row-Translated.the-type law-Translated.the-laws 𝓤 H A W .typed r30 _ is32 .0)) $
+        facts ! row-Translated.the-row (Is row-Translated.the-row) (shows 𝓤 H A row-Translated.the-row) r30 (val29 ∷ []) (λ is32. land ! (from ! (stop !)) (init ! 8 refl (LL.lawful row-Translated.the-type law-Translated.the-laws 𝓤 H A W .typed r30 _ is32 .0)) $
         rewrite ! 8 (λ (u : Val). ‵ (fat fullShare law-Translated.mir l16 0 u)) (ap only (LL.tells row-Translated.the-type law-Translated.the-laws r30 _ is32)) refl $
         use0 W (raw (C8 𝓤 H A mem run .pre (to-8 x6 (LL.val row-Registers.the-type law-Registers.the-laws x6) r14 (LL.val row-Cached.the-type law-Cached.the-laws r14) x8 (vbool x8) r10 (vint w32 r10) r30 (LL.val row-Translated.the-type law-Translated.the-laws r30)))) (goes-8 x6 (LL.val row-Registers.the-type law-Registers.the-laws x6) r14 (LL.val row-Cached.the-type law-Cached.the-laws r14) x8 (vbool x8) r10 (vint w32 r10) r30 (LL.val row-Translated.the-type law-Translated.the-laws r30) i6 (subst (Is row-Cached.the-row r14) (LL.tells row-Cached.the-type law-Cached.the-laws r14 _ is16) is16) i8 (subst (Is u32 r10) (uint-tells w32 r10 _ is12) is12) (subst (Is row-Translated.the-row r30) (LL.tells row-Translated.the-type law-Translated.the-laws r30 _ is32) is32)) $
-        calls-at ! fm (C8 𝓤 H A mem run) known-8 (to-8 x6 (LL.val row-Registers.the-type law-Registers.the-laws x6) r14 (LL.val row-Cached.the-type law-Cached.the-laws r14) x8 (vbool x8) r10 (vint w32 r10) r30 (LL.val row-Translated.the-type law-Translated.the-laws r30)) (and-then ! (load ! (from ! (stop !)) (look ! 29 refl)) (and-then ! (load ! (from ! (stop !)) (look ! 17 refl)) (and-then ! (load ! (from ! (stop !)) (look ! 25 refl)) (and-then ! (load ! (from ! (stop !)) (look ! 19 refl)) (and-then ! (load ! (from ! (stop !)) (look ! 9 refl)) (no-more !)))))) (λ u33.
-        use1 W (later (some (λ (r : Finding). (‵ ftrue ⊛ ‵ (row-Finding.the-row .own r (u33 ∷ []))) ⊛ raw (ensured 𝓤 H A c8.ended (c8.clauses 𝓤 H A mem run) tt (x6, (r14, (x8, (r10, (r30, tt))))) tt r)))) (id⊢ 𝓤 _) $ await ! tt $ choose ! (λ r34. split ! $ move ! (1 ∷ []) $ use1 W (raw (fact 𝓤 (r34 ≡ toldOf x6 r14 x8 r10 (r30 .answer)))) (said-8 x6 r14 x8 r10 r30 r34) $ heard ! (r34 ≡ toldOf x6 r14 x8 r10 (r30 .answer)) (λ e35. split ! $
+        calls-at ! fm (C8 𝓤 H A mem run) known-8 (to-8 x6 (LL.val row-Registers.the-type law-Registers.the-laws x6) r14 (LL.val row-Cached.the-type law-Cached.the-laws r14) x8 (vbool x8) r10 (vint w32 r10) r30 (LL.val row-Translated.the-type law-Translated.the-laws r30)) (and-then ! (load ! (from ! (stop !)) (look ! 29 refl)) (and-then ! (load ! (from ! (stop !)) (look ! 17 refl)) (and-then ! (load ! (from ! (stop !)) (look ! 25 refl)) (and-then ! (load ! (from ! (stop !)) (look ! 19 refl)) (and-then ! (load ! (from ! (stop !)) (look ! 9 refl)) (no-more !)))))) (λ val33.
+        use1 W (later (some (λ (r : Finding). (‵ ftrue ⊛ ‵ (row-Finding.the-row .own r (val33 ∷ []))) ⊛ raw (ensured 𝓤 H A c8.ended (c8.clauses 𝓤 H A mem run) tt (x6, (r14, (x8, (r10, (r30, tt))))) tt r)))) (id⊢ 𝓤 _) $ await ! tt $ choose ! (λ r34. split ! $ move ! (1 ∷ []) $ use1 W (raw (fact 𝓤 (r34 ≡ toldOf x6 r14 x8 r10 (r30 .answer)))) (said-8 x6 r14 x8 r10 r30 r34) $ heard ! (r34 ≡ toldOf x6 r14 x8 r10 (r30 .answer)) (λ e35. split ! $
         drop ! $
-        facts ! row-Finding.the-row (Is row-Finding.the-row) (shows 𝓤 H A row-Finding.the-row) r34 (u33 ∷ []) (λ is36. land ! (from ! (stop !)) (init ! 40 refl (EL.lawful row-Finding.the-type law-Finding.the-laws 𝓤 H A W tt .typed r34 _ is36 .0)) $
+        facts ! row-Finding.the-row (Is row-Finding.the-row) (shows 𝓤 H A row-Finding.the-row) r34 (val33 ∷ []) (λ is36. land ! (from ! (stop !)) (init ! 40 refl (EL.lawful row-Finding.the-type law-Finding.the-laws 𝓤 H A W tt .typed r34 _ is36 .0)) $
         rewrite ! 40 (λ (u : Val). ‵ (fat fullShare law-Finding.mir l0 0 u)) (ap only (EL.tells row-Finding.the-type law-Finding.the-laws r34 _ is36)) refl $
         returns ! (look ! 40 refl) $ forget ! 40 refl $ forget ! 38 refl $ forget ! 36 refl $ forget ! 34 refl $ forget ! 32 refl $ forget ! 30 refl $ forget ! 28 refl $
         forget ! 26 refl $ forget ! 24 refl $ forget ! 22 refl $ forget ! 20 refl $ forget ! 18 refl $ forget ! 16 refl $ forget ! 14 refl $ forget ! 12 refl $ forget ! 10 refl $
@@ -354,11 +354,11 @@ module _ {M : Type 1} (𝓤 : URA M) (H : Heap 𝓤) (A : Atoms 𝓤) (W : Given
         by ! (exits r34 (EL.val row-Finding.the-type law-Finding.the-laws r34) (subst (Is row-Finding.the-row r34) (EL.tells row-Finding.the-type law-Finding.the-laws r34 _ is36) is36) (law.tells x6 (memory (now x3) x4 (now x5)) (now x1) (now x2) x7 x8 e3 e7 e11 e15 e19 e23 e27 e31 e35)))))))))))))))))))))))))))))))))))))))))))))))))))))))
 
 module _ {M : Type 1} (𝓤 : URA M) (H : Heap 𝓤) (A : Atoms 𝓤) (W : Given 𝓤 H A) (mem : Memory → SProp 𝓤) (run : Routine → Fun 𝓤) (𝓣 : Tables 𝓤 H) where
-  self-walks : Triple 𝓤 (𝓣 .C #plan·checks·bad-longs) (C0 𝓤 H A mem run) → Triple 𝓤 (𝓣 .C #memory·ranges·any-crossed) (C1 𝓤 H A mem run) → Triple 𝓤 (𝓣 .C #audit·refusal) (C2 𝓤 H A mem run) → Triple 𝓤 (𝓣 .C #audit·looked-at) (C3 𝓤 H A mem run) → Triple 𝓤 (𝓣 .C #audit·telling·access-for) (C4 𝓤 H A mem run) → Triple 𝓤 (𝓣 .C #audit·telling·bare) (C5 𝓤 H A mem run) → Triple 𝓤 (𝓣 .C #audit·telling·no-caches) (C6 𝓤 H A mem run) → Triple 𝓤 (𝓣 .C #mmu·by-value·translate) (C7 𝓤 H A mem run) → Triple 𝓤 (𝓣 .C #audit·telling·told) (C8 𝓤 H A mem run) → AllWalks 𝓤 H A self.ended stayed (WpFn 𝓤 H (𝓣 .C) (𝓣 .Λ) code.function) (self.clauses 𝓤 H A mem run)
+  self-walks : Triple 𝓤 (𝓣 .C #checks·bad-longs) (C0 𝓤 H A mem run) → Triple 𝓤 (𝓣 .C #memory·ranges·any-crossed) (C1 𝓤 H A mem run) → Triple 𝓤 (𝓣 .C #audit·refusal) (C2 𝓤 H A mem run) → Triple 𝓤 (𝓣 .C #audit·looked-at) (C3 𝓤 H A mem run) → Triple 𝓤 (𝓣 .C #audit·telling·access-for) (C4 𝓤 H A mem run) → Triple 𝓤 (𝓣 .C #audit·telling·bare) (C5 𝓤 H A mem run) → Triple 𝓤 (𝓣 .C #audit·telling·no-caches) (C6 𝓤 H A mem run) → Triple 𝓤 (𝓣 .C #mmu·by-value·translate) (C7 𝓤 H A mem run) → Triple 𝓤 (𝓣 .C #audit·telling·told) (C8 𝓤 H A mem run) → AllWalks 𝓤 H A self.ended stayed (WpFn 𝓤 H (𝓣 .C) (𝓣 .Λ) code.function) (self.clauses 𝓤 H A mem run)
   self-walks known-0 known-1 known-2 known-3 known-4 known-5 known-6 known-7 known-8 = walked 𝓤 H A self.ended stayed (self.clauses 𝓤 H A mem run) (WpFn 𝓤 H (𝓣 .C) (𝓣 .Λ) code.function) (λ κs. (ptr-vals, (ptr-vals, (slice-vals, (uint-vals w32, (slice-vals, (LL.vals row-Registers.the-type law-Registers.the-laws, (uint-vals w32, (bool-vals, tt))))))))) (λ κs. (shr-tells (named 0) (κs .0) (Array u64 69), (shr-tells (named 1) (κs .1 .0) (Array u64 128), (shr-slice-tells (named 2) (κs .1 .1 .0) u32, (uint-tells w32, (shr-slice-tells (named 3) (κs .1 .1 .1 .0) row-Range.the-row, (LL.tells row-Registers.the-type law-Registers.the-laws, (uint-tells w32, (bool-tells, tt)))))))))
       (λ κs qs bounds a g are. via 𝓤 _ (fst∗ 𝓤 _ (emp 𝓤)) (walk 𝓤 H A W mem run (κs .0) (κs .1 .0) (κs .1 .1 .0) (κs .1 .1 .1 .0) (qs .0) (qs .1 .0) (qs .1 .1 .0) (qs .1 .1 .1 .0) (a .0) (a .1 .0) (a .1 .1 .0) (a .1 .1 .1 .0) (a .1 .1 .1 .1 .0) (a .1 .1 .1 .1 .1 .0) (a .1 .1 .1 .1 .1 .1 .0) (a .1 .1 .1 .1 .1 .1 .1 .0) (are .0) (are .1 .0) (are .1 .1 .0) (are .1 .1 .1 .0) (are .1 .1 .1 .1 .0) (are .1 .1 .1 .1 .1 .0) (are .1 .1 .1 .1 .1 .1 .0) (are .1 .1 .1 .1 .1 .1 .1 .0) 𝓣 known-0 known-1 known-2 known-3 known-4 known-5 known-6 known-7 known-8))
 
-  self-meets : Triple 𝓤 (𝓣 .C #plan·checks·bad-longs) (C0 𝓤 H A mem run) → Triple 𝓤 (𝓣 .C #memory·ranges·any-crossed) (C1 𝓤 H A mem run) → Triple 𝓤 (𝓣 .C #audit·refusal) (C2 𝓤 H A mem run) → Triple 𝓤 (𝓣 .C #audit·looked-at) (C3 𝓤 H A mem run) → Triple 𝓤 (𝓣 .C #audit·telling·access-for) (C4 𝓤 H A mem run) → Triple 𝓤 (𝓣 .C #audit·telling·bare) (C5 𝓤 H A mem run) → Triple 𝓤 (𝓣 .C #audit·telling·no-caches) (C6 𝓤 H A mem run) → Triple 𝓤 (𝓣 .C #mmu·by-value·translate) (C7 𝓤 H A mem run) → Triple 𝓤 (𝓣 .C #audit·telling·told) (C8 𝓤 H A mem run) → Meets 𝓤 H A self.signature (WpFn 𝓤 H (𝓣 .C) (𝓣 .Λ) code.function) (self.spec 𝓤 H A mem run)
+  self-meets : Triple 𝓤 (𝓣 .C #checks·bad-longs) (C0 𝓤 H A mem run) → Triple 𝓤 (𝓣 .C #memory·ranges·any-crossed) (C1 𝓤 H A mem run) → Triple 𝓤 (𝓣 .C #audit·refusal) (C2 𝓤 H A mem run) → Triple 𝓤 (𝓣 .C #audit·looked-at) (C3 𝓤 H A mem run) → Triple 𝓤 (𝓣 .C #audit·telling·access-for) (C4 𝓤 H A mem run) → Triple 𝓤 (𝓣 .C #audit·telling·bare) (C5 𝓤 H A mem run) → Triple 𝓤 (𝓣 .C #audit·telling·no-caches) (C6 𝓤 H A mem run) → Triple 𝓤 (𝓣 .C #mmu·by-value·translate) (C7 𝓤 H A mem run) → Triple 𝓤 (𝓣 .C #audit·telling·told) (C8 𝓤 H A mem run) → Meets 𝓤 H A self.signature (WpFn 𝓤 H (𝓣 .C) (𝓣 .Λ) code.function) (self.spec 𝓤 H A mem run)
   self-meets known-0 known-1 known-2 known-3 known-4 known-5 known-6 known-7 known-8 = walk-meets 𝓤 H A self.ended stayed W (goes-none-ref 𝓤 H A W 4 (0 ∷ []) tt (plain (λ _. (Array u64 69))) yes, (goes-none-ref 𝓤 H A W 4 (1 ∷ []) tt (plain (λ _. (Array u64 128))) yes, (goes-none-slice 𝓤 H A W 4 (2 ∷ []) tt (plain (λ _. u32)) yes, (goes-none 𝓤 H A W 4 (λ _. u32) yes (λ κs x f. refl), (goes-none-slice 𝓤 H A W 4 (3 ∷ []) tt (plain (λ _. row-Range.the-row)) yes, (goes-none 𝓤 H A W 4 (λ _. row-Registers.the-row) yes (λ κs x f. refl), (goes-none 𝓤 H A W 4 (λ _. u32) yes (λ κs x f. refl), (goes-none 𝓤 H A W 4 (λ _. Boolean) yes (λ κs x f. refl), tt)))))))) (self.clauses 𝓤 H A mem run) (WpFn 𝓤 H (𝓣 .C) (𝓣 .Λ) code.function) (WpFn-mono 𝓤 H (W .laws) 𝓣 code.function) (self-walks known-0 known-1 known-2 known-3 known-4 known-5 known-6 known-7 known-8)
 
 pub finding-lent-spec : {M : Type 1} → stated.statement M
@@ -367,7 +367,7 @@ finding-lent-spec 𝓤 H 𝓜 𝓖 𝓡 =
     entered 𝓤 H (tripleOf 𝓤 H (𝓖 .A) self.signature (self.spec 𝓤 H (𝓖 .A) (𝓜 .mem) (𝓡 .run)))
     (tables 𝓤 H 𝓜 𝓡 code.env .C) (tables 𝓤 H 𝓜 𝓡 code.env .Λ) #audit·finding·finding-lent code.function (code.unfolded 𝓤 H 𝓜 𝓡)
     (self-meets 𝓤 H (𝓖 .A) (givenOf 𝓤 H 𝓜 𝓖) (𝓜 .mem) (𝓡 .run) (tablesOf 𝓤 H 𝓜 (tables 𝓤 H 𝓜 𝓡 code.env))
-    (cited 𝓤 H (C0 𝓤 H (𝓖 .A) (𝓜 .mem) (𝓡 .run)) 𝓜 𝓡 code.env #plan·checks·bad-longs c0-def.routine code.calls-plan·checks·bad-longs (c0-thm.met 𝓤 H 𝓜 𝓖 𝓡))
+    (cited 𝓤 H (C0 𝓤 H (𝓖 .A) (𝓜 .mem) (𝓡 .run)) 𝓜 𝓡 code.env #checks·bad-longs c0-def.routine code.calls-checks·bad-longs (c0-thm.met 𝓤 H 𝓜 𝓖 𝓡))
     (cited 𝓤 H (C1 𝓤 H (𝓖 .A) (𝓜 .mem) (𝓡 .run)) 𝓜 𝓡 code.env #memory·ranges·any-crossed c1-def.routine code.calls-memory·ranges·any-crossed (c1-thm.met 𝓤 H 𝓜 𝓖 𝓡))
     (cited 𝓤 H (C2 𝓤 H (𝓖 .A) (𝓜 .mem) (𝓡 .run)) 𝓜 𝓡 code.env #audit·refusal c2-def.routine code.calls-audit·refusal (c2-thm.met 𝓤 H 𝓜 𝓖 𝓡))
     (cited 𝓤 H (C3 𝓤 H (𝓖 .A) (𝓜 .mem) (𝓡 .run)) 𝓜 𝓡 code.env #audit·looked-at c3-def.routine code.calls-audit·looked-at (c3-thm.met 𝓤 H 𝓜 𝓖 𝓡))

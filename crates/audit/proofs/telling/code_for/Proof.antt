@@ -3,7 +3,7 @@ use Rattle.audit.proofs.telling.code_for.Statement.{statement}
 use Rattle.audit.proofs.telling.code_for.Tie as tie
 use Rattle.audit.proofs.telling.code_for.Reads as reads
 use Rattle.audit.proofs.telling.code_for.Lts as lts
-use Rattle.plan.proofs.checks.code_of.Reads as code-of-reads
+use Rattle.checks.proofs.code_of.Reads as code-of-reads
 use Rattle.audit.proofs.Saying as law
 
 -- src/finding.rt:33:16

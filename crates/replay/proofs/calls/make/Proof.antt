@@ -60,8 +60,8 @@ flush-line-requires-4 c κs = search needs
 enum-known-call-7 : tie.Need-enum-known-call-7
 enum-known-call-7 c = search needs
 
-probe-in-requires : tie.Need-probe-in-requires
-probe-in-requires c κs = search needs
+probe-requires : tie.Need-probe-requires
+probe-requires c κs = search needs
 
 probe-line-requires : tie.Need-probe-line-requires
 probe-line-requires c κs = search needs
@@ -88,7 +88,7 @@ returns-7 : tie.Need-returns-7
 returns-7 c = λ h. law.by-call _ _ _ (c .before .before .before .before .call6 .given .1) (law.of-flush-frame _ _ _ _ (c .before .flush-frame-in .ensures _) (c .flush-line4 .ensures))
 
 returns-8 : tie.Need-returns-8
-returns-8 c = λ h. law.by-call _ _ _ (c .before .before .before .before .before .call7 .given .1) (law.of-probe _ _ _ _ _ _ _ _ (c .before .probe-in .ensures) (c .probe-line .ensures))
+returns-8 c = λ h. law.by-call _ _ _ (c .before .before .before .before .before .call7 .given .1) (law.of-probe _ _ _ _ _ _ _ _ (c .before .probe .ensures) (c .probe-line .ensures))
 
 pub make-spec : {M : Type 1} → statement M
 make-spec =
@@ -113,7 +113,7 @@ make-spec =
     flush-frame-in-requires
     flush-line-requires-4
     enum-known-call-7
-    probe-in-requires
+    probe-requires
     probe-line-requires
     returns
     returns-2
