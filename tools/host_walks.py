@@ -21,19 +21,7 @@ def tested(facts):
     return f'law.tests (now x4) {facts("registers_of")} {memory(1)} x5 x6 x7 x8 {facts("any_crossed", "test", "tell_test")}'
 
 
-# x1 and x2 are the arrays, x6 the registers, x7 the index to start from
-def audited(facts):
-    return f'law.audits (now x6) {facts("registers_of")} {memory(3)} (cachesOf (now x1) (now x2)) x7 {facts("audit_lent", "tell_audit")}'
-
-
-# x1 and x2 are the arrays, x6 the registers, x7 the index, x8 whether it is a write
-def found(facts):
-    return f'law.finds (now x6) {facts("registers_of")} {memory(3)} (cachesOf (now x1) (now x2)) x7 x8 {facts("finding_lent", "tell_finding")}'
-
-
 FUNCTIONS = {
-    'mmu_audit': dict(law='Telling', ends=audited),
-    'mmu_finding': dict(law='Telling', ends=found),
     'mmu_translate': dict(law='Telling', ends=translated),
     'mmu_load': dict(law='Telling', ends=loaded),
     'mmu_test': dict(law='Telling', ends=tested),

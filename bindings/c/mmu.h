@@ -1,8 +1,9 @@
-/* Address translation of the 68030 and 68040, proved: the functions of the static library libhost.a, which `rt staticlib host`
- * proves and writes for x86-64 Linux. Link it with this header: cc program.c libhost.a.
+/* Address translation of the 68030 and 68040, proved: the functions of the static libraries libhost.a and libhost_audit.a (mmu_audit and
+ * mmu_finding), which `rt staticlib host` and `rt staticlib host_audit` prove and write for x86-64 Linux. Link them with this header:
+ * cc program.c libhost.a libhost_audit.a; a program that asks for no audit needs the first alone.
  *
  * What each call answers, how many longs it asks for and which caches it leaves is that of crates/definition/specs/, for every
- * input; crates/host/specs/Numbers.antt says what each number means. No call has a condition on the numbers that it is given:
+ * input; crates/numbers/specs/Numbers.antt says what each number means. No call has a condition on the numbers that it is given:
  * what it does not take, it refuses by number, and then everything is as it was.
  *
  * Pointers are the host's promise. Each is aligned, points to as many numbers as the parameter says for the whole call, and is

@@ -8,16 +8,17 @@ use native.Mathlib.Omega.{arith}
 use borrow.Author.Tests.{ne-eqb, eqb-true, ltb-false}
 use lib.Dec.{eqb}
 use Rattle.definition.specs.Words.{if_then_else_}
-use Rattle.definition.specs.Registers.{on}
+use Rattle.definition.specs.Registers.{on, rootOf}
 use Rattle.definition.specs.Memory.{Memory}
 use Rattle.definition.specs.Transparent.{transparent030}
-use Rattle.definition.specs.Walk030.{walk030, everyLevel, shiftOf}
+use Rattle.definition.specs.Walk030.{walk030, outcomeOf, everyLevel, shiftOf}
 use Rattle.definition.specs.Cache030.{Cache030, flushedPage}
 use Rattle.definition.specs.Cache040.{Cache040}
 use Rattle.definition.specs.Refusal.{noFamily, not030, aboveSeven, badBase, badRange, badCache, refusalOf}
 use Rattle.definition.specs.Translate.{Caches, search030}
 use Rattle.definition.specs.Load.{Loaded, loaded, stopped, searchedFor, loadInOrder, loadChecks, load}
 use Rattle.definition.specs.declared.Registers.{Registers}
+use Rattle.definition.specs.declared.Root.{Root}
 use Rattle.definition.specs.declared.Translation.{Translation}
 use Rattle.definition.specs.declared.Load.{Load}
 use Rattle.walk030.specs.declared.Walked.{Walked}
@@ -33,6 +34,7 @@ use Rattle.load.specs.declared.Plan.the-variants as plan
 use Rattle.load.specs.declared.Found.{Found}
 use Rattle.load.specs.declared.Found.the-variants as found
 use Rattle.walk030.specs.Walked.{shown}
+use Rattle.walk030.proofs.Driving.{from-root}
 
 -- ---- the plan
 module _ (g : Registers) (code : ℕ) (two crossed : Bool) where
@@ -136,8 +138,9 @@ module _ (m : Memory) (g : Registers) (address : ℕ) (p : Plan) {f : Found} whe
   settles e ef = ef ∙ ap (foundLoad m g address) (sym e)
 
   pub walks-030 : {code : ℕ} → p ≡ plan.Walk030 code → {limit : ℕ} → limit ≡ everyLevel
-      → {w : Walked} → w ≡ shown (walk030 m g address code limit) → f ≡ Found.By030 code w → f ≡ foundLoad m g address p
-  walks-030 {code} e el ew ef = ef ∙ ap (Found.By030 code) (ew ∙ rw el) ∙ ap (foundLoad m g address) (sym e)
+      → {tc : ℕ} → tc ≡ g .tc → {root : Root} → root ≡ rootOf g code
+      → {w : Walked} → w ≡ shown (outcomeOf m tc root address code limit) → f ≡ Found.By030 code w → f ≡ foundLoad m g address p
+  walks-030 {code} e el et er ew ef = ef ∙ ap (Found.By030 code) (from-root m g address code _ et er ew ∙ rw el) ∙ ap (foundLoad m g address) (sym e)
 
 -- ---- the call
 pub loads : (g : Registers) (code : ℕ) (write : Bool) (address : ℕ) (m : Memory) (c : Cache030) (crossed : Bool) {two : Bool} → two ≡ badBase m

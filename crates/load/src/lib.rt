@@ -8,6 +8,7 @@ use cache::atc030::Atc030;
 use definition::Load;
 use definition::Range;
 use definition::Registers;
+use memory::registers::tc_of;
 use walk030::Walked;
 ghost use mathlib.Core.Path.{_≡_};
 ghost use Rattle.definition.specs.Memory.{memory};
@@ -64,7 +65,9 @@ fn walked(
         Plan::Settled(answer) => settled(answer),
         Plan::Walk030 { code } => {
             let limit = walk030::every_level();
-            let walk = walk030::walk(longs, base, ranges, g, address, code, limit);
+            let tc = tc_of(g);
+            let root = walk030::root_of(g, code);
+            let walk = walk030::walk_030(longs, base, ranges, tc, root, address, code, limit);
             by_030(code, walk)
         }
     }

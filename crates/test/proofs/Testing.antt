@@ -12,12 +12,15 @@ use Rattle.definition.specs.Transparent.{transparent030}
 use Rattle.definition.specs.Refusal.{noFamily, not030, aboveSeven, badBase, badRange, refusalOf}
 use Rattle.definition.specs.Test.{Tested, flag, endFlags, mmusrOf, testInOrder, testChecks, test}
 use Rattle.definition.specs.declared.Registers.{Registers}
+use Rattle.definition.specs.declared.Root.{Root}
 use Rattle.definition.specs.declared.End.{End}
 use Rattle.definition.specs.declared.End.the-variants as end
 use Rattle.definition.specs.declared.Test.{Test}
 use Rattle.walk030.specs.declared.Walked.{Walked}
-use Rattle.definition.specs.Walk030.{walk030}
+use Rattle.definition.specs.Registers.{rootOf}
+use Rattle.definition.specs.Walk030.{walk030, outcomeOf}
 use Rattle.walk030.specs.Walked.{shown}
+use Rattle.walk030.proofs.Driving.{from-root}
 use Rattle.checks.specs.Given.{checksOf, withThird}
 use Rattle.test.specs.Tested.{testGiven, testRefusal, planTest, foundTest, TestAnswered, shownTested, concludedTest, TestedIn}
 use Rattle.test.specs.declared.Plan.{Plan}
@@ -99,8 +102,9 @@ module _ (m : Memory) (g : Registers) (code level address : ℕ) (p : Plan) {f :
   pub settles : {t : Test} → p ≡ plan.Settled t → f ≡ Found.Settled t → f ≡ foundTest m g code level address p
   settles e ef = ef ∙ ap (foundTest m g code level address) (sym e)
 
-  pub walks-030 : p ≡ plan.Walk030 → {w : Walked} → w ≡ shown (walk030 m g address code level) → f ≡ Found.By030 w → f ≡ foundTest m g code level address p
-  walks-030 e ew ef = ef ∙ ap Found.By030 ew ∙ ap (foundTest m g code level address) (sym e)
+  pub walks-030 : p ≡ plan.Walk030 → {tc : ℕ} → tc ≡ g .tc → {root : Root} → root ≡ rootOf g code
+      → {w : Walked} → w ≡ shown (outcomeOf m tc root address code level) → f ≡ Found.By030 w → f ≡ foundTest m g code level address p
+  walks-030 e et er ew ef = ef ∙ ap Found.By030 (from-root m g address code level et er ew) ∙ ap (foundTest m g code level address) (sym e)
 
 -- ---- the call
 pub tests : (g : Registers) (code : ℕ) (write : Bool) (level address : ℕ) (m : Memory) (crossed : Bool) {two : Bool} → two ≡ badBase m

@@ -7,6 +7,7 @@ mod before;
 use definition::Range;
 use definition::Registers;
 use definition::Test;
+use memory::registers::tc_of;
 use walk030::Walked;
 ghost use mathlib.Core.Path.{_≡_};
 ghost use Rattle.definition.specs.Memory.{memory};
@@ -61,7 +62,9 @@ fn walked(
     match plan {
         Plan::Settled(answer) => settled(answer),
         Plan::Walk030 => {
-            let walk = walk030::walk(longs, base, ranges, g, address, code, level);
+            let tc = tc_of(g);
+            let root = walk030::root_of(g, code);
+            let walk = walk030::walk_030(longs, base, ranges, tc, root, address, code, level);
             by_030(walk)
         }
     }

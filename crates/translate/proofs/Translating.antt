@@ -5,14 +5,17 @@ use mathlib.Core.List.{List}
 use mathlib.Core.Bool.{Bool}
 use Rattle.definition.specs.Memory.{Memory}
 use Rattle.definition.specs.Refusal.{badBase}
-use Rattle.definition.specs.Walk030.{everyLevel, walk030}
+use Rattle.definition.specs.Registers.{rootOf}
+use Rattle.definition.specs.Walk030.{everyLevel, outcomeOf}
 use Rattle.definition.specs.Walk040.{walk040}
 use Rattle.definition.specs.Translate.{Caches}
 use Rattle.definition.specs.declared.Registers.{Registers}
+use Rattle.definition.specs.declared.Root.{Root}
 use Rattle.definition.specs.declared.Access.{Access}
 use Rattle.definition.specs.declared.Translation.{Translation}
 use Rattle.walk030.specs.Walked.{shown}
 use Rattle.walk030.specs.declared.Walked.{Walked}
+use Rattle.walk030.proofs.Driving.{from-root}
 use Rattle.walk040.specs.Walked.{shown040}
 use Rattle.walk040.specs.declared.Walked040.{Walked040}
 use Rattle.cache.specs.Pair.{cachesOf}
@@ -29,8 +32,9 @@ module _ (m : Memory) (g : Registers) (a : Access) (p : Plan) {f : Found} where
   settles e ef = ef ∙ ap (foundOf m g a) (sym e)
 
   pub walks-030 : {code : ℕ} → p ≡ plan.Walk030 code → {address : ℕ} → address ≡ a .address → {limit : ℕ} → limit ≡ everyLevel
-      → {w : Walked} → w ≡ shown (walk030 m g address code limit) → f ≡ Found.By030 code w → f ≡ foundOf m g a p
-  walks-030 {code} e ea el ew ef = ef ∙ ap (Found.By030 code) (ew ∙ rw (ea, el)) ∙ ap (foundOf m g a) (sym e)
+      → {tc : ℕ} → tc ≡ g .tc → {root : Root} → root ≡ rootOf g code
+      → {w : Walked} → w ≡ shown (outcomeOf m tc root address code limit) → f ≡ Found.By030 code w → f ≡ foundOf m g a p
+  walks-030 {code} e ea el et er ew ef = ef ∙ ap (Found.By030 code) (from-root m g _ code _ et er ew ∙ rw (ea, el)) ∙ ap (foundOf m g a) (sym e)
 
   pub walks-040 : {supervisor : Bool} → p ≡ plan.Walk040 supervisor → {address : ℕ} → address ≡ a .address
       → {w : Walked040} → w ≡ shown040 (walk040 m g address supervisor) → f ≡ Found.By040 supervisor w → f ≡ foundOf m g a p

@@ -10,6 +10,7 @@ use definition::Access;
 use definition::Range;
 use definition::Registers;
 use definition::Translation;
+use memory::registers::tc_of;
 use walk030::Walked;
 use walk040::Walked040;
 ghost use mathlib.Core.Path.{_≡_};
@@ -69,7 +70,9 @@ fn walked(longs: &[u32], base: u32, ranges: &[Range], g: Registers, a: Access, p
         Plan::Walk030 { code } => {
             let address = checks::address_of(a);
             let limit = walk030::every_level();
-            let walk = walk030::walk(longs, base, ranges, g, address, code, limit);
+            let tc = tc_of(g);
+            let root = walk030::root_of(g, code);
+            let walk = walk030::walk_030(longs, base, ranges, tc, root, address, code, limit);
             by_030(code, walk)
         }
         Plan::Walk040 { supervisor } => {

@@ -27,7 +27,7 @@ pub struct Walked {
 }
 
 // SRP is used if TC bit 25 is set and code bit 2 is set; else CRP.
-fn root_of(g: Registers, code: u32) -> Root
+pub fn root_of(g: Registers, code: u32) -> Root
     ensures { λ r. ⌜ r ≡ rootOf g code ⌝ }
 {
     let sre = bit(g.tc, 25);
@@ -47,8 +47,9 @@ pub fn every_level() -> u32
     5
 }
 
-// The walk ends at the first descriptor that decides. It is handed TC and its root, and no more of the registers: they are not copied.
-fn walk_030(
+// The walk from a root ends at the first descriptor that decides. It is handed TC and its root, and no more of the registers: a call that walks
+// on some ways alone then makes no copy of them on the others.
+pub fn walk_030(
     longs: &[u32],
     base: u32,
     ranges: &[Range],

@@ -56,7 +56,8 @@ use Rattle.definition.specs.Load.{load as loadOf}
 use Rattle.definition.specs.Memory.{memory}
 use Rattle.cache.specs.Atc030.{cacheOf}
 use Rattle.cache.specs.Pair.{pairWith}
-use Rattle.host.specs.Numbers.{registersOf, loadNumbers, LoadedTo}
+use Rattle.numbers.specs.Numbers.{registersOf, LoadedTo}
+use Rattle.numbers.specs.Numbers.{loadNumbers}
 use Rattle.definition.specs.Refusal.{crossed}
 use Rattle.definition.specs.Words.{anyOf}
 use Rattle.load.specs.Loaded.{loadGiven, shownLoaded, LoadedIn}
@@ -68,10 +69,10 @@ use Rattle.definition.proofs.Registers.Laws as law-Registers
 use Rattle.load.specs.declared.LoadOutcome.{LoadOutcome}
 use Rattle.load.proofs.LoadOutcome as row-LoadOutcome
 use Rattle.load.proofs.LoadOutcome.Laws as law-LoadOutcome
-use Rattle.host.proofs.registers_of as c0
-use Rattle.host.proofs.registers_of.Symbol as c0-def
-use Rattle.host.proofs.registers_of.Symbol.{name as #host·registers-of}
-use Rattle.host.proofs.registers_of.Met as c0-thm
+use Rattle.numbers.proofs.registers_of as c0
+use Rattle.numbers.proofs.registers_of.Symbol as c0-def
+use Rattle.numbers.proofs.registers_of.Symbol.{name as #numbers·registers-of}
+use Rattle.numbers.proofs.registers_of.Met as c0-thm
 use Rattle.memory.proofs.ranges.any_crossed as c1
 use Rattle.memory.proofs.ranges.any_crossed.Symbol as c1-def
 use Rattle.memory.proofs.ranges.any_crossed.Symbol.{name as #memory·ranges·any-crossed}
@@ -80,10 +81,10 @@ use Rattle.load.proofs.load as c2
 use Rattle.load.proofs.load.Symbol as c2-def
 use Rattle.load.proofs.load.Symbol.{name as #load·load}
 use Rattle.load.proofs.load.Met as c2-thm
-use Rattle.host.proofs.tell_load as c3
-use Rattle.host.proofs.tell_load.Symbol as c3-def
-use Rattle.host.proofs.tell_load.Symbol.{name as #host·tell-load}
-use Rattle.host.proofs.tell_load.Met as c3-thm
+use Rattle.numbers.proofs.tell_load as c3
+use Rattle.numbers.proofs.tell_load.Symbol as c3-def
+use Rattle.numbers.proofs.tell_load.Symbol.{name as #numbers·tell-load}
+use Rattle.numbers.proofs.tell_load.Met as c3-thm
 use Rattle.host.proofs.mmu_load.Key.{name as #host·mmu-load}
 use Rattle.host.proofs.mmu_load as self
 use Rattle.host.proofs.mmu_load.Statement as stated
@@ -156,7 +157,7 @@ module _ {M : Type 1} (𝓤 : URA M) (H : Heap 𝓤) (A : Atoms 𝓤) (W : Given
   goes-3 κ6 q6 a0 v0 a1 v1 i1 =
       qed W (‵ (flft κ6 q6) ∷ ‵ ((MutRef (named 0) κ6 (Array u32 5)) .own a0 (v0 ∷ [])) ∷ []) ∵ nothing ! $ owned ! row-LoadOutcome.the-row (Is row-LoadOutcome.the-row) (LL.makes row-LoadOutcome.the-type law-LoadOutcome.the-plain 𝓤 H A) a1 _ i1 $ fjoin ! $ move ! (2 ∷ 0 ∷ []) $ fjoin ! $ nothing ! $ move ! (2 ∷ 0 ∷ []) $ join ! $ join ! $ frame ! $ done !
 
-  module _ (𝓣 : Tables 𝓤 H) (known-0 : Triple 𝓤 (𝓣 .C #host·registers-of) (C0 𝓤 H A mem run)) (known-1 : Triple 𝓤 (𝓣 .C #memory·ranges·any-crossed) (C1 𝓤 H A mem run)) (known-2 : Triple 𝓤 (𝓣 .C #load·load) (C2 𝓤 H A mem run)) (known-3 : Triple 𝓤 (𝓣 .C #host·tell-load) (C3 𝓤 H A mem run)) where
+  module _ (𝓣 : Tables 𝓤 H) (known-0 : Triple 𝓤 (𝓣 .C #numbers·registers-of) (C0 𝓤 H A mem run)) (known-1 : Triple 𝓤 (𝓣 .C #memory·ranges·any-crossed) (C1 𝓤 H A mem run)) (known-2 : Triple 𝓤 (𝓣 .C #load·load) (C2 𝓤 H A mem run)) (known-3 : Triple 𝓤 (𝓣 .C #numbers·tell-load) (C3 𝓤 H A mem run)) where
     abbrev C : Calls 𝓤 H
     C = 𝓣 .C
 
@@ -227,11 +228,11 @@ module _ {M : Type 1} (𝓤 : URA M) (H : Heap 𝓤) (A : Atoms 𝓤) (W : Given
         by ! (exits (ws14 .0) (ws20 .0) tt vunit refl (law.loads (now x5) e3 (memory (now x2) x3 (now x4)) x6 x7 x8 _ e7 e12 e18))))))))))))))))))))))))))))))))))))))))
 
 module _ {M : Type 1} (𝓤 : URA M) (H : Heap 𝓤) (A : Atoms 𝓤) (W : Given 𝓤 H A) (mem : Memory → SProp 𝓤) (run : Routine → Fun 𝓤) (𝓣 : Tables 𝓤 H) where
-  self-walks : Triple 𝓤 (𝓣 .C #host·registers-of) (C0 𝓤 H A mem run) → Triple 𝓤 (𝓣 .C #memory·ranges·any-crossed) (C1 𝓤 H A mem run) → Triple 𝓤 (𝓣 .C #load·load) (C2 𝓤 H A mem run) → Triple 𝓤 (𝓣 .C #host·tell-load) (C3 𝓤 H A mem run) → AllWalks 𝓤 H A self.ended stayed (WpFn 𝓤 H (𝓣 .C) (𝓣 .Λ) code.function) (self.clauses 𝓤 H A mem run)
+  self-walks : Triple 𝓤 (𝓣 .C #numbers·registers-of) (C0 𝓤 H A mem run) → Triple 𝓤 (𝓣 .C #memory·ranges·any-crossed) (C1 𝓤 H A mem run) → Triple 𝓤 (𝓣 .C #load·load) (C2 𝓤 H A mem run) → Triple 𝓤 (𝓣 .C #numbers·tell-load) (C3 𝓤 H A mem run) → AllWalks 𝓤 H A self.ended stayed (WpFn 𝓤 H (𝓣 .C) (𝓣 .Λ) code.function) (self.clauses 𝓤 H A mem run)
   self-walks known-0 known-1 known-2 known-3 = walked 𝓤 H A self.ended stayed (self.clauses 𝓤 H A mem run) (WpFn 𝓤 H (𝓣 .C) (𝓣 .Λ) code.function) (λ κs. (ptr-vals, (slice-vals, (uint-vals w32, (slice-vals, (ptr-vals, (uint-vals w32, (bool-vals, (uint-vals w32, (ptr-vals, tt)))))))))) (λ κs. (mut-tells (named 0) (κs .0) (Array u64 69), (shr-slice-tells (named 1) (κs .1 .0) u32, (uint-tells w32, (shr-slice-tells (named 2) (κs .1 .1 .0) row-Range.the-row, (shr-tells (named 3) (κs .1 .1 .1 .0) (Array u32 13), (uint-tells w32, (bool-tells, (uint-tells w32, (mut-tells (named 4) (κs .1 .1 .1 .1 .0) (Array u32 5), tt))))))))))
       (λ κs qs bounds a g are. via 𝓤 _ (fst∗ 𝓤 _ (emp 𝓤)) (walk 𝓤 H A W mem run (κs .0) (κs .1 .0) (κs .1 .1 .0) (κs .1 .1 .1 .0) (κs .1 .1 .1 .1 .0) (qs .0) (qs .1 .0) (qs .1 .1 .0) (qs .1 .1 .1 .0) (qs .1 .1 .1 .1 .0) (a .0) (a .1 .0) (a .1 .1 .0) (a .1 .1 .1 .0) (a .1 .1 .1 .1 .0) (a .1 .1 .1 .1 .1 .0) (a .1 .1 .1 .1 .1 .1 .0) (a .1 .1 .1 .1 .1 .1 .1 .0) (a .1 .1 .1 .1 .1 .1 .1 .1 .0) (are .0) (are .1 .0) (are .1 .1 .0) (are .1 .1 .1 .0) (are .1 .1 .1 .1 .0) (are .1 .1 .1 .1 .1 .0) (are .1 .1 .1 .1 .1 .1 .0) (are .1 .1 .1 .1 .1 .1 .1 .0) (are .1 .1 .1 .1 .1 .1 .1 .1 .0) 𝓣 known-0 known-1 known-2 known-3))
 
-  self-meets : Triple 𝓤 (𝓣 .C #host·registers-of) (C0 𝓤 H A mem run) → Triple 𝓤 (𝓣 .C #memory·ranges·any-crossed) (C1 𝓤 H A mem run) → Triple 𝓤 (𝓣 .C #load·load) (C2 𝓤 H A mem run) → Triple 𝓤 (𝓣 .C #host·tell-load) (C3 𝓤 H A mem run) → Meets 𝓤 H A self.signature (WpFn 𝓤 H (𝓣 .C) (𝓣 .Λ) code.function) (self.spec 𝓤 H A mem run)
+  self-meets : Triple 𝓤 (𝓣 .C #numbers·registers-of) (C0 𝓤 H A mem run) → Triple 𝓤 (𝓣 .C #memory·ranges·any-crossed) (C1 𝓤 H A mem run) → Triple 𝓤 (𝓣 .C #load·load) (C2 𝓤 H A mem run) → Triple 𝓤 (𝓣 .C #numbers·tell-load) (C3 𝓤 H A mem run) → Meets 𝓤 H A self.signature (WpFn 𝓤 H (𝓣 .C) (𝓣 .Λ) code.function) (self.spec 𝓤 H A mem run)
   self-meets known-0 known-1 known-2 known-3 = walk-meets 𝓤 H A self.ended stayed W (goes-ref 𝓤 H A W 5 0 tt (plain (λ _. (Array u64 69))), (goes-none-slice 𝓤 H A W 5 (1 ∷ []) tt (plain (λ _. u32)) yes, (goes-none 𝓤 H A W 5 (λ _. u32) yes (λ κs x f. refl), (goes-none-slice 𝓤 H A W 5 (2 ∷ []) tt (plain (λ _. row-Range.the-row)) yes, (goes-none-ref 𝓤 H A W 5 (3 ∷ []) tt (plain (λ _. (Array u32 13))) yes, (goes-none 𝓤 H A W 5 (λ _. u32) yes (λ κs x f. refl), (goes-none 𝓤 H A W 5 (λ _. Boolean) yes (λ κs x f. refl), (goes-none 𝓤 H A W 5 (λ _. u32) yes (λ κs x f. refl), (goes-ref 𝓤 H A W 5 4 tt (plain (λ _. (Array u32 5))), tt))))))))) (self.clauses 𝓤 H A mem run) (WpFn 𝓤 H (𝓣 .C) (𝓣 .Λ) code.function) (WpFn-mono 𝓤 H (W .laws) 𝓣 code.function) (self-walks known-0 known-1 known-2 known-3)
 
 pub mmu-load-spec : {M : Type 1} → stated.statement M
@@ -240,7 +241,7 @@ mmu-load-spec 𝓤 H 𝓜 𝓖 𝓡 =
     entered 𝓤 H (tripleOf 𝓤 H (𝓖 .A) self.signature (self.spec 𝓤 H (𝓖 .A) (𝓜 .mem) (𝓡 .run)))
     (tables 𝓤 H 𝓜 𝓡 code.env .C) (tables 𝓤 H 𝓜 𝓡 code.env .Λ) #host·mmu-load code.function (code.unfolded 𝓤 H 𝓜 𝓡)
     (self-meets 𝓤 H (𝓖 .A) (givenOf 𝓤 H 𝓜 𝓖) (𝓜 .mem) (𝓡 .run) (tablesOf 𝓤 H 𝓜 (tables 𝓤 H 𝓜 𝓡 code.env))
-    (cited 𝓤 H (C0 𝓤 H (𝓖 .A) (𝓜 .mem) (𝓡 .run)) 𝓜 𝓡 code.env #host·registers-of c0-def.routine code.calls-host·registers-of (c0-thm.met 𝓤 H 𝓜 𝓖 𝓡))
+    (cited 𝓤 H (C0 𝓤 H (𝓖 .A) (𝓜 .mem) (𝓡 .run)) 𝓜 𝓡 code.env #numbers·registers-of c0-def.routine code.calls-numbers·registers-of (c0-thm.met 𝓤 H 𝓜 𝓖 𝓡))
     (cited 𝓤 H (C1 𝓤 H (𝓖 .A) (𝓜 .mem) (𝓡 .run)) 𝓜 𝓡 code.env #memory·ranges·any-crossed c1-def.routine code.calls-memory·ranges·any-crossed (c1-thm.met 𝓤 H 𝓜 𝓖 𝓡))
     (cited 𝓤 H (C2 𝓤 H (𝓖 .A) (𝓜 .mem) (𝓡 .run)) 𝓜 𝓡 code.env #load·load c2-def.routine code.calls-load·load (c2-thm.met 𝓤 H 𝓜 𝓖 𝓡))
-    (cited 𝓤 H (C3 𝓤 H (𝓖 .A) (𝓜 .mem) (𝓡 .run)) 𝓜 𝓡 code.env #host·tell-load c3-def.routine code.calls-host·tell-load (c3-thm.met 𝓤 H 𝓜 𝓖 𝓡)))
+    (cited 𝓤 H (C3 𝓤 H (𝓖 .A) (𝓜 .mem) (𝓡 .run)) 𝓜 𝓡 code.env #numbers·tell-load c3-def.routine code.calls-numbers·tell-load (c3-thm.met 𝓤 H 𝓜 𝓖 𝓡)))

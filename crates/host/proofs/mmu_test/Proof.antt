@@ -53,7 +53,8 @@ use denote.Array.{Array}
 use Rattle.host.proofs.Telling as law
 use Rattle.definition.specs.Test.{test as testOf}
 use Rattle.definition.specs.Memory.{memory}
-use Rattle.host.specs.Numbers.{registersOf, testNumbers, testedNumbers}
+use Rattle.numbers.specs.Numbers.{registersOf, testedNumbers}
+use Rattle.numbers.specs.Numbers.{testNumbers}
 use Rattle.definition.specs.Refusal.{crossed}
 use Rattle.definition.specs.Words.{anyOf}
 use Rattle.test.specs.Tested.{testGiven, shownTested, TestedIn}
@@ -65,10 +66,10 @@ use Rattle.definition.proofs.Registers.Laws as law-Registers
 use Rattle.test.specs.declared.TestOutcome.{TestOutcome}
 use Rattle.test.proofs.TestOutcome as row-TestOutcome
 use Rattle.test.proofs.TestOutcome.Laws as law-TestOutcome
-use Rattle.host.proofs.registers_of as c0
-use Rattle.host.proofs.registers_of.Symbol as c0-def
-use Rattle.host.proofs.registers_of.Symbol.{name as #host·registers-of}
-use Rattle.host.proofs.registers_of.Met as c0-thm
+use Rattle.numbers.proofs.registers_of as c0
+use Rattle.numbers.proofs.registers_of.Symbol as c0-def
+use Rattle.numbers.proofs.registers_of.Symbol.{name as #numbers·registers-of}
+use Rattle.numbers.proofs.registers_of.Met as c0-thm
 use Rattle.memory.proofs.ranges.any_crossed as c1
 use Rattle.memory.proofs.ranges.any_crossed.Symbol as c1-def
 use Rattle.memory.proofs.ranges.any_crossed.Symbol.{name as #memory·ranges·any-crossed}
@@ -77,10 +78,10 @@ use Rattle.test.proofs.test as c2
 use Rattle.test.proofs.test.Symbol as c2-def
 use Rattle.test.proofs.test.Symbol.{name as #test·test}
 use Rattle.test.proofs.test.Met as c2-thm
-use Rattle.host.proofs.tell_test as c3
-use Rattle.host.proofs.tell_test.Symbol as c3-def
-use Rattle.host.proofs.tell_test.Symbol.{name as #host·tell-test}
-use Rattle.host.proofs.tell_test.Met as c3-thm
+use Rattle.numbers.proofs.tell_test as c3
+use Rattle.numbers.proofs.tell_test.Symbol as c3-def
+use Rattle.numbers.proofs.tell_test.Symbol.{name as #numbers·tell-test}
+use Rattle.numbers.proofs.tell_test.Met as c3-thm
 use Rattle.host.proofs.mmu_test.Key.{name as #host·mmu-test}
 use Rattle.host.proofs.mmu_test as self
 use Rattle.host.proofs.mmu_test.Statement as stated
@@ -156,7 +157,7 @@ module _ {M : Type 1} (𝓤 : URA M) (H : Heap 𝓤) (A : Atoms 𝓤) (W : Given
   goes-3 κ4 q4 a0 v0 a1 v1 i1 =
       qed W (‵ (flft κ4 q4) ∷ ‵ ((MutRef (named 0) κ4 (Array u32 5)) .own a0 (v0 ∷ [])) ∷ []) ∵ nothing ! $ owned ! row-TestOutcome.the-row (Is row-TestOutcome.the-row) (LL.makes row-TestOutcome.the-type law-TestOutcome.the-plain 𝓤 H A) a1 _ i1 $ fjoin ! $ move ! (2 ∷ 0 ∷ []) $ fjoin ! $ nothing ! $ move ! (2 ∷ 0 ∷ []) $ join ! $ join ! $ frame ! $ done !
 
-  module _ (𝓣 : Tables 𝓤 H) (known-0 : Triple 𝓤 (𝓣 .C #host·registers-of) (C0 𝓤 H A mem run)) (known-1 : Triple 𝓤 (𝓣 .C #memory·ranges·any-crossed) (C1 𝓤 H A mem run)) (known-2 : Triple 𝓤 (𝓣 .C #test·test) (C2 𝓤 H A mem run)) (known-3 : Triple 𝓤 (𝓣 .C #host·tell-test) (C3 𝓤 H A mem run)) where
+  module _ (𝓣 : Tables 𝓤 H) (known-0 : Triple 𝓤 (𝓣 .C #numbers·registers-of) (C0 𝓤 H A mem run)) (known-1 : Triple 𝓤 (𝓣 .C #memory·ranges·any-crossed) (C1 𝓤 H A mem run)) (known-2 : Triple 𝓤 (𝓣 .C #test·test) (C2 𝓤 H A mem run)) (known-3 : Triple 𝓤 (𝓣 .C #numbers·tell-test) (C3 𝓤 H A mem run)) where
     abbrev C : Calls 𝓤 H
     C = 𝓣 .C
 
@@ -219,11 +220,11 @@ module _ {M : Type 1} (𝓤 : URA M) (H : Heap 𝓤) (A : Atoms 𝓤) (W : Given
         by ! (exits (ws18 .0) tt vunit refl (law.tests (now x4) e3 (memory (now x1) x2 (now x3)) x5 x6 x7 x8 e7 e11 e16))))))))))))))))))))))))))))))))))))
 
 module _ {M : Type 1} (𝓤 : URA M) (H : Heap 𝓤) (A : Atoms 𝓤) (W : Given 𝓤 H A) (mem : Memory → SProp 𝓤) (run : Routine → Fun 𝓤) (𝓣 : Tables 𝓤 H) where
-  self-walks : Triple 𝓤 (𝓣 .C #host·registers-of) (C0 𝓤 H A mem run) → Triple 𝓤 (𝓣 .C #memory·ranges·any-crossed) (C1 𝓤 H A mem run) → Triple 𝓤 (𝓣 .C #test·test) (C2 𝓤 H A mem run) → Triple 𝓤 (𝓣 .C #host·tell-test) (C3 𝓤 H A mem run) → AllWalks 𝓤 H A self.ended stayed (WpFn 𝓤 H (𝓣 .C) (𝓣 .Λ) code.function) (self.clauses 𝓤 H A mem run)
+  self-walks : Triple 𝓤 (𝓣 .C #numbers·registers-of) (C0 𝓤 H A mem run) → Triple 𝓤 (𝓣 .C #memory·ranges·any-crossed) (C1 𝓤 H A mem run) → Triple 𝓤 (𝓣 .C #test·test) (C2 𝓤 H A mem run) → Triple 𝓤 (𝓣 .C #numbers·tell-test) (C3 𝓤 H A mem run) → AllWalks 𝓤 H A self.ended stayed (WpFn 𝓤 H (𝓣 .C) (𝓣 .Λ) code.function) (self.clauses 𝓤 H A mem run)
   self-walks known-0 known-1 known-2 known-3 = walked 𝓤 H A self.ended stayed (self.clauses 𝓤 H A mem run) (WpFn 𝓤 H (𝓣 .C) (𝓣 .Λ) code.function) (λ κs. (slice-vals, (uint-vals w32, (slice-vals, (ptr-vals, (uint-vals w32, (bool-vals, (uint-vals w32, (uint-vals w32, (ptr-vals, tt)))))))))) (λ κs. (shr-slice-tells (named 0) (κs .0) u32, (uint-tells w32, (shr-slice-tells (named 1) (κs .1 .0) row-Range.the-row, (shr-tells (named 2) (κs .1 .1 .0) (Array u32 13), (uint-tells w32, (bool-tells, (uint-tells w32, (uint-tells w32, (mut-tells (named 3) (κs .1 .1 .1 .0) (Array u32 5), tt))))))))))
       (λ κs qs bounds a g are. via 𝓤 _ (fst∗ 𝓤 _ (emp 𝓤)) (walk 𝓤 H A W mem run (κs .0) (κs .1 .0) (κs .1 .1 .0) (κs .1 .1 .1 .0) (qs .0) (qs .1 .0) (qs .1 .1 .0) (qs .1 .1 .1 .0) (a .0) (a .1 .0) (a .1 .1 .0) (a .1 .1 .1 .0) (a .1 .1 .1 .1 .0) (a .1 .1 .1 .1 .1 .0) (a .1 .1 .1 .1 .1 .1 .0) (a .1 .1 .1 .1 .1 .1 .1 .0) (a .1 .1 .1 .1 .1 .1 .1 .1 .0) (are .0) (are .1 .0) (are .1 .1 .0) (are .1 .1 .1 .0) (are .1 .1 .1 .1 .0) (are .1 .1 .1 .1 .1 .0) (are .1 .1 .1 .1 .1 .1 .0) (are .1 .1 .1 .1 .1 .1 .1 .0) (are .1 .1 .1 .1 .1 .1 .1 .1 .0) 𝓣 known-0 known-1 known-2 known-3))
 
-  self-meets : Triple 𝓤 (𝓣 .C #host·registers-of) (C0 𝓤 H A mem run) → Triple 𝓤 (𝓣 .C #memory·ranges·any-crossed) (C1 𝓤 H A mem run) → Triple 𝓤 (𝓣 .C #test·test) (C2 𝓤 H A mem run) → Triple 𝓤 (𝓣 .C #host·tell-test) (C3 𝓤 H A mem run) → Meets 𝓤 H A self.signature (WpFn 𝓤 H (𝓣 .C) (𝓣 .Λ) code.function) (self.spec 𝓤 H A mem run)
+  self-meets : Triple 𝓤 (𝓣 .C #numbers·registers-of) (C0 𝓤 H A mem run) → Triple 𝓤 (𝓣 .C #memory·ranges·any-crossed) (C1 𝓤 H A mem run) → Triple 𝓤 (𝓣 .C #test·test) (C2 𝓤 H A mem run) → Triple 𝓤 (𝓣 .C #numbers·tell-test) (C3 𝓤 H A mem run) → Meets 𝓤 H A self.signature (WpFn 𝓤 H (𝓣 .C) (𝓣 .Λ) code.function) (self.spec 𝓤 H A mem run)
   self-meets known-0 known-1 known-2 known-3 = walk-meets 𝓤 H A self.ended stayed W (goes-none-slice 𝓤 H A W 4 (0 ∷ []) tt (plain (λ _. u32)) yes, (goes-none 𝓤 H A W 4 (λ _. u32) yes (λ κs x f. refl), (goes-none-slice 𝓤 H A W 4 (1 ∷ []) tt (plain (λ _. row-Range.the-row)) yes, (goes-none-ref 𝓤 H A W 4 (2 ∷ []) tt (plain (λ _. (Array u32 13))) yes, (goes-none 𝓤 H A W 4 (λ _. u32) yes (λ κs x f. refl), (goes-none 𝓤 H A W 4 (λ _. Boolean) yes (λ κs x f. refl), (goes-none 𝓤 H A W 4 (λ _. u32) yes (λ κs x f. refl), (goes-none 𝓤 H A W 4 (λ _. u32) yes (λ κs x f. refl), (goes-ref 𝓤 H A W 4 3 tt (plain (λ _. (Array u32 5))), tt))))))))) (self.clauses 𝓤 H A mem run) (WpFn 𝓤 H (𝓣 .C) (𝓣 .Λ) code.function) (WpFn-mono 𝓤 H (W .laws) 𝓣 code.function) (self-walks known-0 known-1 known-2 known-3)
 
 pub mmu-test-spec : {M : Type 1} → stated.statement M
@@ -232,7 +233,7 @@ mmu-test-spec 𝓤 H 𝓜 𝓖 𝓡 =
     entered 𝓤 H (tripleOf 𝓤 H (𝓖 .A) self.signature (self.spec 𝓤 H (𝓖 .A) (𝓜 .mem) (𝓡 .run)))
     (tables 𝓤 H 𝓜 𝓡 code.env .C) (tables 𝓤 H 𝓜 𝓡 code.env .Λ) #host·mmu-test code.function (code.unfolded 𝓤 H 𝓜 𝓡)
     (self-meets 𝓤 H (𝓖 .A) (givenOf 𝓤 H 𝓜 𝓖) (𝓜 .mem) (𝓡 .run) (tablesOf 𝓤 H 𝓜 (tables 𝓤 H 𝓜 𝓡 code.env))
-    (cited 𝓤 H (C0 𝓤 H (𝓖 .A) (𝓜 .mem) (𝓡 .run)) 𝓜 𝓡 code.env #host·registers-of c0-def.routine code.calls-host·registers-of (c0-thm.met 𝓤 H 𝓜 𝓖 𝓡))
+    (cited 𝓤 H (C0 𝓤 H (𝓖 .A) (𝓜 .mem) (𝓡 .run)) 𝓜 𝓡 code.env #numbers·registers-of c0-def.routine code.calls-numbers·registers-of (c0-thm.met 𝓤 H 𝓜 𝓖 𝓡))
     (cited 𝓤 H (C1 𝓤 H (𝓖 .A) (𝓜 .mem) (𝓡 .run)) 𝓜 𝓡 code.env #memory·ranges·any-crossed c1-def.routine code.calls-memory·ranges·any-crossed (c1-thm.met 𝓤 H 𝓜 𝓖 𝓡))
     (cited 𝓤 H (C2 𝓤 H (𝓖 .A) (𝓜 .mem) (𝓡 .run)) 𝓜 𝓡 code.env #test·test c2-def.routine code.calls-test·test (c2-thm.met 𝓤 H 𝓜 𝓖 𝓡))
-    (cited 𝓤 H (C3 𝓤 H (𝓖 .A) (𝓜 .mem) (𝓡 .run)) 𝓜 𝓡 code.env #host·tell-test c3-def.routine code.calls-host·tell-test (c3-thm.met 𝓤 H 𝓜 𝓖 𝓡)))
+    (cited 𝓤 H (C3 𝓤 H (𝓖 .A) (𝓜 .mem) (𝓡 .run)) 𝓜 𝓡 code.env #numbers·tell-test c3-def.routine code.calls-numbers·tell-test (c3-thm.met 𝓤 H 𝓜 𝓖 𝓡)))

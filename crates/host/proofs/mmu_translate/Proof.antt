@@ -54,7 +54,8 @@ use Rattle.host.proofs.Telling as law
 use Rattle.definition.specs.Translate.{translate as translateOf}
 use Rattle.definition.specs.Memory.{memory}
 use Rattle.cache.specs.Pair.{cachesOf}
-use Rattle.host.specs.Numbers.{registersOf, accessOf, translationNumbers, TranslatedTo}
+use Rattle.numbers.specs.Numbers.{registersOf, accessOf, TranslatedTo}
+use Rattle.numbers.specs.Numbers.{translationNumbers}
 use Rattle.definition.specs.Refusal.{crossed}
 use Rattle.definition.specs.Words.{anyOf}
 use Rattle.translate.specs.Stages.{shownTranslated, translateGiven}
@@ -70,14 +71,14 @@ use Rattle.definition.proofs.Registers.Laws as law-Registers
 use Rattle.translate.specs.declared.Outcome.{Outcome}
 use Rattle.translate.proofs.Outcome as row-Outcome
 use Rattle.translate.proofs.Outcome.Laws as law-Outcome
-use Rattle.host.proofs.registers_of as c0
-use Rattle.host.proofs.registers_of.Symbol as c0-def
-use Rattle.host.proofs.registers_of.Symbol.{name as #host·registers-of}
-use Rattle.host.proofs.registers_of.Met as c0-thm
-use Rattle.host.proofs.access_of as c1
-use Rattle.host.proofs.access_of.Symbol as c1-def
-use Rattle.host.proofs.access_of.Symbol.{name as #host·access-of}
-use Rattle.host.proofs.access_of.Met as c1-thm
+use Rattle.numbers.proofs.registers_of as c0
+use Rattle.numbers.proofs.registers_of.Symbol as c0-def
+use Rattle.numbers.proofs.registers_of.Symbol.{name as #numbers·registers-of}
+use Rattle.numbers.proofs.registers_of.Met as c0-thm
+use Rattle.numbers.proofs.access_of as c1
+use Rattle.numbers.proofs.access_of.Symbol as c1-def
+use Rattle.numbers.proofs.access_of.Symbol.{name as #numbers·access-of}
+use Rattle.numbers.proofs.access_of.Met as c1-thm
 use Rattle.memory.proofs.ranges.any_crossed as c2
 use Rattle.memory.proofs.ranges.any_crossed.Symbol as c2-def
 use Rattle.memory.proofs.ranges.any_crossed.Symbol.{name as #memory·ranges·any-crossed}
@@ -86,10 +87,10 @@ use Rattle.translate.proofs.translate as c3
 use Rattle.translate.proofs.translate.Symbol as c3-def
 use Rattle.translate.proofs.translate.Symbol.{name as #translate·translate}
 use Rattle.translate.proofs.translate.Met as c3-thm
-use Rattle.host.proofs.tell_translation as c4
-use Rattle.host.proofs.tell_translation.Symbol as c4-def
-use Rattle.host.proofs.tell_translation.Symbol.{name as #host·tell-translation}
-use Rattle.host.proofs.tell_translation.Met as c4-thm
+use Rattle.numbers.proofs.tell_translation as c4
+use Rattle.numbers.proofs.tell_translation.Symbol as c4-def
+use Rattle.numbers.proofs.tell_translation.Symbol.{name as #numbers·tell-translation}
+use Rattle.numbers.proofs.tell_translation.Met as c4-thm
 use Rattle.host.proofs.mmu_translate.Key.{name as #host·mmu-translate}
 use Rattle.host.proofs.mmu_translate as self
 use Rattle.host.proofs.mmu_translate.Statement as stated
@@ -176,7 +177,7 @@ module _ {M : Type 1} (𝓤 : URA M) (H : Heap 𝓤) (A : Atoms 𝓤) (W : Given
   goes-4 κ8 q8 a0 v0 a1 v1 i1 =
       qed W (‵ (flft κ8 q8) ∷ ‵ ((MutRef (named 0) κ8 (Array u32 5)) .own a0 (v0 ∷ [])) ∷ []) ∵ nothing ! $ owned ! row-Outcome.the-row (Is row-Outcome.the-row) (LL.makes row-Outcome.the-type law-Outcome.the-plain 𝓤 H A) a1 _ i1 $ fjoin ! $ move ! (2 ∷ 0 ∷ []) $ fjoin ! $ nothing ! $ move ! (2 ∷ 0 ∷ []) $ join ! $ join ! $ frame ! $ done !
 
-  module _ (𝓣 : Tables 𝓤 H) (known-0 : Triple 𝓤 (𝓣 .C #host·registers-of) (C0 𝓤 H A mem run)) (known-1 : Triple 𝓤 (𝓣 .C #host·access-of) (C1 𝓤 H A mem run)) (known-2 : Triple 𝓤 (𝓣 .C #memory·ranges·any-crossed) (C2 𝓤 H A mem run)) (known-3 : Triple 𝓤 (𝓣 .C #translate·translate) (C3 𝓤 H A mem run)) (known-4 : Triple 𝓤 (𝓣 .C #host·tell-translation) (C4 𝓤 H A mem run)) where
+  module _ (𝓣 : Tables 𝓤 H) (known-0 : Triple 𝓤 (𝓣 .C #numbers·registers-of) (C0 𝓤 H A mem run)) (known-1 : Triple 𝓤 (𝓣 .C #numbers·access-of) (C1 𝓤 H A mem run)) (known-2 : Triple 𝓤 (𝓣 .C #memory·ranges·any-crossed) (C2 𝓤 H A mem run)) (known-3 : Triple 𝓤 (𝓣 .C #translate·translate) (C3 𝓤 H A mem run)) (known-4 : Triple 𝓤 (𝓣 .C #numbers·tell-translation) (C4 𝓤 H A mem run)) where
     abbrev C : Calls 𝓤 H
     C = 𝓣 .C
 
@@ -262,11 +263,11 @@ module _ {M : Type 1} (𝓤 : URA M) (H : Heap 𝓤) (A : Atoms 𝓤) (W : Given
         by ! (exits (ws19 .0) (ws19 .1 .0) (ws25 .0) tt vunit refl (law.translates (now x6) e3 (memory (now x3) x4 (now x5)) x7 x8 x9 _ e7 e11 e17 e23)))))))))))))))))))))))))))))))))))))))))))))))))
 
 module _ {M : Type 1} (𝓤 : URA M) (H : Heap 𝓤) (A : Atoms 𝓤) (W : Given 𝓤 H A) (mem : Memory → SProp 𝓤) (run : Routine → Fun 𝓤) (𝓣 : Tables 𝓤 H) where
-  self-walks : Triple 𝓤 (𝓣 .C #host·registers-of) (C0 𝓤 H A mem run) → Triple 𝓤 (𝓣 .C #host·access-of) (C1 𝓤 H A mem run) → Triple 𝓤 (𝓣 .C #memory·ranges·any-crossed) (C2 𝓤 H A mem run) → Triple 𝓤 (𝓣 .C #translate·translate) (C3 𝓤 H A mem run) → Triple 𝓤 (𝓣 .C #host·tell-translation) (C4 𝓤 H A mem run) → AllWalks 𝓤 H A self.ended stayed (WpFn 𝓤 H (𝓣 .C) (𝓣 .Λ) code.function) (self.clauses 𝓤 H A mem run)
+  self-walks : Triple 𝓤 (𝓣 .C #numbers·registers-of) (C0 𝓤 H A mem run) → Triple 𝓤 (𝓣 .C #numbers·access-of) (C1 𝓤 H A mem run) → Triple 𝓤 (𝓣 .C #memory·ranges·any-crossed) (C2 𝓤 H A mem run) → Triple 𝓤 (𝓣 .C #translate·translate) (C3 𝓤 H A mem run) → Triple 𝓤 (𝓣 .C #numbers·tell-translation) (C4 𝓤 H A mem run) → AllWalks 𝓤 H A self.ended stayed (WpFn 𝓤 H (𝓣 .C) (𝓣 .Λ) code.function) (self.clauses 𝓤 H A mem run)
   self-walks known-0 known-1 known-2 known-3 known-4 = walked 𝓤 H A self.ended stayed (self.clauses 𝓤 H A mem run) (WpFn 𝓤 H (𝓣 .C) (𝓣 .Λ) code.function) (λ κs. (ptr-vals, (ptr-vals, (slice-vals, (uint-vals w32, (slice-vals, (ptr-vals, (uint-vals w32, (uint-vals w32, (uint-vals w32, (ptr-vals, tt))))))))))) (λ κs. (mut-tells (named 0) (κs .0) (Array u64 69), (mut-tells (named 1) (κs .1 .0) (Array u64 128), (shr-slice-tells (named 2) (κs .1 .1 .0) u32, (uint-tells w32, (shr-slice-tells (named 3) (κs .1 .1 .1 .0) row-Range.the-row, (shr-tells (named 4) (κs .1 .1 .1 .1 .0) (Array u32 13), (uint-tells w32, (uint-tells w32, (uint-tells w32, (mut-tells (named 5) (κs .1 .1 .1 .1 .1 .0) (Array u32 5), tt)))))))))))
       (λ κs qs bounds a g are. via 𝓤 _ (fst∗ 𝓤 _ (emp 𝓤)) (walk 𝓤 H A W mem run (κs .0) (κs .1 .0) (κs .1 .1 .0) (κs .1 .1 .1 .0) (κs .1 .1 .1 .1 .0) (κs .1 .1 .1 .1 .1 .0) (qs .0) (qs .1 .0) (qs .1 .1 .0) (qs .1 .1 .1 .0) (qs .1 .1 .1 .1 .0) (qs .1 .1 .1 .1 .1 .0) (a .0) (a .1 .0) (a .1 .1 .0) (a .1 .1 .1 .0) (a .1 .1 .1 .1 .0) (a .1 .1 .1 .1 .1 .0) (a .1 .1 .1 .1 .1 .1 .0) (a .1 .1 .1 .1 .1 .1 .1 .0) (a .1 .1 .1 .1 .1 .1 .1 .1 .0) (a .1 .1 .1 .1 .1 .1 .1 .1 .1 .0) (are .0) (are .1 .0) (are .1 .1 .0) (are .1 .1 .1 .0) (are .1 .1 .1 .1 .0) (are .1 .1 .1 .1 .1 .0) (are .1 .1 .1 .1 .1 .1 .0) (are .1 .1 .1 .1 .1 .1 .1 .0) (are .1 .1 .1 .1 .1 .1 .1 .1 .0) (are .1 .1 .1 .1 .1 .1 .1 .1 .1 .0) 𝓣 known-0 known-1 known-2 known-3 known-4))
 
-  self-meets : Triple 𝓤 (𝓣 .C #host·registers-of) (C0 𝓤 H A mem run) → Triple 𝓤 (𝓣 .C #host·access-of) (C1 𝓤 H A mem run) → Triple 𝓤 (𝓣 .C #memory·ranges·any-crossed) (C2 𝓤 H A mem run) → Triple 𝓤 (𝓣 .C #translate·translate) (C3 𝓤 H A mem run) → Triple 𝓤 (𝓣 .C #host·tell-translation) (C4 𝓤 H A mem run) → Meets 𝓤 H A self.signature (WpFn 𝓤 H (𝓣 .C) (𝓣 .Λ) code.function) (self.spec 𝓤 H A mem run)
+  self-meets : Triple 𝓤 (𝓣 .C #numbers·registers-of) (C0 𝓤 H A mem run) → Triple 𝓤 (𝓣 .C #numbers·access-of) (C1 𝓤 H A mem run) → Triple 𝓤 (𝓣 .C #memory·ranges·any-crossed) (C2 𝓤 H A mem run) → Triple 𝓤 (𝓣 .C #translate·translate) (C3 𝓤 H A mem run) → Triple 𝓤 (𝓣 .C #numbers·tell-translation) (C4 𝓤 H A mem run) → Meets 𝓤 H A self.signature (WpFn 𝓤 H (𝓣 .C) (𝓣 .Λ) code.function) (self.spec 𝓤 H A mem run)
   self-meets known-0 known-1 known-2 known-3 known-4 = walk-meets 𝓤 H A self.ended stayed W (goes-ref 𝓤 H A W 6 0 tt (plain (λ _. (Array u64 69))), (goes-ref 𝓤 H A W 6 1 tt (plain (λ _. (Array u64 128))), (goes-none-slice 𝓤 H A W 6 (2 ∷ []) tt (plain (λ _. u32)) yes, (goes-none 𝓤 H A W 6 (λ _. u32) yes (λ κs x f. refl), (goes-none-slice 𝓤 H A W 6 (3 ∷ []) tt (plain (λ _. row-Range.the-row)) yes, (goes-none-ref 𝓤 H A W 6 (4 ∷ []) tt (plain (λ _. (Array u32 13))) yes, (goes-none 𝓤 H A W 6 (λ _. u32) yes (λ κs x f. refl), (goes-none 𝓤 H A W 6 (λ _. u32) yes (λ κs x f. refl), (goes-none 𝓤 H A W 6 (λ _. u32) yes (λ κs x f. refl), (goes-ref 𝓤 H A W 6 5 tt (plain (λ _. (Array u32 5))), tt)))))))))) (self.clauses 𝓤 H A mem run) (WpFn 𝓤 H (𝓣 .C) (𝓣 .Λ) code.function) (WpFn-mono 𝓤 H (W .laws) 𝓣 code.function) (self-walks known-0 known-1 known-2 known-3 known-4)
 
 pub mmu-translate-spec : {M : Type 1} → stated.statement M
@@ -275,8 +276,8 @@ mmu-translate-spec 𝓤 H 𝓜 𝓖 𝓡 =
     entered 𝓤 H (tripleOf 𝓤 H (𝓖 .A) self.signature (self.spec 𝓤 H (𝓖 .A) (𝓜 .mem) (𝓡 .run)))
     (tables 𝓤 H 𝓜 𝓡 code.env .C) (tables 𝓤 H 𝓜 𝓡 code.env .Λ) #host·mmu-translate code.function (code.unfolded 𝓤 H 𝓜 𝓡)
     (self-meets 𝓤 H (𝓖 .A) (givenOf 𝓤 H 𝓜 𝓖) (𝓜 .mem) (𝓡 .run) (tablesOf 𝓤 H 𝓜 (tables 𝓤 H 𝓜 𝓡 code.env))
-    (cited 𝓤 H (C0 𝓤 H (𝓖 .A) (𝓜 .mem) (𝓡 .run)) 𝓜 𝓡 code.env #host·registers-of c0-def.routine code.calls-host·registers-of (c0-thm.met 𝓤 H 𝓜 𝓖 𝓡))
-    (cited 𝓤 H (C1 𝓤 H (𝓖 .A) (𝓜 .mem) (𝓡 .run)) 𝓜 𝓡 code.env #host·access-of c1-def.routine code.calls-host·access-of (c1-thm.met 𝓤 H 𝓜 𝓖 𝓡))
+    (cited 𝓤 H (C0 𝓤 H (𝓖 .A) (𝓜 .mem) (𝓡 .run)) 𝓜 𝓡 code.env #numbers·registers-of c0-def.routine code.calls-numbers·registers-of (c0-thm.met 𝓤 H 𝓜 𝓖 𝓡))
+    (cited 𝓤 H (C1 𝓤 H (𝓖 .A) (𝓜 .mem) (𝓡 .run)) 𝓜 𝓡 code.env #numbers·access-of c1-def.routine code.calls-numbers·access-of (c1-thm.met 𝓤 H 𝓜 𝓖 𝓡))
     (cited 𝓤 H (C2 𝓤 H (𝓖 .A) (𝓜 .mem) (𝓡 .run)) 𝓜 𝓡 code.env #memory·ranges·any-crossed c2-def.routine code.calls-memory·ranges·any-crossed (c2-thm.met 𝓤 H 𝓜 𝓖 𝓡))
     (cited 𝓤 H (C3 𝓤 H (𝓖 .A) (𝓜 .mem) (𝓡 .run)) 𝓜 𝓡 code.env #translate·translate c3-def.routine code.calls-translate·translate (c3-thm.met 𝓤 H 𝓜 𝓖 𝓡))
-    (cited 𝓤 H (C4 𝓤 H (𝓖 .A) (𝓜 .mem) (𝓡 .run)) 𝓜 𝓡 code.env #host·tell-translation c4-def.routine code.calls-host·tell-translation (c4-thm.met 𝓤 H 𝓜 𝓖 𝓡)))
+    (cited 𝓤 H (C4 𝓤 H (𝓖 .A) (𝓜 .mem) (𝓡 .run)) 𝓜 𝓡 code.env #numbers·tell-translation c4-def.routine code.calls-numbers·tell-translation (c4-thm.met 𝓤 H 𝓜 𝓖 𝓡)))

@@ -1,9 +1,9 @@
 use borrow.Author.Needs.{needs}
-use Rattle.host.proofs.held_of.Statement.{statement}
-use Rattle.host.proofs.held_of.Tie as tie
-use Rattle.host.proofs.held_of.Reads as reads
-use Rattle.host.proofs.held_of.Lts as lts
-use Rattle.host.proofs.Telling as law
+use Rattle.numbers.proofs.held_of.Statement.{statement}
+use Rattle.numbers.proofs.held_of.Tie as tie
+use Rattle.numbers.proofs.held_of.Reads as reads
+use Rattle.numbers.proofs.held_of.Lts as lts
+use Rattle.numbers.proofs.Telling as law
 
 -- src/lib.rt:201:17
 enum-known-h : tie.Need-enum-known-h

@@ -1,11 +1,11 @@
 use borrow.Author.Needs.{needs}
-use Rattle.host.proofs.walked_of.Statement.{statement}
-use Rattle.host.proofs.walked_of.Tie as tie
-use Rattle.host.proofs.walked_of.Reads as reads
-use Rattle.host.proofs.walked_of.Lts as lts
+use Rattle.numbers.proofs.walked_of.Statement.{statement}
+use Rattle.numbers.proofs.walked_of.Tie as tie
+use Rattle.numbers.proofs.walked_of.Reads as reads
+use Rattle.numbers.proofs.walked_of.Lts as lts
 use Rattle.definition.proofs.cause_number.Reads as cause-number-reads
 use Rattle.definition.proofs.kind_number.Reads as kind-number-reads
-use Rattle.host.proofs.Telling as law
+use Rattle.numbers.proofs.Telling as law
 
 -- src/lib.rt:226:30
 enum-known-t : tie.Need-enum-known-t

@@ -1,7 +1,7 @@
-use Rattle.host.proofs.Telling as law
+use Rattle.numbers.proofs.Telling as law
 use borrow.Author.Needs.{needs}
-use Rattle.host.proofs.tell_load.Statement.{statement}
-use Rattle.host.proofs.tell_load.Tie as tie
+use Rattle.numbers.proofs.tell_load.Statement.{statement}
+use Rattle.numbers.proofs.tell_load.Tie as tie
 
 enum-told : tie.Need-enum-told
 enum-told c = search needs

@@ -1,7 +1,7 @@
-use Rattle.host.proofs.Telling as law
+use Rattle.numbers.proofs.Telling as law
 use borrow.Author.Needs.{needs}
-use Rattle.host.proofs.tell_translation.Statement.{statement}
-use Rattle.host.proofs.tell_translation.Tie as tie
+use Rattle.numbers.proofs.tell_translation.Statement.{statement}
+use Rattle.numbers.proofs.tell_translation.Tie as tie
 
 enum-known-answer : tie.Need-enum-known-answer
 enum-known-answer c = search needs

@@ -31,8 +31,8 @@ use Rattle.definition.specs.declared.Hit.{Hit}
 use Rattle.definition.specs.declared.Hit.the-variants as hit
 use Rattle.definition.specs.declared.Flush.{Flush}
 use Rattle.definition.specs.declared.Flush.the-variants as flush
-use Rattle.host.specs.declared.Held.{Held}
-use Rattle.host.specs.declared.Walked.{Walked}
+use Rattle.numbers.specs.declared.Held.{Held}
+use Rattle.numbers.specs.declared.Walked.{Walked}
 
 -- family, flags (bit 0 PMMU, 1 enabled), and the 11 longs in the order of a trace's record
 abbrev pub registersWith : List ℕ → Bool → Bool → Registers

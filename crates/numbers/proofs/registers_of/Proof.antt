@@ -1,7 +1,7 @@
-use Rattle.host.proofs.Telling as law
+use Rattle.numbers.proofs.Telling as law
 use borrow.Author.Needs.{needs}
-use Rattle.host.proofs.registers_of.Statement.{statement}
-use Rattle.host.proofs.registers_of.Tie as tie
+use Rattle.numbers.proofs.registers_of.Statement.{statement}
+use Rattle.numbers.proofs.registers_of.Tie as tie
 
 element-copy-out-flags : tie.Need-element-copy-out-flags
 element-copy-out-flags c = search needs

@@ -1,7 +1,7 @@
-use Rattle.host.proofs.Telling as law
+use Rattle.numbers.proofs.Telling as law
 use borrow.Author.Needs.{needs}
-use Rattle.host.proofs.access_of.Statement.{statement}
-use Rattle.host.proofs.access_of.Tie as tie
+use Rattle.numbers.proofs.access_of.Statement.{statement}
+use Rattle.numbers.proofs.access_of.Tie as tie
 
 bit-requires : tie.Need-bit-requires
 bit-requires c κs = search needs

@@ -1,6 +1,6 @@
-use Rattle.host.proofs.Telling as law
-use Rattle.host.proofs.override_of.Statement.{statement}
-use Rattle.host.proofs.override_of.Tie as tie
+use Rattle.numbers.proofs.Telling as law
+use Rattle.numbers.proofs.override_of.Statement.{statement}
+use Rattle.numbers.proofs.override_of.Tie as tie
 
 returns : tie.Need-returns
 returns c = law.none _ (c .if1 .taken)

@@ -1,11 +1,11 @@
 use borrow.Author.Needs.{needs}
-use Rattle.host.proofs.tell_finding.Statement.{statement}
-use Rattle.host.proofs.tell_finding.Tie as tie
-use Rattle.host.proofs.tell_finding.Reads as reads
-use Rattle.host.proofs.tell_finding.Lts as lts
-use Rattle.host.proofs.held_of.Reads as held-of-reads
-use Rattle.host.proofs.walked_of.Reads as walked-of-reads
-use Rattle.host.proofs.Telling as law
+use Rattle.numbers.proofs.tell_finding.Statement.{statement}
+use Rattle.numbers.proofs.tell_finding.Tie as tie
+use Rattle.numbers.proofs.tell_finding.Reads as reads
+use Rattle.numbers.proofs.tell_finding.Lts as lts
+use Rattle.numbers.proofs.held_of.Reads as held-of-reads
+use Rattle.numbers.proofs.walked_of.Reads as walked-of-reads
+use Rattle.numbers.proofs.Telling as law
 
 -- src/lib.rt:257:13
 enum-known-f : tie.Need-enum-known-f

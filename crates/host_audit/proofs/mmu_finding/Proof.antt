@@ -1,4 +1,4 @@
--- `host::mmu_finding` meets its contract: a walk of its MIR, which tools/hand_walk prints. Assumes nothing.
+-- `host_audit::mmu_finding` meets its contract: a walk of its MIR, which tools/hand_walk prints. Assumes nothing.
 use mathlib.Core.Path.{_≡_, refl, ap, subst}
 use mathlib.Core.Bool.{Bool}
 use Prim.Native.Nat.{ℕ}
@@ -51,11 +51,11 @@ use base.Fml.{fobs, fbor}
 use denote.Ref.{ShrRef, shr-tells, shr-copy}
 use denote.Triple.Walked.{stay-none-ref, goes-none-ref}
 use denote.Array.{Array}
-use Rattle.host.proofs.Telling as law
+use Rattle.host_audit.proofs.Telling as law
 use Rattle.definition.specs.Memory.{memory}
 use Rattle.definition.specs.Audit.{finding as findingOf}
 use Rattle.cache.specs.Pair.{cachesOf}
-use Rattle.host.specs.Numbers.{registersOf, findingNumbers}
+use Rattle.numbers.specs.Numbers.{registersOf, findingNumbers}
 use Rattle.definition.specs.declared.Finding.{Finding}
 use Rattle.definition.proofs.Finding as row-Finding
 use Rattle.definition.proofs.Finding.Laws as law-Finding
@@ -64,22 +64,22 @@ use Rattle.definition.proofs.Range as row-Range
 use Rattle.definition.specs.declared.Registers.{Registers}
 use Rattle.definition.proofs.Registers as row-Registers
 use Rattle.definition.proofs.Registers.Laws as law-Registers
-use Rattle.host.proofs.registers_of as c0
-use Rattle.host.proofs.registers_of.Symbol as c0-def
-use Rattle.host.proofs.registers_of.Symbol.{name as #host·registers-of}
-use Rattle.host.proofs.registers_of.Met as c0-thm
+use Rattle.numbers.proofs.registers_of as c0
+use Rattle.numbers.proofs.registers_of.Symbol as c0-def
+use Rattle.numbers.proofs.registers_of.Symbol.{name as #numbers·registers-of}
+use Rattle.numbers.proofs.registers_of.Met as c0-thm
 use Rattle.audit.proofs.finding.finding_lent as c1
 use Rattle.audit.proofs.finding.finding_lent.Symbol as c1-def
 use Rattle.audit.proofs.finding.finding_lent.Symbol.{name as #audit·finding·finding-lent}
 use Rattle.audit.proofs.finding.finding_lent.Met as c1-thm
-use Rattle.host.proofs.tell_finding as c2
-use Rattle.host.proofs.tell_finding.Symbol as c2-def
-use Rattle.host.proofs.tell_finding.Symbol.{name as #host·tell-finding}
-use Rattle.host.proofs.tell_finding.Met as c2-thm
-use Rattle.host.proofs.mmu_finding.Key.{name as #host·mmu-finding}
-use Rattle.host.proofs.mmu_finding as self
-use Rattle.host.proofs.mmu_finding.Statement as stated
-use Rattle.host.proofs.mmu_finding.Code as code
+use Rattle.numbers.proofs.tell_finding as c2
+use Rattle.numbers.proofs.tell_finding.Symbol as c2-def
+use Rattle.numbers.proofs.tell_finding.Symbol.{name as #numbers·tell-finding}
+use Rattle.numbers.proofs.tell_finding.Met as c2-thm
+use Rattle.host_audit.proofs.mmu_finding.Key.{name as #host-audit·mmu-finding}
+use Rattle.host_audit.proofs.mmu_finding as self
+use Rattle.host_audit.proofs.mmu_finding.Statement as stated
+use Rattle.host_audit.proofs.mmu_finding.Code as code
 
 abbrev stayed : Stays (self.ended .signature .params) (self.ended .kept)
 stayed = (stay-none-ref (0 ∷ []) tt (plain (λ _. (Array u64 69))) yes, (stay-none-ref (1 ∷ []) tt (plain (λ _. (Array u64 128))) yes, (stay-none-slice (2 ∷ []) tt (plain (λ _. u32)) yes, (stay-none (λ _. u32) yes, (stay-none-slice (3 ∷ []) tt (plain (λ _. row-Range.the-row)) yes, (stay-none-ref (4 ∷ []) tt (plain (λ _. (Array u32 13))) yes, (stay-none (λ _. u32) yes, (stay-none (λ _. Boolean) yes, (stay-ref (5 ∷ []) tt (plain (λ _. (Array u32 10))), tt)))))))))
@@ -137,7 +137,7 @@ module _ {M : Type 1} (𝓤 : URA M) (H : Heap 𝓤) (A : Atoms 𝓤) (W : Given
   goes-2 κ6 q6 a0 v0 a1 v1 i1 =
       qed W (‵ (flft κ6 q6) ∷ ‵ ((MutRef (named 0) κ6 (Array u32 10)) .own a0 (v0 ∷ [])) ∷ []) ∵ nothing ! $ owned ! row-Finding.the-row (Is row-Finding.the-row) (EL.makes row-Finding.the-type law-Finding.the-plain 𝓤 H A) a1 _ i1 $ fjoin ! $ move ! (2 ∷ 0 ∷ []) $ fjoin ! $ nothing ! $ move ! (2 ∷ 0 ∷ []) $ join ! $ join ! $ frame ! $ done !
 
-  module _ (𝓣 : Tables 𝓤 H) (known-0 : Triple 𝓤 (𝓣 .C #host·registers-of) (C0 𝓤 H A mem run)) (known-1 : Triple 𝓤 (𝓣 .C #audit·finding·finding-lent) (C1 𝓤 H A mem run)) (known-2 : Triple 𝓤 (𝓣 .C #host·tell-finding) (C2 𝓤 H A mem run)) where
+  module _ (𝓣 : Tables 𝓤 H) (known-0 : Triple 𝓤 (𝓣 .C #numbers·registers-of) (C0 𝓤 H A mem run)) (known-1 : Triple 𝓤 (𝓣 .C #audit·finding·finding-lent) (C1 𝓤 H A mem run)) (known-2 : Triple 𝓤 (𝓣 .C #numbers·tell-finding) (C2 𝓤 H A mem run)) where
     abbrev C : Calls 𝓤 H
     C = 𝓣 .C
 
@@ -196,19 +196,19 @@ module _ {M : Type 1} (𝓤 : URA M) (H : Heap 𝓤) (A : Atoms 𝓤) (W : Given
         by ! (exits (ws14 .0) tt vunit refl (law.finds (now x6) e3 (memory (now x3) x4 (now x5)) (cachesOf (now x1) (now x2)) x7 x8 e7 e12)))))))))))))))))))))))))))))))
 
 module _ {M : Type 1} (𝓤 : URA M) (H : Heap 𝓤) (A : Atoms 𝓤) (W : Given 𝓤 H A) (mem : Memory → SProp 𝓤) (run : Routine → Fun 𝓤) (𝓣 : Tables 𝓤 H) where
-  self-walks : Triple 𝓤 (𝓣 .C #host·registers-of) (C0 𝓤 H A mem run) → Triple 𝓤 (𝓣 .C #audit·finding·finding-lent) (C1 𝓤 H A mem run) → Triple 𝓤 (𝓣 .C #host·tell-finding) (C2 𝓤 H A mem run) → AllWalks 𝓤 H A self.ended stayed (WpFn 𝓤 H (𝓣 .C) (𝓣 .Λ) code.function) (self.clauses 𝓤 H A mem run)
+  self-walks : Triple 𝓤 (𝓣 .C #numbers·registers-of) (C0 𝓤 H A mem run) → Triple 𝓤 (𝓣 .C #audit·finding·finding-lent) (C1 𝓤 H A mem run) → Triple 𝓤 (𝓣 .C #numbers·tell-finding) (C2 𝓤 H A mem run) → AllWalks 𝓤 H A self.ended stayed (WpFn 𝓤 H (𝓣 .C) (𝓣 .Λ) code.function) (self.clauses 𝓤 H A mem run)
   self-walks known-0 known-1 known-2 = walked 𝓤 H A self.ended stayed (self.clauses 𝓤 H A mem run) (WpFn 𝓤 H (𝓣 .C) (𝓣 .Λ) code.function) (λ κs. (ptr-vals, (ptr-vals, (slice-vals, (uint-vals w32, (slice-vals, (ptr-vals, (uint-vals w32, (bool-vals, (ptr-vals, tt)))))))))) (λ κs. (shr-tells (named 0) (κs .0) (Array u64 69), (shr-tells (named 1) (κs .1 .0) (Array u64 128), (shr-slice-tells (named 2) (κs .1 .1 .0) u32, (uint-tells w32, (shr-slice-tells (named 3) (κs .1 .1 .1 .0) row-Range.the-row, (shr-tells (named 4) (κs .1 .1 .1 .1 .0) (Array u32 13), (uint-tells w32, (bool-tells, (mut-tells (named 5) (κs .1 .1 .1 .1 .1 .0) (Array u32 10), tt))))))))))
       (λ κs qs bounds a g are. via 𝓤 _ (fst∗ 𝓤 _ (emp 𝓤)) (walk 𝓤 H A W mem run (κs .0) (κs .1 .0) (κs .1 .1 .0) (κs .1 .1 .1 .0) (κs .1 .1 .1 .1 .0) (κs .1 .1 .1 .1 .1 .0) (qs .0) (qs .1 .0) (qs .1 .1 .0) (qs .1 .1 .1 .0) (qs .1 .1 .1 .1 .0) (qs .1 .1 .1 .1 .1 .0) (a .0) (a .1 .0) (a .1 .1 .0) (a .1 .1 .1 .0) (a .1 .1 .1 .1 .0) (a .1 .1 .1 .1 .1 .0) (a .1 .1 .1 .1 .1 .1 .0) (a .1 .1 .1 .1 .1 .1 .1 .0) (a .1 .1 .1 .1 .1 .1 .1 .1 .0) (are .0) (are .1 .0) (are .1 .1 .0) (are .1 .1 .1 .0) (are .1 .1 .1 .1 .0) (are .1 .1 .1 .1 .1 .0) (are .1 .1 .1 .1 .1 .1 .0) (are .1 .1 .1 .1 .1 .1 .1 .0) (are .1 .1 .1 .1 .1 .1 .1 .1 .0) 𝓣 known-0 known-1 known-2))
 
-  self-meets : Triple 𝓤 (𝓣 .C #host·registers-of) (C0 𝓤 H A mem run) → Triple 𝓤 (𝓣 .C #audit·finding·finding-lent) (C1 𝓤 H A mem run) → Triple 𝓤 (𝓣 .C #host·tell-finding) (C2 𝓤 H A mem run) → Meets 𝓤 H A self.signature (WpFn 𝓤 H (𝓣 .C) (𝓣 .Λ) code.function) (self.spec 𝓤 H A mem run)
+  self-meets : Triple 𝓤 (𝓣 .C #numbers·registers-of) (C0 𝓤 H A mem run) → Triple 𝓤 (𝓣 .C #audit·finding·finding-lent) (C1 𝓤 H A mem run) → Triple 𝓤 (𝓣 .C #numbers·tell-finding) (C2 𝓤 H A mem run) → Meets 𝓤 H A self.signature (WpFn 𝓤 H (𝓣 .C) (𝓣 .Λ) code.function) (self.spec 𝓤 H A mem run)
   self-meets known-0 known-1 known-2 = walk-meets 𝓤 H A self.ended stayed W (goes-none-ref 𝓤 H A W 6 (0 ∷ []) tt (plain (λ _. (Array u64 69))) yes, (goes-none-ref 𝓤 H A W 6 (1 ∷ []) tt (plain (λ _. (Array u64 128))) yes, (goes-none-slice 𝓤 H A W 6 (2 ∷ []) tt (plain (λ _. u32)) yes, (goes-none 𝓤 H A W 6 (λ _. u32) yes (λ κs x f. refl), (goes-none-slice 𝓤 H A W 6 (3 ∷ []) tt (plain (λ _. row-Range.the-row)) yes, (goes-none-ref 𝓤 H A W 6 (4 ∷ []) tt (plain (λ _. (Array u32 13))) yes, (goes-none 𝓤 H A W 6 (λ _. u32) yes (λ κs x f. refl), (goes-none 𝓤 H A W 6 (λ _. Boolean) yes (λ κs x f. refl), (goes-ref 𝓤 H A W 6 5 tt (plain (λ _. (Array u32 10))), tt))))))))) (self.clauses 𝓤 H A mem run) (WpFn 𝓤 H (𝓣 .C) (𝓣 .Λ) code.function) (WpFn-mono 𝓤 H (W .laws) 𝓣 code.function) (self-walks known-0 known-1 known-2)
 
 pub mmu-finding-spec : {M : Type 1} → stated.statement M
 unfolding code.routine tablesOf
 mmu-finding-spec 𝓤 H 𝓜 𝓖 𝓡 =
     entered 𝓤 H (tripleOf 𝓤 H (𝓖 .A) self.signature (self.spec 𝓤 H (𝓖 .A) (𝓜 .mem) (𝓡 .run)))
-    (tables 𝓤 H 𝓜 𝓡 code.env .C) (tables 𝓤 H 𝓜 𝓡 code.env .Λ) #host·mmu-finding code.function (code.unfolded 𝓤 H 𝓜 𝓡)
+    (tables 𝓤 H 𝓜 𝓡 code.env .C) (tables 𝓤 H 𝓜 𝓡 code.env .Λ) #host-audit·mmu-finding code.function (code.unfolded 𝓤 H 𝓜 𝓡)
     (self-meets 𝓤 H (𝓖 .A) (givenOf 𝓤 H 𝓜 𝓖) (𝓜 .mem) (𝓡 .run) (tablesOf 𝓤 H 𝓜 (tables 𝓤 H 𝓜 𝓡 code.env))
-    (cited 𝓤 H (C0 𝓤 H (𝓖 .A) (𝓜 .mem) (𝓡 .run)) 𝓜 𝓡 code.env #host·registers-of c0-def.routine code.calls-host·registers-of (c0-thm.met 𝓤 H 𝓜 𝓖 𝓡))
+    (cited 𝓤 H (C0 𝓤 H (𝓖 .A) (𝓜 .mem) (𝓡 .run)) 𝓜 𝓡 code.env #numbers·registers-of c0-def.routine code.calls-numbers·registers-of (c0-thm.met 𝓤 H 𝓜 𝓖 𝓡))
     (cited 𝓤 H (C1 𝓤 H (𝓖 .A) (𝓜 .mem) (𝓡 .run)) 𝓜 𝓡 code.env #audit·finding·finding-lent c1-def.routine code.calls-audit·finding·finding-lent (c1-thm.met 𝓤 H 𝓜 𝓖 𝓡))
-    (cited 𝓤 H (C2 𝓤 H (𝓖 .A) (𝓜 .mem) (𝓡 .run)) 𝓜 𝓡 code.env #host·tell-finding c2-def.routine code.calls-host·tell-finding (c2-thm.met 𝓤 H 𝓜 𝓖 𝓡)))
+    (cited 𝓤 H (C2 𝓤 H (𝓖 .A) (𝓜 .mem) (𝓡 .run)) 𝓜 𝓡 code.env #numbers·tell-finding c2-def.routine code.calls-numbers·tell-finding (c2-thm.met 𝓤 H 𝓜 𝓖 𝓡)))
