@@ -9,7 +9,7 @@ use Rattle.definition.specs.Translate.{Caches, emptyCaches, translate, cacheles
 use Rattle.definition.specs.Load.{load}
 use Rattle.definition.specs.Audit.{audit}
 use Rattle.definition.specs.Calls.{Call, calling}
-use Rattle.definition.specs.Replay.{Moment, memoryAt, afterAll, answersFrom, watchedOf, walksOf, In, Steady, Accepted, CleanSnapshot, Since}
+use Rattle.definition.proofs.Replay.{Moment, memoryAt, afterAll, answersFrom, watchedOf, walksOf, In, Steady, Accepted, CleanSnapshot, Since}
 use Rattle.definition.specs.declared.Registers.{Registers}
 use Rattle.definition.specs.declared.Access.{Access}
 use Rattle.definition.specs.declared.Audit.{Audit}

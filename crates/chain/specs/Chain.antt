@@ -10,7 +10,7 @@ use Rattle.definition.specs.Load.{load}
 use Rattle.definition.specs.Flush.{flushAll, flushCode, flushPage, flushFrame}
 use Rattle.definition.specs.Calls as calls
 use Rattle.definition.specs.Calls.{Call}
-use Rattle.definition.specs.Replay.{Moment, watched, other}
+use Rattle.definition.proofs.Replay.{Moment, watched, other}
 use Rattle.definition.specs.declared.Registers.{Registers}
 use Rattle.definition.specs.declared.Access.{Access}
 use Rattle.definition.specs.declared.Translation.{Translation}

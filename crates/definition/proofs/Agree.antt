@@ -5,7 +5,7 @@ use mathlib.Core.List.{List}
 use mathlib.Core.Bool.{Bool}
 use Rattle.definition.specs.Words.{if_then_else_}
 use Rattle.definition.specs.Memory.{Memory, fetchOf}
-use Rattle.definition.specs.Replay.{In}
+use Rattle.definition.proofs.Replay.{In}
 use Rattle.definition.proofs.Choice.{if-given}
 
 -- the two memories give the same, value or bus error, at each address of l

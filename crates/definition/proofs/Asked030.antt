@@ -8,7 +8,7 @@ use lib.Dec.{leb, ltb, eqb}
 use Rattle.definition.specs.Memory.{Memory, fetchOf}
 use Rattle.definition.specs.Registers.{rootOf}
 use Rattle.definition.specs.Walk030.{entryOf, shortOf, onSecond, longOf, readOf, Step, stepsOf, Found, Outcome, longsAt, asking, deeper, guarded, onTarget, onTable, onDescriptor, walkFrom, start, walkSteps, walk030}
-use Rattle.definition.specs.Replay.{In}
+use Rattle.definition.proofs.Replay.{In}
 use Rattle.definition.specs.declared.Fetched.{Fetched}
 use Rattle.definition.specs.declared.Fetched.the-variants.{Long, Failed}
 use Rattle.definition.specs.declared.Descriptor.{Descriptor}

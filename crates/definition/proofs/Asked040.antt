@@ -8,7 +8,7 @@ use lib.Dec.{ltb, eqb}
 use Rattle.definition.specs.Words.{bitOf}
 use Rattle.definition.specs.Memory.{Memory, fetchOf}
 use Rattle.definition.specs.Walk040.{Outcome040, onLong, asks, rootAt, pointerAt, pageAt, onPage, onEntry, onPointer, onRoot, walk040}
-use Rattle.definition.specs.Replay.{In}
+use Rattle.definition.proofs.Replay.{In}
 use Rattle.definition.specs.declared.Fetched.{Fetched}
 use Rattle.definition.specs.declared.Fetched.the-variants.{Long, Failed}
 use Rattle.definition.specs.declared.FaultCause.the-variants as cause

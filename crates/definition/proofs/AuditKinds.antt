@@ -18,7 +18,7 @@ use Rattle.definition.specs.Flush.{flushPage}
 use Rattle.definition.specs.Audit.{stale030, stale040, auditFamily, auditFrom, audit, finding}
 use Rattle.definition.specs.Calls.{access, flushingPage, calling}
 use Rattle.definition.specs.Trace.{Record, Loads, Calls, Stores, memoryOf, stepOf}
-use Rattle.definition.specs.Records.{keptAfter, warmed, auditOf}
+use Rattle.definition.proofs.Marked.{keptAfter, warmed, auditOf}
 use Rattle.definition.specs.declared.Audit.{Audit}
 use Rattle.definition.specs.declared.FaultCause.the-variants as cause
 use Rattle.definition.specs.declared.FaultKind.the-variants as kind

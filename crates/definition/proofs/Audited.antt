@@ -22,7 +22,7 @@ use Rattle.definition.specs.Refusal.{refusalOf}
 use Rattle.definition.specs.Translate.{Caches, Translated, baseOf, hitAddress, joined, onHit030, with030, translate030, onHit040, translate040, inOrder, translate, cacheless}
 use Rattle.definition.specs.Probe.{probed, probe030, probe040, probeInOrder, probeChecks, probe}
 use Rattle.definition.specs.Audit.{firstOfPage, foundFor030, isAccessCode, isEnd030, stale030, foundFor040, isEnd040, stale040, firstStale030, auditFamily, auditChecks, auditFrom, audit, bare, plainAccess}
-use Rattle.definition.specs.Replay.{Moment, memoryAt, afterAll, answersFrom, watchedOf, walksOf, In, Steady, Accepted, CleanSnapshot, Since}
+use Rattle.definition.proofs.Replay.{Moment, memoryAt, afterAll, answersFrom, watchedOf, walksOf, In, Steady, Accepted, CleanSnapshot, Since}
 use Rattle.definition.specs.declared.Access.{Access}
 use Rattle.definition.specs.declared.Audit.{Audit}
 use Rattle.definition.specs.declared.End.{End}

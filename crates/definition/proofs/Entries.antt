@@ -19,7 +19,7 @@ use Rattle.definition.specs.Translate.{Caches, emptyCaches, Translated, 
 use Rattle.definition.specs.Load.{Loaded, stopped, loadInOrder, loadChecks, load}
 use Rattle.definition.specs.Flush.{Flushed, flushChecks, flushUnless, flushAll, flushCode, flushPage, flushFrame}
 use Rattle.definition.specs.Calls.{Call, access, loading, testing, probing, flushingAll, flushingCode, flushingPage, flushingFrame, calling}
-use Rattle.definition.specs.Replay.{Moment, watched, other, memoryAt, after, afterAll, In}
+use Rattle.definition.proofs.Replay.{Moment, watched, other, memoryAt, after, afterAll, In}
 use Rattle.definition.specs.declared.Registers.{Registers}
 use Rattle.definition.specs.declared.Access.{Access}
 use Rattle.definition.specs.declared.End040.{End040}

@@ -19,7 +19,7 @@ use Rattle.definition.specs.Refusal.{refusalOf, badCache}
 use Rattle.definition.specs.Translate.{Caches, emptyCaches, Translated, concluded030, search030, translate030, concluded040, translate040, inOrder, translateChecks, translate, cacheless}
 use Rattle.definition.specs.Flush.{flushAll}
 use Rattle.definition.specs.Audit.{isAccessCode}
-use Rattle.definition.specs.Replay.{Moment, watched, other, memoryAt, after, afterAll, answersFrom, answers, watchedOf, walksOf, In, Steady, Accepted}
+use Rattle.definition.proofs.Replay.{Moment, watched, other, memoryAt, after, afterAll, answersFrom, answers, watchedOf, walksOf, In, Steady, Accepted}
 use Rattle.definition.specs.declared.Registers.{Registers}
 use Rattle.definition.specs.declared.Access.{Access}
 use Rattle.definition.specs.declared.Translation.{Translation}

@@ -3,6 +3,8 @@ pub mod AuditKinds
 pub mod Refusals
 pub mod Choice
 pub mod Lists
+pub mod Replay
+pub mod Marked
 pub mod Agree
 pub mod Asked030
 pub mod Page030
@@ -20,4 +22,5 @@ pub mod Audited
 pub mod Stale
 pub mod Reached
 pub mod Records
+pub mod Files
 pub mod Witness

@@ -9,7 +9,7 @@ use native.Mathlib.Omega.{arith}
 use native.Mathlib.Decide.{decLe}
 use lib.ListN.{length, getD, set, replicate, List·getD-eq-default}
 use Rattle.definition.specs.Words.{if_then_else_, allOf, firstOf}
-use Rattle.definition.specs.Replay.{In}
+use Rattle.definition.proofs.Replay.{In}
 
 -- ---- one of them
 pub in-left : {X : Type 0} (x : X) (l r : List X) → In x l → In x (l ++ r)

@@ -14,13 +14,13 @@ use lib.Pow.{split}
 use lib.ListN.{length, getD, set, replicate}
 use Rattle.definition.specs.Words.{if_then_else_, bitOf, firstOf}
 use Rattle.definition.specs.Registers.{on}
-use Rattle.definition.specs.Memory.{Memory, inRanges, inside, fetchOf, Longs32}
+use Rattle.definition.specs.Memory.{Memory, inRanges, inside, fetchOf}
 use Rattle.definition.specs.Walk040.{Outcome040, onLong, rootAt, pointerAt, pageAt, onPage, onEntry, walk040, pageBits, frameOf}
 use Rattle.definition.specs.Cache030.{Entry, Cache030, noEntry, empty030, matches, matching, stamped, rested, touched, found, afterHit, dropped, shifted, victim, inserted, dropIf}
 use Rattle.definition.specs.Cache040.{Slot, Cache040, empty040}
 use Rattle.definition.specs.Translate.{Caches}
 use Rattle.definition.specs.Audit.{firstOfPage, auditFrom}
-use Rattle.definition.specs.Replay.{Reached, start, then-call}
+use Rattle.definition.proofs.Replay.{Reached, start, then-call, Longs32}
 use Rattle.definition.specs.declared.Audit.{Audit}
 use Rattle.definition.specs.declared.Registers.{Registers}
 use Rattle.definition.specs.declared.Fetched.{Fetched}

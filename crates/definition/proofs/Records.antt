@@ -1,14 +1,13 @@
 -- A trace's records, from the program's first state: none is refused by check 4, and they are a replay in the sense of demand 3.
 -- Assumes nothing but what the statements say.
-use Prim.Native.Nat.{ℕ, zero, suc}
+use Prim.Native.Nat.{ℕ}
 use mathlib.Core.Path.{_≡_, refl, ap, sym, _∙_}
-use mathlib.Core.List.{List, [], _∷_, _++_, map, append-assoc}
+use mathlib.Core.List.{List, [], _∷_, _++_, map}
 use mathlib.Core.Bool.{Bool, true, false}
 use mathlib.Core.Logic.{inl, inr}
 use native.Mathlib.Omega.{arith}
 use lib.Dec.{eqb}
 use lib.ListN.{length}
-use Rattle.definition.specs.Words.{if_then_else_}
 use Rattle.definition.specs.Memory.{Memory}
 use Rattle.definition.specs.Refusal.{Checks, refusalOf, badCache}
 use Rattle.definition.specs.Translate.{Caches, translateChecks, translate}
@@ -18,9 +17,9 @@ use Rattle.definition.specs.Probe.{probeChecks, probe}
 use Rattle.definition.specs.Flush.{Flushed, flushUnless, flushAll, flushCode, flushPage, flushFrame}
 use Rattle.definition.specs.Audit.{audit}
 use Rattle.definition.specs.Calls.{Call, access, loading, testing, probing, flushingAll, flushingCode, flushingPage, flushingFrame, Line, R, translationLine, flushLine, calling}
-use Rattle.definition.specs.Trace.{Record, Loads, Calls, Stores, Adds, Malformed, recordOf, State, memoryOf, Played, keeping, malformedLine, stepOf, text, newline, firstState, isMalformed, Front, Ended, Body, Short, frontOf, ending, onFront, playFrom, play}
-use Rattle.definition.specs.Replay.{Moment, after, afterAll, answersFrom, watchedOf, walksOf, In, Steady, Accepted, CleanSnapshot, Since}
-use Rattle.definition.specs.Records.{linesFrom, keptAfter, warmed, Marked, watching, plainly, recordIn, momentIn, momentsOf, isCall, Under, uncounted, watchedLines, prints, inFront, recordsFrom, recordsOf, texts}
+use Rattle.definition.specs.Trace.{Record, Loads, Calls, Stores, Adds, Malformed, State, memoryOf, Played, keeping, stepOf, firstState, linesFrom}
+use Rattle.definition.proofs.Replay.{Moment, after, afterAll, answersFrom, watchedOf, walksOf, In, Steady, Accepted, CleanSnapshot, Since}
+use Rattle.definition.proofs.Marked.{keptAfter, warmed, Marked, watching, plainly, recordIn, momentIn, momentsOf, isCall, Under, uncounted, watchedLines, prints}
 use Rattle.definition.specs.declared.Registers.{Registers}
 use Rattle.definition.specs.declared.Access.{Access}
 use Rattle.definition.specs.declared.Audit.{Audit}
@@ -46,7 +45,7 @@ step-fit s (Stores address value) h = kept-fit _ s _ h h
 step-fit s (Adds range) h = kept-fit _ s _ h h
 step-fit s Malformed h = h
 
-the-number : (n k : ℕ) → k ∷ [] ≡ numbers n → k ≡ n
+pub the-number : (n k : ℕ) → k ∷ [] ≡ numbers n → k ≡ n
 the-number n k = if-both (λ (l : List ℕ). k ∷ [] ≡ l → k ≡ n) (eqb n 0) [] (n ∷ []) (λ e. absurd (no-number e)) (λ e. cc)
   where
     no-number : k ∷ [] ≡ [] → ⊥
@@ -240,48 +239,3 @@ warmed-independent g warm warm′ l l′ e e′ u u′ w since since′ s t =
     prints-alike g (warmed warm) (warmed warm′) l l′ u u′
     (clean-independence g (memoryOf (warmed warm)) (memoryOf (warmed warm′)) (warmed warm .caches) (warmed warm′ .caches)
     (warmed-snapshot g warm e) (warmed-snapshot g warm′ e′) (momentsOf (warmed warm) l) (momentsOf (warmed warm′) l′) w since since′ s t)
-
--- ---- a file's records
--- the bytes are the lines of the records, and then `end`, refusal 7, or nothing where `most` is used up
-pub record Lines (s : State) (l : List Record) (b : List ℕ) : Type 0 where
-  pub last : List ℕ
-  pub one : In last (ending ∷ text malformedLine ∷ [] ∷ [])
-  pub is : b ≡ texts (linesFrom s l) ++ last
-
-lines-more : (s : State) (r : Record) (l : List Record) (b : List ℕ) → Lines (stepOf s r .state) l b → Lines s (r ∷ l) (text (stepOf s r .line) ++ b)
-unfolding linesFrom
-lines-more s r l b k =
-    record {
-      last = k .last;
-      one = k .one;
-      is =
-          ap (λ (x : List ℕ). text (stepOf s r .line) ++ x) (k .is)
-          ∙ sym (append-assoc (text (stepOf s r .line)) (texts (linesFrom (stepOf s r .state) l)) (k .last));
-    }
-
-lines-last : (s : State) (last : List ℕ) → In last (ending ∷ text malformedLine ∷ [] ∷ []) → Lines s [] last
-unfolding linesFrom
-lines-last s last i = record { last = last; one = i; is = refl }
-
-module _ (s : State) (records : List ℕ → List Record) (plays : State → List ℕ → List ℕ)
-    (lines : (t : State) (rest : List ℕ) → Lines t (records rest) (plays t rest)) where
-  on-record : (bad : Bool) (r : Record) (rest : List ℕ)
-      → Lines s (if bad then [] else r ∷ records rest) (if bad then text malformedLine else text (stepOf s r .line) ++ plays (stepOf s r .state) rest)
-  on-record true r rest = lines-last s (text malformedLine) (inr (inl refl))
-  on-record false r rest = lines-more s r (records rest) (plays (stepOf s r .state) rest) (lines (stepOf s r .state) rest)
-
-  on-front : (f : Front) → Lines s (inFront records f) (onFront s plays f)
-  on-front Ended = lines-last s ending (inl refl)
-  on-front (Body body rest) = on-record (isMalformed (recordOf body)) (recordOf body) rest
-  on-front Short = lines-last s (text malformedLine) (inr (inl refl))
-
-plays-from : (most : ℕ) (s : State) (b : List ℕ) → Lines s (recordsFrom most b) (playFrom most s b)
-unfolding recordsFrom playFrom
-plays-from zero s b = lines-last s [] (inr (inr (inl refl)))
-plays-from (suc most) s b =
-    on-front s (λ rest. recordsFrom most rest) (λ t rest. playFrom most t rest) (λ t rest. plays-from most t rest) (frontOf b)
-
--- a file prints v1 and the lines of its records, from the first state
-pub file-lines : (b : List ℕ) → (out : List ℕ) × ((play (1 ∷ b) ≡ 118 ∷ 49 ∷ newline ++ out) × Lines firstState (recordsOf b) out)
-unfolding play
-file-lines b = (playFrom (suc (length b)) firstState b, (refl, plays-from (suc (length b)) firstState b))

@@ -24,7 +24,7 @@ use Rattle.definition.specs.Flush.{Flushed, flushed, flushUnless, flushA
 use Rattle.definition.specs.Audit.{firstStale030, firstStale040, auditFamily, auditChecks, auditFrom, findingFamily, finding}
 use Rattle.definition.specs.Calls.{Call, access, loading, testing, probing, flushingAll, flushingCode, flushingPage, flushingFrame, Line, A, F, L, T, K, N, R, translationLine, loadLine, testLine, probeLine, flushLine, calling}
 use Rattle.definition.specs.Trace.{Record, Loads, Calls, Stores, Adds, Malformed, State, memoryOf, Played, played, keeping, stepOf}
-use Rattle.definition.specs.Replay.{In}
+use Rattle.definition.proofs.Replay.{In}
 use Rattle.definition.specs.declared.Registers.{Registers}
 use Rattle.definition.specs.declared.Access.{Access}
 use Rattle.definition.specs.declared.Shift.{Shift}

@@ -18,7 +18,7 @@ use Rattle.definition.specs.Cache040.{noSlot}
 use Rattle.definition.specs.Refusal.{refusalOf}
 use Rattle.definition.specs.Translate.{Caches}
 use Rattle.definition.specs.Audit.{firstFrom, stale030, firstStale030, stale040, firstStale040, named, auditFamily, auditChecks, auditFrom}
-use Rattle.definition.specs.Replay.{In}
+use Rattle.definition.proofs.Replay.{In}
 use Rattle.definition.specs.declared.Audit.{Audit}
 use Rattle.definition.specs.declared.Audit.the-variants as audit′
 use Rattle.definition.specs.declared.Registers.{Registers}

@@ -17,9 +17,9 @@ use Rattle.definition.specs.Translate.{emptyCaches, search030, translate
 use Rattle.definition.specs.Load.{loadInOrder, load}
 use Rattle.definition.specs.Flush.{flushFrame}
 use Rattle.definition.specs.Calls.{access, loading, testing, flushingFrame, A, L, K, translationLine, calling}
-use Rattle.definition.specs.Trace.{Loads, Calls, Stores, Adds, memoryOf, stepOf, firstState}
-use Rattle.definition.specs.Replay.{Moment, watched, other, memoryAt, afterAll, answersFrom, answers, watchedOf, walksOf, Steady, Accepted, Since}
-use Rattle.definition.specs.Records.{linesFrom, keptAfter, warmed, Marked, watching, plainly, recordIn, momentsOf, Under, prints}
+use Rattle.definition.specs.Trace.{Loads, Calls, Stores, Adds, memoryOf, stepOf, firstState, linesFrom}
+use Rattle.definition.proofs.Replay.{Moment, watched, other, memoryAt, afterAll, answersFrom, answers, watchedOf, walksOf, Steady, Accepted, Since}
+use Rattle.definition.proofs.Marked.{keptAfter, warmed, Marked, watching, plainly, recordIn, momentsOf, Under, prints}
 use Rattle.definition.specs.declared.Registers.{Registers}
 use Rattle.definition.specs.declared.Access.{Access}
 use Rattle.definition.specs.declared.Override.{Override}

@@ -16,5 +16,3 @@ pub mod Flush
 pub mod Audit
 pub mod Calls
 pub mod Trace
-pub mod Replay
-pub mod Records

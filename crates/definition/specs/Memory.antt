@@ -1,5 +1,5 @@
 -- Document 01, 'What a call is given': table memory, and what asking for one long gives.
-use Prim.Native.Nat.{ℕ, _+_, _-_, _/_, _%_, _^_, _<_}
+use Prim.Native.Nat.{ℕ, _+_, _-_, _/_, _%_}
 use mathlib.Core.List.{List}
 use mathlib.Core.Bool.{Bool, not, _&&_, _||_}
 use lib.ListN.{length, getD}
@@ -41,7 +41,3 @@ fetchWith longs base at hit =
 
 abbrev pub fetchOf : Memory → ℕ → Fetched
 fetchOf m at = fetchWith (m .longs) (m .base) at (inRanges (m .ranges) at)
-
--- 'longs', of 32 bits each
-pub record Longs32 (m : Memory) : Type 0 where
-  pub each : (k : ℕ) → getD (m .longs) k 0 < 2 ^ 32

@@ -50,9 +50,13 @@ badFrame frame = leb (2 ^ 20) frame
 abbrev pub not030 : ℕ → Bool
 not030 family = eqb family 40 || eqb family 60
 
+-- how many ranges the program keeps
+abbrev pub mostRanges : ℕ
+mostRanges = 16
+
 -- 8: 'program: a seventeenth range'
 abbrev pub noRoom : List Range → Bool
-noRoom ranges = leb 16 (length ranges)
+noRoom ranges = leb mostRanges (length ranges)
 
 -- what applies to a call, by number. 'Only checks on what a call takes apply to it': the others are false
 pub record Checks : Type 0 where

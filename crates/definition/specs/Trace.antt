@@ -248,16 +248,13 @@ firstRegisters =
 abbrev pub firstState : State
 firstState = record { registers = firstRegisters; longs = replicate 8192 0; ranges = []; caches = emptyCaches }
 
+-- ---- the records of a file
 abbrev pub isMalformed : Record → Bool
 isMalformed (Loads g) = false
 isMalformed (Calls call) = false
 isMalformed (Stores address value) = false
 isMalformed (Adds range) = false
 isMalformed Malformed = true
-
--- 'Refusal 7 .. comes first in its record, after the lines before it, and stops the run without `end`'
-abbrev pub goesOn : State → Record → (State → List ℕ) → List ℕ
-goesOn s r next = if isMalformed r then text malformedLine else text (stepOf s r .line) ++ next (stepOf s r .state)
 
 -- what stands at the front of the bytes: nothing, a record's body with the bytes after it, or less than a record
 pub data Front : Type 0 where
@@ -274,22 +271,52 @@ frontOf (high ∷ low ∷ rest) =
     then Body (take (high * 256 + low) rest) (drop (high * 256 + low) rest)
     else Short
 
--- the last line of a file that ends after a record: `end`
+-- the record at the front and those after it, which begin so many bytes behind its first. A malformed one 'stops the run': none comes after it
+abbrev pub fromFront : (ℕ → List Record) → Front → List Record
+fromFront next Ended = []
+fromFront next (Body body rest) =
+    if isMalformed (recordOf body) then Malformed ∷ [] else recordOf body ∷ next (suc (length body))
+fromFront next Short = Malformed ∷ []
+
+-- the records of the bytes, of which the first `skip` belong to the record before
+unfoldable pub recordsAfter : ℕ → List ℕ → List Record
+recordsAfter skip [] = []
+recordsAfter (suc skip) (byte ∷ b) = recordsAfter skip b
+recordsAfter zero (byte ∷ b) = fromFront (λ (skip : ℕ). recordsAfter skip b) (frontOf (byte ∷ b))
+
+-- the records of a file's bytes, after its version byte: up to its end, or to the first that is short or malformed
+abbrev pub recordsOf : List ℕ → List Record
+recordsOf b = recordsAfter 0 b
+
+-- ---- what a file prints
+-- the lines that records print, one after the other from a state
+unfoldable pub linesFrom : State → List Record → List Line
+linesFrom s [] = []
+linesFrom s (r ∷ rest) = stepOf s r .line ∷ linesFrom (stepOf s r .state) rest
+
+-- as bytes
+abbrev pub texts : List Line → List ℕ
+texts [] = []
+texts (line ∷ lines) = text line ++ texts lines
+
+-- the last line, `end`
 abbrev pub ending : List ℕ
 ending = 101 ∷ 110 ∷ 100 ∷ newline
 
-abbrev pub onFront : State → (State → List ℕ → List ℕ) → Front → List ℕ
-onFront s next Ended = ending
-onFront s next (Body body rest) = goesOn s (recordOf body) (λ (t : State). next t rest)
-onFront s next Short = text malformedLine
+-- 'Refusal 7 .. comes first in its record, after the lines before it, and stops the run without `end`'
+abbrev pub endingOf : List Record → List ℕ
+endingOf [] = ending
+endingOf (r ∷ rest) = if isMalformed r then [] else endingOf rest
 
--- at most `most` records; a record takes two bytes or more, so the number of bytes is enough
-unfoldable pub playFrom : ℕ → State → List ℕ → List ℕ
-playFrom zero s b = []
-playFrom (suc most) s b = onFront s (λ t rest. playFrom most t rest) (frontOf b)
+-- what the bytes of records print from a state
+unfoldable pub playFrom : State → List ℕ → List ℕ
+playFrom s b = texts (linesFrom s (recordsOf b)) ++ endingOf (recordsOf b)
 
--- 'The file .. starts with version byte 1.' '`v1` follows a good version byte.'
+-- '`v1` follows a good version byte.'
+abbrev pub opening : List ℕ
+opening = 118 ∷ 49 ∷ newline
+
+-- 'The file .. starts with version byte 1.'
 unfoldable pub play : List ℕ → List ℕ
 play [] = text malformedLine
-play (version ∷ rest) =
-    if eqb version 1 then 118 ∷ 49 ∷ newline ++ playFrom (suc (length rest)) firstState rest else text malformedLine
+play (version ∷ b) = if eqb version 1 then opening ++ playFrom firstState b else text malformedLine

@@ -1,5 +1,5 @@
 -- A run: what stands at a place of the buffer, one record more, and why it stops. Assumes nothing.
-use Prim.Native.Nat.{ℕ, zero, suc, _+_, _-_, _*_, _≤_, _<_}
+use Prim.Native.Nat.{ℕ, suc, _+_, _-_, _*_, _≤_, _<_}
 use mathlib.Core.Path.{_≡_, refl, ap, sym, subst, _∙_}
 use mathlib.Core.List.{List, [], _∷_, _++_, append-assoc}
 use mathlib.Core.Bool.{Bool, true, false}
@@ -12,8 +12,8 @@ use lib.Dec.{leb}
 use lib.ListN.{length, getD, take, drop, length-drop}
 use lib.Seq.{drop-cons, drop-drop}
 use Rattle.definition.specs.Words.{if_then_else_}
-use Rattle.definition.specs.Calls as calls
-use Rattle.definition.specs.Trace.{State, Front, Body, Short, Ended, frontOf, Record, Calls, Malformed, recordOf, isMalformed, stepOf, text, newline, goesOn, onFront, playFrom}
+use Rattle.definition.specs.Trace.{State, Front, Body, Short, Ended, frontOf, Record, Calls, Malformed, recordOf, isMalformed, stepOf, text, playFrom}
+use Rattle.definition.proofs.Files.{plays-on}
 use Rattle.trace.specs.Lines.{lineIn, Wrote}
 use Rattle.trace.specs.Records.{callIn, settingIn, recordIn}
 use Rattle.trace.specs.declared.Line.{Line}
@@ -132,47 +132,7 @@ module _ (s : State) (b out : List ℕ) (s′ : State) {read wrote : ℕ} {out�
       record { going = g; stops = record { body = take (end - start) (drop start b); after = drop end b; is = f .front; bad = sym (ap isMalformed e) } }
 
 -- ---- runs are the definition's: what is left plays on from where they stopped
-abbrev pub plays : State → List ℕ → List ℕ
-plays s b = playFrom (suc (length b)) s b
-
-shorter : (b body rest : List ℕ) → frontOf b ≡ Body body rest → length rest < length b
-unfolding frontOf
-shorter [] body rest e = let z : _≡_ {A = ℕ} 0 1 = cc in omega arith
-shorter (x ∷ []) body rest e = let z : _≡_ {A = ℕ} 0 1 = cc in omega arith
-shorter (high ∷ low ∷ l) body rest e = go (leb (high * 256 + low) (length l)) e
-  where
-    same : (r : List ℕ) (x : List ℕ) → Body x r ≡ Body body rest → r ≡ rest
-    same r x e = cc
-
-    go : (c : Bool) → (if c then Body (take (high * 256 + low) l) (drop (high * 256 + low) l) else Short) ≡ Body body rest → length rest < length (high ∷ low ∷ l)
-    go true e = omega (arith, ap length (same (drop (high * 256 + low) l) (take (high * 256 + low) l) e), length-drop (high * 256 + low) l)
-    go false e = let z : _≡_ {A = ℕ} 0 1 = cc in omega arith
-
--- any bound above the number of bytes gives the same
-enough : (n m : ℕ) (s : State) (b : List ℕ) → length b < n → length b < m → playFrom n s b ≡ playFrom m s b
-unfolding playFrom
-enough zero m s b h k = absurd (not-suc-le-zero h)
-enough (suc n) zero s b h k = absurd (not-suc-le-zero k)
-enough (suc n) (suc m) s b h k = go (frontOf b) refl (λ t rest l. enough n m t rest (omega arith) (omega arith))
-  where
-    go : (f : Front) → frontOf b ≡ f → ((t : State) (rest : List ℕ) → length rest < length b → playFrom n t rest ≡ playFrom m t rest)
-        → onFront s (λ t rest. playFrom n t rest) f ≡ onFront s (λ t rest. playFrom m t rest) f
-    go Ended e ih = refl
-    go (Body body rest) e ih =
-        ap (λ (x : List ℕ). if isMalformed (recordOf body) then text (calls.R 7) else text (stepOf s (recordOf body) .line) ++ x)
-        (ih (stepOf s (recordOf body) .state) rest (shorter b body rest e))
-    go Short e ih = refl
-
--- one record of a file that is not malformed prints its line, and the rest plays on
-one-more : (s : State) (b body rest : List ℕ) → frontOf b ≡ Body body rest → isMalformed (recordOf body) ≡ false
-    → plays s b ≡ text (stepOf s (recordOf body) .line) ++ plays (stepOf s (recordOf body) .state) rest
-unfolding playFrom
-one-more s b body rest e m =
-    rw (e, m)
-    (ap (λ (x : List ℕ). text (stepOf s (recordOf body) .line) ++ x)
-    (enough (length b) (suc (length rest)) (stepOf s (recordOf body) .state) rest (shorter b body rest e) (omega arith)))
-
-pub runs-play : (s : State) (b : List ℕ) {t r : List ℕ} {s′ : State} → Runs s b t s′ r → plays s b ≡ t ++ plays s′ r
+pub runs-play : (s : State) (b : List ℕ) {t r : List ℕ} {s′ : State} → Runs s b t s′ r → playFrom s b ≡ t ++ playFrom s′ r
 runs-play s b none = refl
 runs-play s b (more {t} {r} {s′} body rest k e m) =
-    runs-play s b k ∙ ap (λ (x : List ℕ). t ++ x) (one-more s′ r body rest e m) ∙ sym (append-assoc t _ _)
+    runs-play s b k ∙ ap (λ (x : List ℕ). t ++ x) (plays-on s′ r body rest e m) ∙ sym (append-assoc t _ _)

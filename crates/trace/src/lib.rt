@@ -10,7 +10,7 @@ ghost use mathlib.Core.List.{[], _∷_, _++_};
 ghost use lib.Dec.{ltb};
 ghost use lib.ListN.{length, getD};
 ghost use Rattle.definition.specs.Words.{bitOf};
-ghost use Rattle.definition.specs.Trace.{be, overrideOf, kind01, kind02, kind03, kind04, kind05, kind06, kind07, kind08, kind0B, byTraceKind, recordOf, hexDigit, hex, digit, decimal, spaced, newline, text};
+ghost use Rattle.definition.specs.Trace.{be, overrideOf, kind01, kind02, kind03, kind04, kind05, kind06, kind07, kind08, kind0B, byTraceKind, recordOf, hexDigit, hex, digit, decimal, spaced, newline, text, ending, opening};
 ghost use Rattle.trace.specs.Records.{recordIn};
 ghost use Rattle.trace.specs.Lines.{lineIn, Wrote, RoomFor, Put};
 
@@ -517,7 +517,7 @@ pub fn put_line(out: &mut [u8], at: usize, line: Line) -> usize
 // The bytes of the line that follows a good version byte.
 fn version_text(out: &mut [u8], at: usize) -> usize
     requires { ⌜ at + 3 ≤ length (now out) ⌝ }
-    ensures { λ r. ⌜ Wrote 3 (now (out .entry)) at (118 ∷ 49 ∷ newline) (now (out .exit)) r ⌝ }
+    ensures { λ r. ⌜ Wrote 3 (now (out .entry)) at opening (now (out .exit)) r ⌝ }
 {
     let second = put_byte(out, at, b'v');
     let third = put_byte(out, second, b'1');
@@ -526,7 +526,7 @@ fn version_text(out: &mut [u8], at: usize) -> usize
 
 // That line, where it has room.
 pub fn put_version(out: &mut [u8], at: usize) -> usize
-    ensures { λ r. ⌜ Put 3 (now (out .entry)) at (118 ∷ 49 ∷ newline) (now (out .exit)) r ⌝ }
+    ensures { λ r. ⌜ Put 3 (now (out .entry)) at opening (now (out .exit)) r ⌝ }
 {
     if has_room(out, at, 3) {
         return version_text(out, at);
@@ -537,7 +537,7 @@ pub fn put_version(out: &mut [u8], at: usize) -> usize
 // The bytes of the last line of a run that was not stopped.
 fn end_text(out: &mut [u8], at: usize) -> usize
     requires { ⌜ at + 4 ≤ length (now out) ⌝ }
-    ensures { λ r. ⌜ Wrote 4 (now (out .entry)) at (101 ∷ 110 ∷ 100 ∷ newline) (now (out .exit)) r ⌝ }
+    ensures { λ r. ⌜ Wrote 4 (now (out .entry)) at ending (now (out .exit)) r ⌝ }
 {
     let second = put_byte(out, at, b'e');
     let third = put_byte(out, second, b'n');
@@ -547,7 +547,7 @@ fn end_text(out: &mut [u8], at: usize) -> usize
 
 // That line, where it has room.
 pub fn put_end(out: &mut [u8], at: usize) -> usize
-    ensures { λ r. ⌜ Put 4 (now (out .entry)) at (101 ∷ 110 ∷ 100 ∷ newline) (now (out .exit)) r ⌝ }
+    ensures { λ r. ⌜ Put 4 (now (out .entry)) at ending (now (out .exit)) r ⌝ }
 {
     if has_room(out, at, 4) {
         return end_text(out, at);

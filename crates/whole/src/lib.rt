@@ -1,9 +1,8 @@
 // A whole trace in memory, from the state that a replay starts from.
 use replay::run::Why;
 use trace::Line;
-ghost use Prim.Native.Nat.{suc};
 ghost use mathlib.Core.List.{_++_};
-ghost use lib.ListN.{length, take};
+ghost use lib.ListN.{take};
 ghost use Rattle.definition.specs.Trace.{firstState, playFrom, play as Trace·play};
 ghost use Rattle.whole.specs.Shown.{Shows, refused, finished, Closes};
 
@@ -49,7 +48,7 @@ fn last_line(out: &mut [u8], at: usize, why: Why, left: usize) -> Played
 
 // Plays the records of a trace, what comes after its version byte.
 fn play_records(bytes: &[u8], out: &mut [u8]) -> Played
-    ensures { λ r. ⌜ Shows (playFrom (suc (length (now (bytes .entry)))) firstState (now (bytes .entry))) (now (out .exit)) r ⌝ }
+    ensures { λ r. ⌜ Shows (playFrom firstState (now (bytes .entry))) (now (out .exit)) r ⌝ }
 {
     let mut c030 = [0u64; 69];
     let mut c040 = [0u64; 128];

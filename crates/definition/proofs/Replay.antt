@@ -1,9 +1,9 @@
 -- The mission's demand 3: a replay as a list of moments, the run over it, and what 'steady' means.
-use Prim.Native.Nat.{ℕ}
+use Prim.Native.Nat.{ℕ, _^_, _<_}
 use mathlib.Core.Path.{_≡_}
 use mathlib.Core.Logic.{_⊎_}
 use mathlib.Core.List.{List, [], _∷_}
-use lib.ListN.{length}
+use lib.ListN.{length, getD}
 use Rattle.definition.specs.Memory.{Memory, fetchOf}
 use Rattle.definition.specs.Refusal.{refusalOf}
 use Rattle.definition.specs.Translate.{Caches, emptyCaches, translate, translateChecks, cacheless}
@@ -84,3 +84,7 @@ pub record Since (g : Registers) (m : Memory) (l : List Moment) : Type 0 where
 pub data Reached (M : Memory → Type 0) : Caches → Type 0 where
   start : Reached M emptyCaches
   then-call : (g : Registers) (m : Memory) (call : Call) {c : Caches} → M m → Reached M c → Reached M (calling g m c call .caches)
+
+-- a memory for `Reached`: 'longs', of 32 bits each
+pub record Longs32 (m : Memory) : Type 0 where
+  pub each : (k : ℕ) → getD (m .longs) k 0 < 2 ^ 32

@@ -1,25 +1,17 @@
--- Demand 3 of a trace: its records as a replay (specs/Replay.antt), what the watched accesses print, and the records that a file holds.
-use Prim.Native.Nat.{ℕ, zero, suc}
+-- Demand 3 of a trace: its records as a replay (Replay.antt), some of whose accesses are watched, and what these print.
 use mathlib.Core.Path.{_≡_}
 use mathlib.Core.List.{List, [], _∷_, _++_, map}
 use mathlib.Core.Bool.{Bool, true, false}
-use lib.ListN.{length}
-use Rattle.definition.specs.Words.{if_then_else_}
 use Rattle.definition.specs.Memory.{Memory}
 use Rattle.definition.specs.Audit.{audit}
 use Rattle.definition.specs.Calls.{access, Line, A, F, L, T, K, N, R}
-use Rattle.definition.specs.Trace.{Record, Loads, Calls, Stores, Adds, Malformed, recordOf, State, memoryOf, stepOf, firstState, text, isMalformed, Front, Ended, Body, Short, frontOf}
-use Rattle.definition.specs.Replay.{Moment, watched, other}
+use Rattle.definition.specs.Trace.{Record, Loads, Calls, Stores, Adds, Malformed, State, memoryOf, stepOf, firstState, linesFrom}
+use Rattle.definition.proofs.Replay.{Moment, watched, other}
 use Rattle.definition.specs.declared.Registers.{Registers}
 use Rattle.definition.specs.declared.Access.{Access}
 use Rattle.definition.specs.declared.Audit.{Audit}
 
--- ---- records, one after the other
--- the lines that records print, one after the other from a state
-unfoldable pub linesFrom : State → List Record → List Line
-linesFrom s [] = []
-linesFrom s (r ∷ rest) = stepOf s r .line ∷ linesFrom (stepOf s r .state) rest
-
+-- ---- what is kept after records, one after the other
 -- what the program keeps after them
 unfoldable pub keptAfter : State → List Record → State
 keptAfter s [] = s
@@ -86,21 +78,3 @@ watchedLines (plainly r ∷ rest) (line ∷ lines) = watchedLines rest lines
 
 abbrev pub prints : State → List Marked → List Line
 prints s l = watchedLines l (linesFrom s (map recordIn l))
-
--- ---- a file
--- the records of a file's bytes, after its version byte: up to its end, or to the first that is short or malformed
-abbrev pub inFront : (List ℕ → List Record) → Front → List Record
-inFront next Ended = []
-inFront next (Body body rest) = if isMalformed (recordOf body) then [] else recordOf body ∷ next rest
-inFront next Short = []
-
-unfoldable pub recordsFrom : ℕ → List ℕ → List Record
-recordsFrom zero b = []
-recordsFrom (suc most) b = inFront (λ (rest : List ℕ). recordsFrom most rest) (frontOf b)
-
-abbrev pub recordsOf : List ℕ → List Record
-recordsOf b = recordsFrom (suc (length b)) b
-
-abbrev pub texts : List Line → List ℕ
-texts [] = []
-texts (line ∷ lines) = text line ++ texts lines
