@@ -79,9 +79,12 @@ onRoot m tc address root asked =
     then ended040 (Absent cause.PointerA) asked
     else asks m (pointerAt root address) asked (λ pointer asked. onPointer m tc address root pointer asked)
 
+-- from the root table's entry at `first`
+abbrev pub walk040From : Memory → ℕ → ℕ → ℕ → Outcome040
+walk040From m tc first address = asks m first [] (λ root asked. onRoot m tc address root asked)
+
 unfoldable pub walk040 : Memory → Registers → ℕ → Bool → Outcome040
-walk040 m g address supervisor =
-    asks m (rootAt g supervisor address) [] (λ root asked. onRoot m (g .tc) address root asked)
+walk040 m g address supervisor = walk040From m (g .tc) (rootAt g supervisor address) address
 
 -- 'Physical is the page descriptor, its low 12 (or 13) bits replaced by the address's.'
 abbrev pub frameOf : ℕ → ℕ → ℕ

@@ -9,7 +9,7 @@ use lib.Dec.{T, ltb, eqb}
 use lib.ListN.{length, length-append}
 use Rattle.definition.specs.Words.{if_then_else_, bitOf}
 use Rattle.definition.specs.Memory.{Memory, fetchOf}
-use Rattle.definition.specs.Walk040.{Outcome040, ended040, asks, rootAt, pointerAt, pageAt, onPage, onEntry, walk040}
+use Rattle.definition.specs.Walk040.{Outcome040, ended040, asks, rootAt, pointerAt, pageAt, onPage, onEntry, walk040, walk040From}
 use Rattle.definition.specs.declared.Registers.{Registers}
 use Rattle.definition.specs.declared.Fetched.{Fetched}
 use Rattle.definition.specs.declared.Fetched.the-variants.{Long, Failed}
@@ -17,7 +17,7 @@ use Rattle.definition.specs.declared.End040.{End040}
 use Rattle.definition.specs.declared.End040.the-variants.{Resident, Absent, Lost}
 use Rattle.definition.specs.declared.FaultCause.{FaultCause}
 use Rattle.definition.specs.declared.FaultCause.the-variants as cause
-use Rattle.walk040.specs.Walked.{shown040, walk040From}
+use Rattle.walk040.specs.Walked.{shown040}
 use Rattle.walk040.specs.Machine.{begin040, invalid040, missing040, page040, next040, answered040}
 use Rattle.walk040.specs.declared.machine.Level.{Level}
 use Rattle.walk040.specs.declared.machine.Level.the-variants as level

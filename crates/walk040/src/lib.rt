@@ -10,8 +10,8 @@ use memory::longs::fetch;
 use memory::registers::tc_of;
 ghost use mathlib.Core.Path.{_≡_};
 ghost use Rattle.definition.specs.Memory.{memory};
-ghost use Rattle.definition.specs.Walk040.{rootAt, walk040};
-ghost use Rattle.walk040.specs.Walked.{shown040, walk040From};
+ghost use Rattle.definition.specs.Walk040.{rootAt, walk040, walk040From};
+ghost use Rattle.walk040.specs.Walked.{shown040};
 
 // How a 68040 walk ended, and the number of longs asked for.
 pub struct Walked040 {

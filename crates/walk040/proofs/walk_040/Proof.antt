@@ -45,9 +45,10 @@ use types.Part.{agg}
 use types.Match.{vrt, in-variant, look-tag, by-variants}
 use borrow.Enum.Known.{at as variant-at, lives-at}
 use Rattle.memory.proofs.Branching.{leaves-if, as-variant}
+use Rattle.definition.specs.Walk040.{walk040From}
 use Rattle.walk040.proofs.Driving as law
 use Rattle.definition.specs.Memory.{memory}
-use Rattle.walk040.specs.Walked.{shown040, walk040From}
+use Rattle.walk040.specs.Walked.{shown040}
 use Rattle.definition.specs.Words.{bitOf}
 use Rattle.walk040.specs.Machine.{answered040, begin040, invalid040, missing040, next040, page040}
 use Rattle.definition.specs.Memory.{fetchOf}
