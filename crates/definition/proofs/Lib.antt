@@ -21,6 +21,7 @@ pub mod Said
 pub mod Audited
 pub mod Stale
 pub mod Reached
+pub mod Accepting
 pub mod Records
 pub mod Files
 pub mod Witness

@@ -3,7 +3,7 @@ use Prim.Native.Nat.{ℕ, zero, suc, _≤_, _<_, zero-le, suc-le-suc}
 use mathlib.Core.Path.{_≡_, refl}
 use mathlib.Core.List.{List, [], _∷_, _++_, map}
 use mathlib.Core.Bool.{Bool, true, false}
-use mathlib.Core.Logic.{inl, inr}
+use mathlib.Core.Logic.{_⊎_, inl, inr}
 use native.Mathlib.Nat.{le-refl, le-of-suc-le-suc, not-suc-le-zero}
 use native.Mathlib.Omega.{arith}
 use native.Mathlib.Decide.{decLe}
@@ -19,6 +19,15 @@ in-left x (y ∷ l) r (inr i) = inr (in-left x l r i)
 pub in-right : {X : Type 0} (x : X) (l r : List X) → In x r → In x (l ++ r)
 in-right x [] r i = i
 in-right x (y ∷ l) r i = inr (in-right x l r i)
+
+pub in-either : {X : Type 0} (x : X) (l r : List X) → In x (l ++ r) → In x l ⊎ In x r
+in-either x [] r i = inr i
+in-either x (y ∷ l) r (inl e) = inl (inl e)
+in-either x (y ∷ l) r (inr i) = go (in-either x l r i)
+  where
+    go : In x l ⊎ In x r → In x (y ∷ l) ⊎ In x r
+    go (inl i) = inl (inr i)
+    go (inr i) = inr i
 
 -- ---- all of them
 abbrev pub All : {X : Type 0} → (X → Type 0) → List X → Type 0

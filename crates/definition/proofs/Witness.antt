@@ -1,4 +1,4 @@
--- The premises of demand 3 can be met by replays that differ in all else, and hits are what it speaks of: one pair of replays and one of traces, by computation;
+-- The premises of demand 3 can be met by replays that differ in all else, and hits are what it speaks of: a pair of replays, one of traces and one of files, by computation;
 -- and so can those of a run from a clean snapshot.
 -- Assumes nothing.
 use Prim.Native.Nat.{ℕ}
@@ -10,16 +10,17 @@ use Rattle.definition.specs.Words.{anyOf, firstOf}
 use Rattle.definition.specs.Memory.{Memory, memory, fetchOf, touchesOf}
 use Rattle.definition.specs.Transparent.{transparent}
 use Rattle.definition.specs.Walk030.{readOf, widthsOf, walkFrom}
+use Rattle.definition.specs.Walk040.{walk040}
 use Rattle.definition.specs.Cache030.{matching, rested, hitOf, afterHit, shifted, oldest, victim, inserted, flushedPage}
-use Rattle.definition.specs.Cache040.{flushedFrame}
+use Rattle.definition.specs.Cache040.{hit040, inserted040, flushedFrame}
 use Rattle.definition.specs.Refusal.{refusalOf}
-use Rattle.definition.specs.Translate.{emptyCaches, search030, translate030, inOrder, translateChecks, translate, cacheless}
+use Rattle.definition.specs.Translate.{emptyCaches, search030, translate030, translate040, inOrder, translateChecks, translate, cacheless}
 use Rattle.definition.specs.Load.{loadInOrder, load}
 use Rattle.definition.specs.Flush.{flushFrame}
-use Rattle.definition.specs.Calls.{access, loading, testing, flushingFrame, A, L, K, translationLine, calling}
-use Rattle.definition.specs.Trace.{Loads, Calls, Stores, Adds, memoryOf, stepOf, firstState, linesFrom}
+use Rattle.definition.specs.Calls.{access, loading, testing, flushingFrame, A, F, L, K, translationLine, calling}
+use Rattle.definition.specs.Trace.{Loads, Calls, Stores, Adds, recordOf, memoryOf, stepOf, firstState, frontOf, recordsAfter, recordsOf, linesFrom}
 use Rattle.definition.proofs.Replay.{Moment, watched, other, memoryAt, afterAll, answersFrom, answers, watchedOf, walksOf, Steady, Accepted, Since}
-use Rattle.definition.proofs.Marked.{keptAfter, warmed, Marked, watching, plainly, recordIn, momentsOf, Under, prints}
+use Rattle.definition.proofs.Marked.{keptAfter, warmed, Marked, watching, plainly, recordIn, momentsOf, Under, watchedLines, prints}
 use Rattle.definition.specs.declared.Registers.{Registers}
 use Rattle.definition.specs.declared.Access.{Access}
 use Rattle.definition.specs.declared.Override.{Override}
@@ -27,6 +28,7 @@ use Rattle.definition.specs.declared.Translation.the-variants.{Address}
 use Rattle.definition.proofs.Lists.{All, all-at}
 use Rattle.definition.proofs.Independence.{Pair, pairsOf, in-pairs, independence}
 use Rattle.definition.proofs.Records.{traces-independent, warmed-is-cacheless}
+use Rattle.definition.proofs.Files.{linesOf, files-independent}
 use Rattle.definition.proofs.AuditKinds.{mapped, guard-audited}
 use Rattle.definition.proofs.AuditKinds as kinds
 
@@ -200,6 +202,129 @@ printed-alone = refl
 pub printed-among : linesFrom firstState (map recordIn among) ≡ K ∷ K ∷ L 1 ∷ K ∷ K ∷ A 0x56ABC 0 ∷ []
 unfolding linesFrom stepOf calling load loadInOrder flushedPage translate inOrder transparent translate030 search030 hitOf matching firstOf walkFrom readOf widthsOf refusalOf anyOf touchesOf afterHit inserted victim shifted rested oldest
 printed-among = refl
+
+-- ---- the same of two files, of a 68040 with two watched accesses, the second of which faults
+abbrev registers040 : Registers
+registers040 =
+    record {
+      family = 40;
+      present = true;
+      enabled = true;
+      tc = 0x8000;
+      crp = record { limit = 0; address = 0 };
+      srp = record { limit = 0; address = 0 };
+      tt0 = 0;
+      tt1 = 0;
+      itt0 = 0;
+      itt1 = 0;
+      dtt0 = 0;
+      dtt1 = 0;
+    }
+
+-- the three tables lie over each other at 0: the root's entry, the pointer's, a page's; the next page has none
+abbrev brief : List Marked
+brief =
+    plainly (Loads registers040)
+    ∷ plainly (Stores 0 2)
+    ∷ plainly (Stores 4 2)
+    ∷ plainly (Stores 8 0x55001)
+    ∷ watching (reading 0x42ABC)
+    ∷ watching (reading 0x43000)
+    ∷ []
+
+-- the page is read before, another long is stored, a frame is flushed and a bus-error range added
+abbrev long : List Marked
+long =
+    plainly (Stores 0 2)
+    ∷ plainly (Stores 4 2)
+    ∷ plainly (Stores 8 0x55001)
+    ∷ plainly (Loads registers040)
+    ∷ plainly (Calls (access (reading 0x42000)))
+    ∷ plainly (Stores 16 7)
+    ∷ watching (reading 0x42ABC)
+    ∷ plainly (Calls (flushingFrame 0x42))
+    ∷ plainly (Adds (record { first = 0x100; last = 0x1FF }))
+    ∷ watching (reading 0x43000)
+    ∷ []
+
+-- as bytes: registers and the three longs
+abbrev loadedBytes : List ℕ
+loadedBytes = 0 ∷ 47 ∷ 1 ∷ 40 ∷ 3 ∷ 0 ∷ 0 ∷ 128 ∷ 0 ∷ replicate 40 0
+
+abbrev storedBytes : List ℕ
+storedBytes =
+    0 ∷ 9 ∷ 9 ∷ 0 ∷ 0 ∷ 0 ∷ 0 ∷ 0 ∷ 0 ∷ 0 ∷ 2
+    ∷ 0 ∷ 9 ∷ 9 ∷ 0 ∷ 0 ∷ 0 ∷ 4 ∷ 0 ∷ 0 ∷ 0 ∷ 2
+    ∷ 0 ∷ 9 ∷ 9 ∷ 0 ∷ 0 ∷ 0 ∷ 8 ∷ 0 ∷ 5 ∷ 80 ∷ 1
+    ∷ []
+
+abbrev briefBytes : List ℕ
+briefBytes = loadedBytes ++ (storedBytes ++ (0 ∷ 7 ∷ 2 ∷ 16 ∷ 255 ∷ 0 ∷ 4 ∷ 42 ∷ 188 ∷ 0 ∷ 7 ∷ 2 ∷ 16 ∷ 255 ∷ 0 ∷ 4 ∷ 48 ∷ 0 ∷ []))
+
+abbrev longBytes : List ℕ
+longBytes =
+    storedBytes
+    ++ (loadedBytes
+    ++ (0 ∷ 7 ∷ 2 ∷ 16 ∷ 255 ∷ 0 ∷ 4 ∷ 32 ∷ 0
+    ∷ 0 ∷ 9 ∷ 9 ∷ 0 ∷ 0 ∷ 0 ∷ 16 ∷ 0 ∷ 0 ∷ 0 ∷ 7
+    ∷ 0 ∷ 7 ∷ 2 ∷ 16 ∷ 255 ∷ 0 ∷ 4 ∷ 42 ∷ 188
+    ∷ 0 ∷ 5 ∷ 8 ∷ 0 ∷ 0 ∷ 0 ∷ 66
+    ∷ 0 ∷ 9 ∷ 10 ∷ 0 ∷ 0 ∷ 1 ∷ 0 ∷ 0 ∷ 0 ∷ 1 ∷ 255
+    ∷ 0 ∷ 7 ∷ 2 ∷ 16 ∷ 255 ∷ 0 ∷ 4 ∷ 48 ∷ 0
+    ∷ []))
+
+brief-records : map recordIn brief ≡ recordsOf briefBytes
+unfolding recordsAfter frontOf recordOf
+brief-records = refl
+
+long-records : map recordIn long ≡ recordsOf longBytes
+unfolding recordsAfter frontOf recordOf
+long-records = refl
+
+under-brief : Under registers040 firstState brief
+unfolding Under stepOf refusalOf calling
+under-brief = (no-call, (no-call, (no-call, (no-call, ((λ e. refl), ((λ e. refl), tt))))))
+
+under-long : Under registers040 firstState long
+unfolding Under stepOf refusalOf calling
+under-long = (no-call, (no-call, (no-call, (no-call, ((λ e. refl), (no-call, ((λ e. refl), ((λ e. refl), (no-call, ((λ e. refl), tt))))))))))
+
+abbrev calls : List Moment
+calls = momentsOf firstState brief ++ momentsOf firstState long
+
+-- the memory with the three longs, from which the six calls' memories differ in nothing that the two walks ask for
+abbrev three-longs : Memory
+three-longs = memory (set (set (set (replicate 8192 0) 0 2) 1 2) 2 0x55001) 0 []
+
+first-still : All (Alike (0 ∷ 4 ∷ 8 ∷ []) three-longs) calls
+unfolding momentsOf stepOf refusalOf calling anyOf touchesOf
+first-still = ((refl, (refl, (refl, tt))), ((refl, (refl, (refl, tt))), ((refl, (refl, (refl, tt))), ((refl, (refl, (refl, tt))), ((refl, (refl, (refl, tt))), ((refl, (refl, (refl, tt))), tt))))))
+
+second-still : All (Alike (0 ∷ 4 ∷ 12 ∷ []) three-longs) calls
+unfolding momentsOf stepOf refusalOf calling anyOf touchesOf
+second-still = ((refl, (refl, (refl, tt))), ((refl, (refl, (refl, tt))), ((refl, (refl, (refl, tt))), ((refl, (refl, (refl, tt))), ((refl, (refl, (refl, tt))), ((refl, (refl, (refl, tt))), tt))))))
+
+files-steady : Steady registers040 calls
+unfolding momentsOf stepOf calling pairsOf translate inOrder transparent translate040 hit040 walk040 refusalOf anyOf touchesOf
+files-steady = steady-by registers040 calls (first-still, (second-still, (first-still, (second-still, tt))))
+
+files-accepted : Accepted registers040 calls
+unfolding momentsOf stepOf calling pairsOf refusalOf anyOf
+files-accepted = accepted-by registers040 calls (refl, (refl, (refl, (refl, tt))))
+
+pub files-alike : watchedLines brief (linesOf briefBytes) ≡ watchedLines long (linesOf longBytes)
+unfolding momentsOf watchedOf
+files-alike =
+    files-independent registers040 briefBytes longBytes brief long brief-records long-records under-brief under-long refl files-steady files-accepted .0
+
+-- an address and a fault; the second file's first by a hit
+pub printed-brief : linesOf briefBytes ≡ K ∷ K ∷ K ∷ K ∷ A 0x55ABC 3 ∷ F 2 3 0x43000 3 ∷ []
+unfolding recordsAfter frontOf recordOf linesFrom stepOf calling translate inOrder transparent translate040 hit040 inserted040 walk040 refusalOf anyOf touchesOf
+printed-brief = refl
+
+pub printed-long : linesOf longBytes ≡ K ∷ K ∷ K ∷ K ∷ A 0x55000 3 ∷ K ∷ A 0x55ABC 0 ∷ K ∷ K ∷ F 2 3 0x43000 3 ∷ []
+unfolding recordsAfter frontOf recordOf linesFrom stepOf calling flushFrame flushedFrame translate inOrder transparent translate040 hit040 inserted040 walk040 refusalOf anyOf touchesOf
+printed-long = refl
 
 -- ---- from a clean snapshot: README's sample up to its guard warms the caches
 -- another long is stored, and then the page is read again
