@@ -7,12 +7,10 @@ use mathlib.Core.Logic.{inl, inr}
 use lib.Dec.{leb, ltb, eqb}
 use Rattle.definition.specs.Memory.{Memory, fetchOf}
 use Rattle.definition.specs.Registers.{rootOf}
-use Rattle.definition.specs.Walk030.{entryOf, shortOf, onSecond, longOf, readOf, Step, stepsOf, Found, Outcome, longsAt, asking, deeper, guarded, onTarget, onTable, onDescriptor, walkFrom, start, walkSteps, walk030}
+use Rattle.definition.specs.Walk030.{entryOf, Descriptor, Whole, Lost, shortOf, onSecond, longOf, readOf, Step, stepsOf, Found, Outcome, asking, deeper, guarded, onTarget, onTable, onDescriptor, walkFrom, start, walkSteps, walk030}
 use Rattle.definition.proofs.Replay.{In}
 use Rattle.definition.specs.declared.Fetched.{Fetched}
 use Rattle.definition.specs.declared.Fetched.the-variants.{Long, Failed}
-use Rattle.definition.specs.declared.Descriptor.{Descriptor}
-use Rattle.definition.specs.declared.Descriptor.the-variants.{Whole, Lost}
 use Rattle.definition.specs.declared.Registers.{Registers}
 use Rattle.definition.specs.declared.Root.{Root}
 use Rattle.definition.proofs.Choice.{if-both}
@@ -23,42 +21,42 @@ use Rattle.definition.proofs.Agree.{Agree, if-same}
 abbrev askedBy : Outcome → List ℕ
 askedBy o = o .found .asked
 
--- how many longs a descriptor took
-abbrev took : Descriptor → ℕ
-took (Whole kind field wp sup n) = n
-took (Lost at n) = n
+-- the longs asked for a descriptor
+abbrev pub askedFor : Descriptor → List ℕ
+askedFor (Whole kind field wp sup asked) = asked
+askedFor (Lost at asked) = asked
 
 -- ---- one descriptor
-short-in : (at : ℕ) (r : Fetched) → In at (longsAt at (took (shortOf at r)))
+short-in : (at : ℕ) (r : Fetched) → In at (askedFor (shortOf at r))
 short-in at (Long first) = inl refl
 short-in at Failed = inl refl
 
-second-in : (first at : ℕ) (r : Fetched) → In (entryOf at 1 false) (longsAt at (took (onSecond first (entryOf at 1 false) r)))
+second-in : (first at : ℕ) (r : Fetched) → In (entryOf at 1 false) (askedFor (onSecond first at (entryOf at 1 false) r))
 second-in first at (Long second) = inr (inl refl)
 second-in first at Failed = inr (inl refl)
 
-second-at : (first at : ℕ) (r : Fetched) → In at (longsAt at (took (onSecond first (entryOf at 1 false) r)))
+second-at : (first at : ℕ) (r : Fetched) → In at (askedFor (onSecond first at (entryOf at 1 false) r))
 second-at first at (Long second) = inl refl
 second-at first at Failed = inl refl
 
-long-in : (m : Memory) (at : ℕ) (r : Fetched) → In at (longsAt at (took (longOf m at r)))
+long-in : (m : Memory) (at : ℕ) (r : Fetched) → In at (askedFor (longOf m at r))
 long-in m at (Long first) = second-at first at (fetchOf m (entryOf at 1 false))
 long-in m at Failed = inl refl
 
 module _ (m m′ : Memory) where
-  long-same : (at : ℕ) (r : Fetched) → Agree m m′ (longsAt at (took (longOf m at r))) → longOf m at r ≡ longOf m′ at r
+  long-same : (at : ℕ) (r : Fetched) → Agree m m′ (askedFor (longOf m at r)) → longOf m at r ≡ longOf m′ at r
   long-same at (Long first) h =
-      ap (onSecond first (entryOf at 1 false))
+      ap (onSecond first at (entryOf at 1 false))
       (h (entryOf at 1 false) (second-in first at (fetchOf m (entryOf at 1 false))))
   long-same at Failed h = refl
 
-  read-same : (at : ℕ) (long : Bool) → Agree m m′ (longsAt at (took (readOf m at long))) → readOf m at long ≡ readOf m′ at long
+  read-same : (at : ℕ) (long : Bool) → Agree m m′ (askedFor (readOf m at long)) → readOf m at long ≡ readOf m′ at long
   unfolding readOf
   read-same at true h = long-same at (fetchOf m at) h ∙ ap (longOf m′ at) (h at (long-in m at (fetchOf m at)))
   read-same at false h = ap (shortOf at) (h at (short-in at (fetchOf m at)))
 
 -- ---- what was asked for stays asked for
-target-asked : (consumed to : ℕ) (f : Found) (d : Descriptor) → onTarget consumed to f d .found .asked ≡ f .asked ++ longsAt to (took d)
+target-asked : (consumed to : ℕ) (f : Found) (d : Descriptor) → onTarget consumed to f d .found .asked ≡ f .asked ++ askedFor d
 target-asked consumed to f (Whole kind field wp sup n) = refl
 target-asked consumed to f (Lost lost n) = refl
 
@@ -76,7 +74,7 @@ module _ (m : Memory) where
   table-keeps a consumed kind field wp sup f (step ∷ rest) next k i = k a (field / 16 * 16) (eqb kind 3) (guarded wp sup f) i
 
   descriptor-keeps : (a consumed at : ℕ) (f : Found) (rest : List Step) (next : ℕ → Bool → Found → Outcome) (d : Descriptor) → Keeps next
-      → In a (f .asked ++ longsAt at (took d)) → In a (onDescriptor m consumed at f rest next d .found .asked)
+      → In a (f .asked ++ askedFor d) → In a (onDescriptor m consumed at f rest next d .found .asked)
   descriptor-keeps a consumed at f rest next (Lost lost n) k i = i
   descriptor-keeps a consumed at f rest next (Whole kind field wp sup n) k i =
       if-both (Has a) (eqb kind 1) _ _ i

@@ -12,10 +12,8 @@ use lib.Dec.{leb, ltb, eqb}
 use Rattle.definition.specs.Words.{bitOf}
 use Rattle.definition.specs.Memory.{Memory}
 use Rattle.definition.specs.Registers.{rootOf}
-use Rattle.definition.specs.Walk030.{entryOf, readOf, Step, steps, stepsWith, stepsOf, topIndex, isOf, used, widthsOf, sumOf, Found, Outcome, onTarget, onTable, onDescriptor, walkFrom, start, walkSteps, walk030, lowOf, physicalOf, shiftFrom, shiftOf}
+use Rattle.definition.specs.Walk030.{entryOf, Descriptor, Whole, Lost, readOf, Step, steps, stepsWith, stepsOf, topIndex, isOf, used, widthsOf, sumOf, Found, Outcome, onTarget, onTable, onDescriptor, walkFrom, start, walkSteps, walk030, lowOf, physicalOf, shiftFrom, shiftOf}
 use Rattle.definition.specs.Translate.{baseOf, hitAddress}
-use Rattle.definition.specs.declared.Descriptor.{Descriptor}
-use Rattle.definition.specs.declared.Descriptor.the-variants.{Whole, Lost}
 use Rattle.definition.specs.declared.End.{End}
 use Rattle.definition.specs.declared.End.the-variants.{Page, Invalid, LevelStop, BusError, Config}
 use Rattle.definition.specs.declared.Registers.{Registers}

@@ -1,23 +1,20 @@
 -- The numbers of the fault kinds and causes.
-use Prim.Native.Nat.{ℕ}
-use Rattle.definition.specs.declared.FaultKind.{FaultKind}
-use Rattle.definition.specs.declared.FaultKind.the-variants as kind
-use Rattle.definition.specs.declared.FaultCause.{FaultCause}
-use Rattle.definition.specs.declared.FaultCause.the-variants as cause
+use Rattle.definition.specs.Words.{ℕ}
+use Rattle.definition.specs.Types.{FaultKind, FaultCause}
 
 -- 'Fault numbers count from 0 in `mod.rs` order.'
 abbrev pub kindNumber : FaultKind → ℕ
-kindNumber kind.ConfigurationError = 0
-kindNumber kind.IllegalOperation = 1
-kindNumber kind.AccessLevelViolation = 2
-kindNumber kind.BusError = 3
+kindNumber FaultKind.ConfigurationError = 0
+kindNumber FaultKind.IllegalOperation = 1
+kindNumber FaultKind.AccessLevelViolation = 2
+kindNumber FaultKind.BusError = 3
 
 abbrev pub causeNumber : FaultCause → ℕ
-causeNumber cause.PointerA = 0
-causeNumber cause.PointerB = 1
-causeNumber cause.Indirect = 2
-causeNumber cause.PageFault = 3
-causeNumber cause.WriteProtect = 4
-causeNumber cause.SupervisorProtect = 5
-causeNumber cause.TableWalkBusError = 6
-causeNumber cause.AccessBusError = 7
+causeNumber FaultCause.PointerA = 0
+causeNumber FaultCause.PointerB = 1
+causeNumber FaultCause.Indirect = 2
+causeNumber FaultCause.PageFault = 3
+causeNumber FaultCause.WriteProtect = 4
+causeNumber FaultCause.SupervisorProtect = 5
+causeNumber FaultCause.TableWalkBusError = 6
+causeNumber FaultCause.AccessBusError = 7

@@ -1,11 +1,6 @@
 -- The audit of a snapshot, added by the port: the first cached entry that is not what the walk of its key finds now, and what the two say.
 -- It reads the family, TC, CRP and SRP alone: neither the transparent registers nor whether the PMMU is on change what it says.
-use Prim.Native.Nat.{ℕ, _+_, _*_, _%_, _^_}
-use mathlib.Core.Bool.{Bool, true, false, not, _&&_, _||_}
-use mathlib.Core.List.{List}
-use lib.Dec.{eqb, ltb}
-use lib.ListN.{length, getD, drop}
-use Rattle.definition.specs.Words.{if_then_else_, bitOf, firstOf}
+use Rattle.definition.specs.Words.{ℕ, _+_, _*_, _%_, _^_, Bool, true, false, not, _&&_, _||_, List, eqb, ltb, length, getD, drop, if_then_else_, bitOf, firstOf}
 use Rattle.definition.specs.Registers.{codeOf}
 use Rattle.definition.specs.Memory.{Memory}
 use Rattle.definition.specs.Walk030.{Outcome, walk030, everyLevel, physicalOf, shiftOf}
@@ -14,19 +9,7 @@ use Rattle.definition.specs.Cache030.{Entry, Cache030, noEntry, permitte
 use Rattle.definition.specs.Cache040.{Slot, Cache040, noSlot, slotHit}
 use Rattle.definition.specs.Refusal.{Checks, noFamily, badBase, badRange, badCache, unless}
 use Rattle.definition.specs.Translate.{Caches, cacheless}
-use Rattle.definition.specs.declared.Registers.{Registers}
-use Rattle.definition.specs.declared.Access.{Access}
-use Rattle.definition.specs.declared.Override.{Override}
-use Rattle.definition.specs.declared.Hit.{Hit}
-use Rattle.definition.specs.declared.Hit.the-variants.{Miss}
-use Rattle.definition.specs.declared.Shift.{Shift}
-use Rattle.definition.specs.declared.Shift.the-variants.{Bits, NoPage}
-use Rattle.definition.specs.declared.End.{End}
-use Rattle.definition.specs.declared.End.the-variants as end
-use Rattle.definition.specs.declared.End040.{End040}
-use Rattle.definition.specs.declared.End040.the-variants as end040
-use Rattle.definition.specs.declared.Audit.{Audit}
-use Rattle.definition.specs.declared.Finding.{Finding}
+use Rattle.definition.specs.Types.{Registers, Access, Override, Hit, Miss, Shift, Bits, NoPage, End, End040, Audit, Finding}
 
 -- the address of a page's first byte
 abbrev pub firstOfPage : ℕ → ℕ → ℕ
@@ -47,12 +30,12 @@ isAccessCode code = eqb code 1 || eqb code 2 || eqb code 5 || eqb code 6
 
 -- the walk ends in a page that S lets be cached, at the entry's base, and has WP only where the entry has it: with WP of its own alone an entry sends a write to the walk
 abbrev pub isEnd030 : Entry → ℕ → Bool → Bool → End → Bool
-isEnd030 e address wp sup (end.Page field consumed) =
+isEnd030 e address wp sup (End.Page field consumed) =
     not (sup && not (bitOf (e .code) 2)) && (eqb (physicalOf field consumed address) (e .base) && (e .wp || not wp))
-isEnd030 e address wp sup (end.Invalid indirect) = false
-isEnd030 e address wp sup (end.BusError at) = false
-isEnd030 e address wp sup end.LevelStop = false
-isEnd030 e address wp sup end.Config = false
+isEnd030 e address wp sup (End.Invalid indirect) = false
+isEnd030 e address wp sup (End.BusError at) = false
+isEnd030 e address wp sup End.LevelStop = false
+isEnd030 e address wp sup End.Config = false
 
 -- the same of what a walk finds, its WP and S with its end
 abbrev pub isOutcome030 : Entry → ℕ → Outcome → Bool
@@ -76,10 +59,10 @@ foundFor040 g m s = walk040 m g (firstOfPage (s .frame) (pageBits (g .tc))) (s .
 
 -- the walk ends in a page at the slot's base, and has W, or S for a user, only where the slot has it
 abbrev pub isEnd040 : ℕ → Slot → End040 → Bool
-isEnd040 tc s (end040.Resident field wp sup) =
+isEnd040 tc s (End040.Resident field wp sup) =
     eqb (frameOf tc field) (s .base) && ((s .wp || not wp) && (s .supervisor || s .sup || not sup))
-isEnd040 tc s (end040.Absent missing) = false
-isEnd040 tc s (end040.Lost at) = false
+isEnd040 tc s (End040.Absent missing) = false
+isEnd040 tc s (End040.Lost at) = false
 
 -- a slot that an access can meet and whose key's walk finds something else
 unfoldable pub stale040 : Registers → Memory → Slot → Bool

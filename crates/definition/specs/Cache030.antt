@@ -1,12 +1,6 @@
 -- Document 01, 'The caches': the 68030's 22 entries, their matching, insert and flushes.
-use Prim.Native.Nat.{ℕ, _+_, _-_, _/_, _^_}
-use mathlib.Core.Bool.{Bool, true, false, _&&_, not}
-use mathlib.Core.List.{List, map}
-use lib.Dec.{eqb, ltb, leb}
-use lib.ListN.{length, getD, set, replicate}
-use Rattle.definition.specs.Words.{if_then_else_, agrees, firstOf, countOf, allOf}
-use Rattle.definition.specs.declared.Hit.{Hit}
-use Rattle.definition.specs.declared.Hit.the-variants.{At, Miss}
+use Rattle.definition.specs.Words.{ℕ, _+_, _-_, _/_, _^_, Bool, true, false, _&&_, not, List, map, eqb, ltb, leb, length, getD, set, replicate, if_then_else_, agrees, firstOf, countOf, allOf}
+use Rattle.definition.specs.Types.{Hit, At, Miss}
 
 -- 'keyed by the walk's code .. and page', with the page's base, WP and a stamp
 pub record Entry : Type 0 where

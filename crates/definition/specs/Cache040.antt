@@ -1,12 +1,6 @@
 -- Document 01, 'The caches': the 68040's 64 slots.
-use Prim.Native.Nat.{ℕ, _%_}
-use mathlib.Core.Bool.{Bool, true, false, _&&_, _||_, not}
-use mathlib.Core.List.{List, map}
-use lib.Dec.{eqb}
-use lib.ListN.{getD, set, replicate}
-use Rattle.definition.specs.Words.{if_then_else_}
-use Rattle.definition.specs.declared.Hit.{Hit}
-use Rattle.definition.specs.declared.Hit.the-variants.{At, Miss}
+use Rattle.definition.specs.Words.{ℕ, _%_, Bool, true, false, _&&_, _||_, not, List, map, eqb, getD, set, replicate, if_then_else_}
+use Rattle.definition.specs.Types.{Hit, At, Miss}
 
 -- 'key frame .. and supervisor', with the page's base, W and S
 pub record Slot : Type 0 where

@@ -1,7 +1,5 @@
 -- The calls as one type, and the line that document 01 gives each of their answers ('The trace and the program').
-use Prim.Native.Nat.{ℕ}
-use mathlib.Core.Bool.{Bool}
-use lib.ListN.{length}
+use Rattle.definition.specs.Words.{ℕ, Bool, length}
 use Rattle.definition.specs.Answers.{kindNumber, causeNumber}
 use Rattle.definition.specs.Memory.{Memory}
 use Rattle.definition.specs.Translate.{Caches, Translated, translate}
@@ -9,18 +7,7 @@ use Rattle.definition.specs.Load.{Loaded, load}
 use Rattle.definition.specs.Test.{Tested, test}
 use Rattle.definition.specs.Probe.{probe}
 use Rattle.definition.specs.Flush.{Flushed, flushAll, flushCode, flushPage, flushFrame}
-use Rattle.definition.specs.declared.Registers.{Registers}
-use Rattle.definition.specs.declared.Access.{Access}
-use Rattle.definition.specs.declared.Translation.{Translation}
-use Rattle.definition.specs.declared.Translation.the-variants as translation
-use Rattle.definition.specs.declared.Load.{Load}
-use Rattle.definition.specs.declared.Load.the-variants as load′
-use Rattle.definition.specs.declared.Test.{Test}
-use Rattle.definition.specs.declared.Test.the-variants as test′
-use Rattle.definition.specs.declared.Probe.{Probe}
-use Rattle.definition.specs.declared.Probe.the-variants as probe′
-use Rattle.definition.specs.declared.Flush.{Flush}
-use Rattle.definition.specs.declared.Flush.the-variants as flush′
+use Rattle.definition.specs.Types.{Registers, Access, Translation, Load, Test, Probe, Flush}
 
 -- translate; load with code, write, address; test with code, write, level, address; probe with the CPU's own state, instruction, write, address; the flushes
 pub data Call : Type 0 where
@@ -45,27 +32,27 @@ pub data Line : Type 0 where
 
 -- each answer's number and values, by its cases
 abbrev pub translationLine : ℕ → Translation → Line
-translationLine count (translation.Address address) = A address count
-translationLine count (translation.Fault kind cause address) = F (kindNumber kind) (causeNumber cause) address count
-translationLine count (translation.Refused n) = R n
+translationLine count (Translation.Address address) = A address count
+translationLine count (Translation.Fault kind cause address) = F (kindNumber kind) (causeNumber cause) address count
+translationLine count (Translation.Refused n) = R n
 
 abbrev pub loadLine : ℕ → Load → Line
-loadLine count load′.Loaded = L count
-loadLine count (load′.Refused n) = R n
+loadLine count Load.Loaded = L count
+loadLine count (Load.Refused n) = R n
 
 abbrev pub testLine : ℕ → Test → Line
-testLine count (test′.Status mmusr address) = T mmusr address count
-testLine count (test′.Refused n) = R n
+testLine count (Test.Status mmusr address) = T mmusr address count
+testLine count (Test.Refused n) = R n
 
 -- 'A address 0, or N'
 abbrev pub probeLine : Probe → Line
-probeLine (probe′.Address address) = A address 0
-probeLine probe′.Nothing = N
-probeLine (probe′.Refused n) = R n
+probeLine (Probe.Address address) = A address 0
+probeLine Probe.Nothing = N
+probeLine (Probe.Refused n) = R n
 
 abbrev pub flushLine : Flush → Line
-flushLine flush′.Flushed = K
-flushLine (flush′.Refused n) = R n
+flushLine Flush.Flushed = K
+flushLine (Flush.Refused n) = R n
 
 -- what a call gives: its line, and the next caches
 pub record Called : Type 0 where

@@ -1,11 +1,10 @@
 -- Document 01, 'The caches': the four flushes as calls.
-use Prim.Native.Nat.{ℕ}
-use mathlib.Core.Bool.{Bool, false, _||_}
+use Rattle.definition.specs.Words.{ℕ, Bool, false, _||_}
 use Rattle.definition.specs.Cache030.{Cache030, flushedAll, flushedCode, flushedPage}
 use Rattle.definition.specs.Cache040.{Cache040, flushedAll040, flushedFrame}
 use Rattle.definition.specs.Refusal.{Checks, badCache, badFrame, aboveSeven, unless}
 use Rattle.definition.specs.Translate.{Caches}
-use Rattle.definition.specs.declared.Flush.{Flush}
+use Rattle.definition.specs.Types.{Flush}
 
 -- an answer and the next caches
 pub record Flushed : Type 0 where

@@ -1,4 +1,5 @@
 pub mod Words
+pub mod Types
 pub mod Answers
 pub mod Registers
 pub mod Memory

@@ -1,8 +1,5 @@
 -- Document 01, 'The 68030 walk': PLOAD.
-use Prim.Native.Nat.{ℕ}
-use mathlib.Core.List.{List, []}
-use mathlib.Core.Bool.{Bool, true, false, not}
-use Rattle.definition.specs.Words.{if_then_else_}
+use Rattle.definition.specs.Words.{ℕ, List, [], Bool, true, false, not, if_then_else_}
 use Rattle.definition.specs.Registers.{on}
 use Rattle.definition.specs.Memory.{Memory}
 use Rattle.definition.specs.Transparent.{transparent030}
@@ -10,10 +7,7 @@ use Rattle.definition.specs.Walk030.{shiftOf}
 use Rattle.definition.specs.Cache030.{Cache030, flushedPage}
 use Rattle.definition.specs.Refusal.{Checks, noFamily, badBase, badRange, badCache, aboveSeven, not030, unless}
 use Rattle.definition.specs.Translate.{Caches, Searched, search030}
-use Rattle.definition.specs.declared.Registers.{Registers}
-use Rattle.definition.specs.declared.Shift.{Shift}
-use Rattle.definition.specs.declared.Shift.the-variants.{Bits, NoPage}
-use Rattle.definition.specs.declared.Load.{Load}
+use Rattle.definition.specs.Types.{Registers, Shift, Bits, NoPage, Load}
 
 -- an answer, the longs asked for, and the next caches
 pub record Loaded : Type 0 where

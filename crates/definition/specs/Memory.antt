@@ -1,13 +1,6 @@
 -- Document 01, 'What a call is given': table memory, and what asking for one long gives.
-use Prim.Native.Nat.{ℕ, _+_, _-_, _/_, _%_}
-use mathlib.Core.List.{List}
-use mathlib.Core.Bool.{Bool, not, _&&_, _||_}
-use lib.ListN.{length, getD}
-use lib.Dec.{ltb, leb, eqb}
-use Rattle.definition.specs.Words.{if_then_else_, anyOf}
-use Rattle.definition.specs.declared.Range.{Range}
-use Rattle.definition.specs.declared.Fetched.{Fetched}
-use Rattle.definition.specs.declared.Fetched.the-variants.{Long, Failed}
+use Rattle.definition.specs.Words.{ℕ, _+_, _-_, _/_, _%_, List, Bool, not, _&&_, _||_, length, getD, ltb, leb, eqb, if_then_else_, anyOf}
+use Rattle.definition.specs.Types.{Range, Fetched, Long, Failed}
 
 -- 'lent longs from a base address, and bus-error ranges'
 pub record Memory : Type 0 where

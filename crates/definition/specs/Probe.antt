@@ -1,8 +1,5 @@
 -- Document 01, 'The caches': the probe.
-use Prim.Native.Nat.{ℕ, _/_, _^_}
-use mathlib.Core.Bool.{Bool, false, not}
-use lib.Dec.{eqb}
-use Rattle.definition.specs.Words.{if_then_else_}
+use Rattle.definition.specs.Words.{ℕ, _/_, _^_, Bool, false, not, eqb, if_then_else_}
 use Rattle.definition.specs.Registers.{on, codeOf}
 use Rattle.definition.specs.Transparent.{transparent}
 use Rattle.definition.specs.Walk030.{shiftOf}
@@ -11,12 +8,7 @@ use Rattle.definition.specs.Cache030.{Cache030, hitOf}
 use Rattle.definition.specs.Cache040.{Cache040, hit040}
 use Rattle.definition.specs.Refusal.{Checks, noFamily, badCache, unless}
 use Rattle.definition.specs.Translate.{Caches, hitAddress, joined}
-use Rattle.definition.specs.declared.Registers.{Registers}
-use Rattle.definition.specs.declared.Shift.{Shift}
-use Rattle.definition.specs.declared.Shift.the-variants.{Bits, NoPage}
-use Rattle.definition.specs.declared.Hit.{Hit}
-use Rattle.definition.specs.declared.Hit.the-variants.{At, Miss}
-use Rattle.definition.specs.declared.Probe.{Probe}
+use Rattle.definition.specs.Types.{Registers, Shift, Bits, NoPage, Hit, At, Miss, Probe}
 
 abbrev pub probed : (ℕ → ℕ) → Hit → Probe
 probed address (At base) = Probe.Address (address base)

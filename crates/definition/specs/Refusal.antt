@@ -1,15 +1,8 @@
 -- Document 01, 'Numbers of refusal': what each number says, and the order in which they are given.
-use Prim.Native.Nat.{ℕ, _+_, _*_, _%_, _^_}
-use mathlib.Core.List.{List, [], _∷_}
-use mathlib.Core.Bool.{Bool, false, not, _&&_, _||_}
-use lib.Dec.{ltb, leb, eqb}
-use lib.ListN.{length}
-use Rattle.definition.specs.Words.{if_then_else_, anyOf}
+use Rattle.definition.specs.Words.{ℕ, _+_, _*_, _%_, _^_, List, [], _∷_, Bool, false, not, _&&_, _||_, ltb, leb, eqb, length, if_then_else_, anyOf}
 use Rattle.definition.specs.Memory.{Memory}
 use Rattle.definition.specs.Cache030.{Cache030}
-use Rattle.definition.specs.declared.Range.{Range}
-use Rattle.definition.specs.declared.Override.{Override}
-use Rattle.definition.specs.declared.Override.the-variants as override
+use Rattle.definition.specs.Types.{Range, Override}
 
 -- 1: 'family not 30, 40, 60'
 abbrev pub noFamily : ℕ → Bool
@@ -39,8 +32,8 @@ abbrev pub aboveSeven : ℕ → Bool
 aboveSeven n = ltb 7 n
 
 abbrev pub badOverride : Override → Bool
-badOverride override.Plain = false
-badOverride (override.Code code) = aboveSeven code
+badOverride Override.Plain = false
+badOverride (Override.Code code) = aboveSeven code
 
 -- 5: '040 page frame of 2^20 or more'
 abbrev pub badFrame : ℕ → Bool

@@ -1,13 +1,6 @@
 -- Document 01, 'What a call is given': what follows from the registers and the access alone.
-use Prim.Native.Nat.{ℕ, _%_}
-use mathlib.Core.Bool.{Bool, true, false, _&&_}
-use lib.Dec.{eqb}
-use Rattle.definition.specs.Words.{if_then_else_, bitOf}
-use Rattle.definition.specs.declared.Registers.{Registers}
-use Rattle.definition.specs.declared.Root.{Root}
-use Rattle.definition.specs.declared.Access.{Access}
-use Rattle.definition.specs.declared.Override.{Override}
-use Rattle.definition.specs.declared.Override.the-variants as override
+use Rattle.definition.specs.Words.{ℕ, _%_, Bool, true, false, _&&_, eqb, if_then_else_, bitOf}
+use Rattle.definition.specs.Types.{Registers, Root, Access, Override}
 
 -- 'No PMMU or not enabled: the address itself.'
 abbrev pub on : Registers → Bool
@@ -22,13 +15,13 @@ codeOf true true = 6
 
 -- 'An override replaces supervisor by bit 2 ..'
 abbrev pub supervisorBy : Override → Bool → Bool
-supervisorBy override.Plain supervisor = supervisor
-supervisorBy (override.Code code) supervisor = bitOf code 2
+supervisorBy Override.Plain supervisor = supervisor
+supervisorBy (Override.Code code) supervisor = bitOf code 2
 
 -- '.. and instruction by "low two bits are 2".'
 abbrev pub instructionBy : Override → Bool → Bool
-instructionBy override.Plain instruction = instruction
-instructionBy (override.Code code) instruction = eqb (code % 4) 2
+instructionBy Override.Plain instruction = instruction
+instructionBy (Override.Code code) instruction = eqb (code % 4) 2
 
 abbrev pub asSupervisor : Access → Bool
 asSupervisor a = supervisorBy (a .code) (a .supervisor)
@@ -42,8 +35,8 @@ walkCode a = codeOf (asSupervisor a) (asInstruction a)
 
 -- 'The code compared .. is the override, else from the CPU's own state and instruction'
 abbrev pub comparedBy : Override → Bool → Bool → ℕ
-comparedBy override.Plain own instruction = codeOf own instruction
-comparedBy (override.Code code) own instruction = code
+comparedBy Override.Plain own instruction = codeOf own instruction
+comparedBy (Override.Code code) own instruction = code
 
 abbrev pub comparedCode : Access → ℕ
 comparedCode a = comparedBy (a .code) (a .own) (a .instruction)

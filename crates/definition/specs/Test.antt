@@ -1,17 +1,10 @@
 -- Document 01, 'The 68030 walk': PTEST.
-use Prim.Native.Nat.{ℕ, _+_, _%_}
-use mathlib.Core.List.{List, []}
-use mathlib.Core.Bool.{Bool, false, not, _&&_, _||_}
-use lib.Dec.{eqb}
-use Rattle.definition.specs.Words.{if_then_else_, bitOf}
+use Rattle.definition.specs.Words.{ℕ, _+_, _%_, List, [], Bool, false, not, _&&_, _||_, eqb, if_then_else_, bitOf}
 use Rattle.definition.specs.Memory.{Memory}
 use Rattle.definition.specs.Transparent.{transparent030}
 use Rattle.definition.specs.Walk030.{Outcome, walk030}
 use Rattle.definition.specs.Refusal.{Checks, noFamily, badBase, badRange, aboveSeven, not030, unless}
-use Rattle.definition.specs.declared.Registers.{Registers}
-use Rattle.definition.specs.declared.End.{End}
-use Rattle.definition.specs.declared.End.the-variants as end
-use Rattle.definition.specs.declared.Test.{Test}
+use Rattle.definition.specs.Types.{Registers, End, Test}
 
 -- an answer and the longs asked for. 'touches no cache'
 pub record Tested : Type 0 where
@@ -26,11 +19,11 @@ flag b n = if b then n else 0
 
 -- 'B 8000 for bus error or configuration, .. I 0400'
 abbrev pub endFlags : End → ℕ
-endFlags (end.Page field consumed) = 0
-endFlags (end.Invalid indirect) = 0x0400
-endFlags end.LevelStop = 0
-endFlags (end.BusError at) = 0x8000
-endFlags end.Config = 0x8000
+endFlags (End.Page field consumed) = 0
+endFlags (End.Invalid indirect) = 0x0400
+endFlags End.LevelStop = 0
+endFlags (End.BusError at) = 0x8000
+endFlags End.Config = 0x8000
 
 -- 'S 2000 (user code), W 0800, .. N levels', which the manual has in bits 2:0: the mod 8 is the Rust's `& 7`; there are at most 5 levels
 abbrev pub mmusrOf : ℕ → Bool → Bool → ℕ → End → ℕ

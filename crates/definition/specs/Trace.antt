@@ -1,18 +1,10 @@
 -- Document 01, 'The trace and the program': what each record means, what is malformed, which line it prints, and how a whole file plays.
-use Prim.Native.Nat.{ℕ, zero, suc, _+_, _*_, _/_, _%_, _^_}
-use mathlib.Core.List.{List, [], _∷_, _++_}
-use mathlib.Core.Bool.{Bool, true, false, not, _&&_}
-use lib.Dec.{ltb, leb, eqb}
-use lib.ListN.{length, getD, set, take, drop, replicate}
-use Rattle.definition.specs.Words.{if_then_else_, bitOf}
+use Rattle.definition.specs.Words.{ℕ, zero, suc, _+_, _*_, _/_, _%_, _^_, List, [], _∷_, _++_, Bool, true, false, not, _&&_, ltb, leb, eqb, length, getD, set, take, drop, replicate, if_then_else_, bitOf}
 use Rattle.definition.specs.Memory.{Memory, memory}
 use Rattle.definition.specs.Refusal.{Checks, noFamily, badStore, crossed, noRoom, unless}
 use Rattle.definition.specs.Translate.{Caches, emptyCaches}
 use Rattle.definition.specs.Calls.{Call, access, loading, testing, probing, flushingAll, flushingCode, flushingPage, flushingFrame, Line, A, F, L, T, K, N, R, Called, calling}
-use Rattle.definition.specs.declared.Registers.{Registers}
-use Rattle.definition.specs.declared.Root.{Root}
-use Rattle.definition.specs.declared.Range.{Range}
-use Rattle.definition.specs.declared.Override.{Override}
+use Rattle.definition.specs.Types.{Registers, Root, Range, Override}
 
 -- ---- records
 -- what a record's body says; or nothing that document 01 has

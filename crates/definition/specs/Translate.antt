@@ -1,10 +1,5 @@
 -- Document 01, 'Translation order', and what the walks' ends give.
-use Prim.Native.Nat.{ℕ, _+_, _-_, _/_, _%_, _^_}
-use mathlib.Core.List.{List, []}
-use mathlib.Core.Bool.{Bool, false, not, _&&_}
-use lib.Dec.{eqb}
-use lib.Bits.{bitOr}
-use Rattle.definition.specs.Words.{if_then_else_, bitOf}
+use Rattle.definition.specs.Words.{ℕ, _+_, _-_, _/_, _%_, _^_, List, [], Bool, false, not, _&&_, eqb, bitOr, if_then_else_, bitOf}
 use Rattle.definition.specs.Registers.{on, asSupervisor, asInstruction, walkCode, comparedCode}
 use Rattle.definition.specs.Memory.{Memory}
 use Rattle.definition.specs.Transparent.{transparent}
@@ -13,20 +8,7 @@ use Rattle.definition.specs.Walk040.{Outcome040, walk040, pageBits, fram
 use Rattle.definition.specs.Cache030.{Cache030, empty030, hitOf, afterHit, inserted}
 use Rattle.definition.specs.Cache040.{Cache040, empty040, hit040, inserted040}
 use Rattle.definition.specs.Refusal.{Checks, noFamily, badBase, badRange, badCache, badOverride, unless}
-use Rattle.definition.specs.declared.Registers.{Registers}
-use Rattle.definition.specs.declared.Access.{Access}
-use Rattle.definition.specs.declared.Shift.{Shift}
-use Rattle.definition.specs.declared.Shift.the-variants.{Bits, NoPage}
-use Rattle.definition.specs.declared.Hit.{Hit}
-use Rattle.definition.specs.declared.Hit.the-variants.{At, Miss}
-use Rattle.definition.specs.declared.End.{End}
-use Rattle.definition.specs.declared.End.the-variants as end
-use Rattle.definition.specs.declared.End040.{End040}
-use Rattle.definition.specs.declared.End040.the-variants as end040
-use Rattle.definition.specs.declared.FaultKind.the-variants as kind
-use Rattle.definition.specs.declared.FaultCause.{FaultCause}
-use Rattle.definition.specs.declared.FaultCause.the-variants as cause
-use Rattle.definition.specs.declared.Translation.{Translation}
+use Rattle.definition.specs.Types.{Registers, Access, Shift, Bits, NoPage, Hit, At, Miss, End, End040, FaultCause, Translation, FaultKind}
 
 -- 'Two caches'
 pub record Caches : Type 0 where
@@ -51,15 +33,15 @@ atOnce answer caches = translated answer [] caches
 
 -- 'Others are AccessLevelViolation. All but bus errors report the logical address.'
 abbrev pub violation : FaultCause → ℕ → Translation
-violation cause address = Translation.Fault kind.AccessLevelViolation cause address
+violation cause address = Translation.Fault FaultKind.AccessLevelViolation cause address
 
 -- 'Bus error: kind BusError, cause TableWalkBusError.' 'The fault reports that long's address.'
 abbrev pub busError : ℕ → Translation
-busError at = Translation.Fault kind.BusError cause.TableWalkBusError at
+busError at = Translation.Fault FaultKind.BusError FaultCause.TableWalkBusError at
 
 -- 'Configuration: kind ConfigurationError, cause PageFault.'
 abbrev pub configuration : ℕ → Translation
-configuration address = Translation.Fault kind.ConfigurationError cause.PageFault address
+configuration address = Translation.Fault FaultKind.ConfigurationError FaultCause.PageFault address
 
 -- ---- the 68030
 -- 'physical less the address's low page-shift bits, wrapping; ..'
@@ -89,19 +71,19 @@ searched answer asked cache = record { answer = answer; asked = asked; cache = c
 abbrev pub onPage030 : ℕ → Cache030 → ℕ → ℕ → Bool → Bool → Bool → List ℕ → ℕ → Searched
 onPage030 tc c code address write wp sup asked physical =
     if sup && not (bitOf code 2)
-    then searched (violation cause.SupervisorProtect address) asked c
-    else searched (if write && wp then violation cause.WriteProtect address else Translation.Address physical) asked
+    then searched (violation FaultCause.SupervisorProtect address) asked c
+    else searched (if write && wp then violation FaultCause.WriteProtect address else Translation.Address physical) asked
     (cached (shiftOf tc) c code address physical wp)
 
 -- 'Invalid: PageFault, or Indirect for a bad target.' A level stop does not come up: no level is beyond the limit
 abbrev pub onEnd030 : ℕ → Cache030 → ℕ → ℕ → Bool → Bool → Bool → List ℕ → End → Searched
-onEnd030 tc c code address write wp sup asked (end.Page field consumed) =
+onEnd030 tc c code address write wp sup asked (End.Page field consumed) =
     onPage030 tc c code address write wp sup asked (physicalOf field consumed address)
-onEnd030 tc c code address write wp sup asked (end.Invalid indirect) =
-    searched (violation (if indirect then cause.Indirect else cause.PageFault) address) asked c
-onEnd030 tc c code address write wp sup asked (end.BusError at) = searched (busError at) asked c
-onEnd030 tc c code address write wp sup asked end.LevelStop = searched (configuration address) asked c
-onEnd030 tc c code address write wp sup asked end.Config = searched (configuration address) asked c
+onEnd030 tc c code address write wp sup asked (End.Invalid indirect) =
+    searched (violation (if indirect then FaultCause.Indirect else FaultCause.PageFault) address) asked c
+onEnd030 tc c code address write wp sup asked (End.BusError at) = searched (busError at) asked c
+onEnd030 tc c code address write wp sup asked End.LevelStop = searched (configuration address) asked c
+onEnd030 tc c code address write wp sup asked End.Config = searched (configuration address) asked c
 
 abbrev pub concluded030 : ℕ → Cache030 → ℕ → ℕ → Bool → Outcome → Searched
 concluded030 tc c code address write o =
@@ -134,18 +116,18 @@ translate030 g a m c =
 -- ---- the 68040
 -- 'A write with W faults first, then user with S. Only a permitted access is cached.'
 abbrev pub onEnd040 : Registers → Access → Caches → List ℕ → End040 → Translated
-onEnd040 g a c asked (end040.Resident field wp sup) =
+onEnd040 g a c asked (End040.Resident field wp sup) =
     if a .write && wp
-    then translated (violation cause.WriteProtect (a .address)) asked c
+    then translated (violation FaultCause.WriteProtect (a .address)) asked c
     else if not (asSupervisor a) && sup
-    then translated (violation cause.SupervisorProtect (a .address)) asked c
+    then translated (violation FaultCause.SupervisorProtect (a .address)) asked c
     else translated (Translation.Address (physical040 (g .tc) field (a .address))) asked
     (record {
       c030 = c .c030;
       c040 = inserted040 (c .c040) (a .address / 2 ^ pageBits (g .tc)) (asSupervisor a) (frameOf (g .tc) field) wp sup;
     })
-onEnd040 g a c asked (end040.Absent missing) = translated (violation missing (a .address)) asked c
-onEnd040 g a c asked (end040.Lost at) = translated (busError at) asked c
+onEnd040 g a c asked (End040.Absent missing) = translated (violation missing (a .address)) asked c
+onEnd040 g a c asked (End040.Lost at) = translated (busError at) asked c
 
 abbrev pub concluded040 : Registers → Access → Caches → Outcome040 → Translated
 concluded040 g a c o = onEnd040 g a c (o .asked) (o .end)

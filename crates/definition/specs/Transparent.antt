@@ -1,9 +1,6 @@
 -- Document 01, 'Transparent registers': TT0 and TT1 of the 68030, ITT0, ITT1, DTT0 and DTT1 of the 68040.
-use Prim.Native.Nat.{ℕ, _-_, _/_, _%_, _^_}
-use mathlib.Core.Bool.{Bool, true, false, not, _&&_, _||_}
-use lib.Dec.{eqb}
-use Rattle.definition.specs.Words.{if_then_else_, bitOf, agrees}
-use Rattle.definition.specs.declared.Registers.{Registers}
+use Rattle.definition.specs.Words.{ℕ, _-_, _/_, _%_, _^_, Bool, true, false, not, _&&_, _||_, eqb, if_then_else_, bitOf, agrees}
+use Rattle.definition.specs.Types.{Registers}
 
 -- 'Bit 15 enables. Address bits 31:24 are compared with register bits 31:24, ignoring those set in 23:16.'
 abbrev pub covers : ℕ → ℕ → Bool

@@ -1,21 +1,8 @@
 -- Document 01, 'The 68030 walk': the levels that TC, the address and the code settle, and what walking them finds.
-use Prim.Native.Nat.{ℕ, zero, suc, _+_, _-_, _*_, _/_, _%_, _^_}
-use mathlib.Core.List.{List, [], _∷_, _++_}
-use mathlib.Core.Bool.{Bool, true, false, _&&_, _||_}
-use lib.Dec.{ltb, leb, eqb}
-use Rattle.definition.specs.Words.{if_then_else_, bitOf}
+use Rattle.definition.specs.Words.{ℕ, _+_, _-_, _*_, _/_, _%_, _^_, List, [], _∷_, _++_, Bool, true, false, _&&_, _||_, ltb, leb, eqb, if_then_else_, bitOf}
 use Rattle.definition.specs.Memory.{Memory, fetchOf}
 use Rattle.definition.specs.Registers.{rootOf}
-use Rattle.definition.specs.declared.Fetched.{Fetched}
-use Rattle.definition.specs.declared.Fetched.the-variants.{Long, Failed}
-use Rattle.definition.specs.declared.Descriptor.{Descriptor}
-use Rattle.definition.specs.declared.Descriptor.the-variants.{Whole, Lost}
-use Rattle.definition.specs.declared.End.{End}
-use Rattle.definition.specs.declared.End.the-variants.{Page, Invalid, LevelStop, BusError, Config}
-use Rattle.definition.specs.declared.Registers.{Registers}
-use Rattle.definition.specs.declared.Root.{Root}
-use Rattle.definition.specs.declared.Shift.{Shift}
-use Rattle.definition.specs.declared.Shift.the-variants.{Bits, NoPage}
+use Rattle.definition.specs.Types.{Fetched, Long, Failed, End, Page, Invalid, LevelStop, BusError, Config, Registers, Root, Shift, Bits, NoPage}
 
 -- ---- descriptors
 -- 'entry i is 4i or 8i after it, wrapping'
@@ -26,20 +13,27 @@ sizeOf false = 4
 abbrev pub entryOf : ℕ → ℕ → Bool → ℕ
 entryOf table index long = (table + index * sizeOf long) % 2 ^ 32
 
+-- a descriptor that was read: its type, its address field, WP and S; or the address of the long of it that failed. With each, the longs asked for
+pub data Descriptor : Type 0 where
+  Whole : ℕ → ℕ → Bool → Bool → List ℕ → Descriptor
+  Lost : ℕ → List ℕ → Descriptor
+
 -- 'Short descriptors are one long ..; type in 1:0 and WP in bit 2 of the first'
 abbrev pub shortOf : ℕ → Fetched → Descriptor
-shortOf at (Long first) = Whole (first % 4) first (bitOf first 2) false 1
-shortOf at Failed = Lost at 1
+shortOf at (Long first) = Whole (first % 4) first (bitOf first 2) false (at ∷ [])
+shortOf at Failed = Lost at (at ∷ [])
 
--- '.. long ones two; .. S in bit 8 of the first long of a long one; the address field is the last long'
-abbrev pub onSecond : ℕ → ℕ → Fetched → Descriptor
-onSecond first at (Long second) = Whole (first % 4) second (bitOf first 2) (bitOf first 8) 2
-onSecond first at Failed = Lost at 2
+-- '.. long ones two; .. S in bit 8 of the first long of a long one; the address field is the last long', the one at `next`
+abbrev pub onSecond : ℕ → ℕ → ℕ → Fetched → Descriptor
+onSecond first at next (Long second) = Whole (first % 4) second (bitOf first 2) (bitOf first 8) (at ∷ next ∷ [])
+onSecond first at next Failed = Lost next (at ∷ next ∷ [])
 
+-- by its first long: the second is asked for where the first was given
 abbrev pub longOf : Memory → ℕ → Fetched → Descriptor
-longOf m at (Long first) = onSecond first (entryOf at 1 false) (fetchOf m (entryOf at 1 false))
-longOf m at Failed = Lost at 1
+longOf m at (Long first) = onSecond first at (entryOf at 1 false) (fetchOf m (entryOf at 1 false))
+longOf m at Failed = Lost at (at ∷ [])
 
+-- the descriptor at `at`, short or long
 unfoldable pub readOf : Memory → ℕ → Bool → Descriptor
 readOf m at long = if long then longOf m at (fetchOf m at) else shortOf at (fetchOf m at)
 
@@ -96,14 +90,9 @@ pub record Outcome : Type 0 where
 abbrev pub ended : End → Found → Outcome
 ended e f = record { end = e; found = f }
 
--- n longs from `at` on
-abbrev pub longsAt : ℕ → ℕ → List ℕ
-longsAt at zero = []
-longsAt at (suc n) = at ∷ longsAt (entryOf at 1 false) n
-
--- n longs were asked for, for the descriptor at `at`
-abbrev pub asking : ℕ → ℕ → Found → Found
-asking at n f = record { wp = f .wp; sup = f .sup; levels = f .levels; last = at; asked = f .asked ++ longsAt at n }
+-- these longs were asked for, for the descriptor at `at`
+abbrev pub asking : ℕ → List ℕ → Found → Found
+asking at asked f = record { wp = f .wp; sup = f .sup; levels = f .levels; last = at; asked = f .asked ++ asked }
 
 -- one level more
 abbrev pub deeper : Found → Found
@@ -119,9 +108,9 @@ byKind kind invalid page table = if eqb kind 1 then page else if ltb kind 2 then
 
 -- 'must be type 1, adds its own WP and S even if it isn't .., and counts no level'
 abbrev pub onTarget : ℕ → ℕ → Found → Descriptor → Outcome
-onTarget consumed at f (Lost lost n) = ended (BusError lost) (asking at n f)
-onTarget consumed at f (Whole kind field wp sup n) =
-    ended (if eqb kind 1 then Page field consumed else Invalid true) (guarded wp sup (asking at n f))
+onTarget consumed at f (Lost lost asked) = ended (BusError lost) (asking at asked f)
+onTarget consumed at f (Whole kind field wp sup asked) =
+    ended (if eqb kind 1 then Page field consumed else Invalid true) (guarded wp sup (asking at asked f))
 
 -- 'Types 2 and 3 name the next table, short or long, at field & FFFFFFF0. On the last level they are indirect: the target is at field & FFFFFFFC, in that format' .. '(the indirect one adds none)'
 abbrev pub onTable : Memory → ℕ → ℕ → ℕ → Bool → Bool → Found → List Step → (ℕ → Bool → Found → Outcome) → Outcome
@@ -131,12 +120,12 @@ onTable m consumed kind field wp sup f (step ∷ rest) next = next (field / 16 *
 
 -- 'The walk ends at the first descriptor that decides'; 'WP and S add up over all but type 0'; 'A failing fetch isn't in N.'
 abbrev pub onDescriptor : Memory → ℕ → ℕ → Found → List Step → (ℕ → Bool → Found → Outcome) → Descriptor → Outcome
-onDescriptor m consumed at f rest next (Lost lost n) = ended (BusError lost) (asking at n f)
-onDescriptor m consumed at f rest next (Whole kind field wp sup n) =
+onDescriptor m consumed at f rest next (Lost lost asked) = ended (BusError lost) (asking at asked f)
+onDescriptor m consumed at f rest next (Whole kind field wp sup asked) =
     byKind kind
-    (ended (Invalid false) (deeper (asking at n f)))
-    (ended (Page field consumed) (guarded wp sup (deeper (asking at n f))))
-    (onTable m consumed kind field wp sup (deeper (asking at n f)) rest next)
+    (ended (Invalid false) (deeper (asking at asked f)))
+    (ended (Page field consumed) (guarded wp sup (deeper (asking at asked f))))
+    (onTable m consumed kind field wp sup (deeper (asking at asked f)) rest next)
 
 -- 'at most that many levels'. No level left does not come up: the last one ends or is indirect
 unfoldable pub walkFrom : Memory → ℕ → List Step → ℕ → Bool → Found → Outcome

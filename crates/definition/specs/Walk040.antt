@@ -1,18 +1,8 @@
 -- Document 01, 'The 68040 walk, also for family 60'.
-use Prim.Native.Nat.{ℕ, _+_, _*_, _/_, _%_, _^_}
-use mathlib.Core.List.{List, [], _∷_, _++_}
-use mathlib.Core.Bool.{Bool, false, _||_}
-use lib.Dec.{ltb, eqb}
-use Rattle.definition.specs.Words.{if_then_else_, bitOf}
+use Rattle.definition.specs.Words.{ℕ, _+_, _*_, _/_, _%_, _^_, List, [], _∷_, _++_, Bool, false, _||_, ltb, eqb, if_then_else_, bitOf}
 use Rattle.definition.specs.Memory.{Memory, fetchOf}
 use Rattle.definition.specs.Walk030.{entryOf}
-use Rattle.definition.specs.declared.Fetched.{Fetched}
-use Rattle.definition.specs.declared.Fetched.the-variants.{Long, Failed}
-use Rattle.definition.specs.declared.End040.{End040}
-use Rattle.definition.specs.declared.End040.the-variants.{Resident, Absent, Lost}
-use Rattle.definition.specs.declared.FaultCause.{FaultCause}
-use Rattle.definition.specs.declared.FaultCause.the-variants as cause
-use Rattle.definition.specs.declared.Registers.{Registers}
+use Rattle.definition.specs.Types.{Fetched, Long, Failed, End040, Resident, Absent, Lost, FaultCause, Registers}
 
 -- how a walk ended, with the address of each long that it asked for
 pub record Outcome040 : Type 0 where
@@ -63,20 +53,20 @@ onPage tables missing page asked =
 abbrev pub onEntry : Memory → Bool → ℕ → List ℕ → Outcome040
 onEntry m tables page asked =
     if eqb (page % 4) 2
-    then asks m (page / 4 * 4) asked (λ target asked. onPage tables cause.Indirect target asked)
-    else onPage tables cause.PageFault page asked
+    then asks m (page / 4 * 4) asked (λ target asked. onPage tables FaultCause.Indirect target asked)
+    else onPage tables FaultCause.PageFault page asked
 
 -- 'type below 2 PointerA. .. below 2 PointerB.'
 abbrev pub onPointer : Memory → ℕ → ℕ → ℕ → ℕ → List ℕ → Outcome040
 onPointer m tc address root pointer asked =
     if ltb (pointer % 4) 2
-    then ended040 (Absent cause.PointerB) asked
+    then ended040 (Absent FaultCause.PointerB) asked
     else asks m (pageAt tc pointer address) asked (λ page asked. onEntry m (bitOf root 2 || bitOf pointer 2) page asked)
 
 abbrev pub onRoot : Memory → ℕ → ℕ → ℕ → List ℕ → Outcome040
 onRoot m tc address root asked =
     if ltb (root % 4) 2
-    then ended040 (Absent cause.PointerA) asked
+    then ended040 (Absent FaultCause.PointerA) asked
     else asks m (pointerAt root address) asked (λ pointer asked. onPointer m tc address root pointer asked)
 
 -- from the root table's entry at `first`

@@ -1,9 +1,11 @@
--- The words that the other files are written in: choice, bits, and what is said of lists. No sentence of document 01 is here.
-use Prim.Native.Nat.{ℕ, zero, suc, _/_, _%_, _^_}
-use mathlib.Core.List.{List, [], _∷_}
-use mathlib.Core.Bool.{Bool, true, false, _&&_, _||_}
-use lib.Dec.{eqb}
-use lib.Bits.{bitAnd, bitXor}
+-- The words that the other files are written in: numbers, truth values and lists from the libraries; choice, bits, and what is said of lists. No sentence of
+-- document 01 is here.
+pub use Prim.Native.Nat.{ℕ, zero, suc, _+_, _-_, _*_, _/_, _%_, _^_}
+pub use mathlib.Core.Bool.{Bool, true, false, not, _&&_, _||_}
+pub use mathlib.Core.List.{List, [], _∷_, _++_, map}
+pub use lib.Dec.{eqb, ltb, leb}
+pub use lib.ListN.{length, getD, set, take, drop, replicate}
+pub use lib.Bits.{bitAnd, bitOr, bitXor}
 
 infixr 1 if_then_else_
 abbrev pub if_then_else_ : {A : Type 0} → Bool → A → A → A

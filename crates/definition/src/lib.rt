@@ -54,21 +54,6 @@ pub enum Fetched {
     Failed,
 }
 
-// What reading one 68030 descriptor gives, with the number of longs asked for. Lost: the long at `at` failed.
-pub enum Descriptor {
-    Whole {
-        kind: u32,
-        field: u32,
-        wp: bool,
-        sup: bool,
-        asked: u32,
-    },
-    Lost {
-        at: u32,
-        asked: u32,
-    },
-}
-
 // How a 68030 walk ends.
 pub enum End {
     Page { field: u32, consumed: u32 },

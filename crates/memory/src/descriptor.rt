@@ -1,7 +1,6 @@
 // One 68030 descriptor.
 use crate::bits::bit;
 use crate::longs::fetch;
-use definition::Descriptor;
 use definition::Fetched;
 use definition::Range;
 ghost use mathlib.Core.Path.{_≡_};
@@ -9,7 +8,22 @@ ghost use mathlib.Core.Bool.{false};
 ghost use Prim.Native.Nat.{_%_, _*_, _/_};
 ghost use Rattle.definition.specs.Memory.{memory};
 ghost use Rattle.definition.specs.Walk030.{entryOf, readOf, shortOf};
-ghost use Rattle.memory.specs.Descriptors.{alone, describedOf, ofTwo};
+ghost use Rattle.memory.specs.Descriptors.{alone, describedOf, ofTwo, shownRead};
+
+// What reading one 68030 descriptor gives, with the number of longs asked for. Lost: the long at `at` failed.
+pub enum Descriptor {
+    Whole {
+        kind: u32,
+        field: u32,
+        wp: bool,
+        sup: bool,
+        asked: u32,
+    },
+    Lost {
+        at: u32,
+        asked: u32,
+    },
+}
 
 // Entry i of the table at `table` is 4i or 8i after it, wrapping.
 pub fn entry(table: u32, index: u32, long: bool) -> u32
@@ -71,7 +85,7 @@ fn is_alone(long: bool, first: Fetched) -> bool
 
 // A short descriptor is one long, which is its address field too.
 fn of_one(at: u32, first: Fetched) -> Descriptor
-    ensures { λ r. ⌜ r ≡ shortOf at first ⌝ }
+    ensures { λ r. ⌜ r ≡ shownRead (shortOf at first) ⌝ }
 {
     match first {
         Fetched::Long(x) => described(x, x, false, 1),
@@ -104,7 +118,7 @@ fn of_two(at: u32, first: Fetched, second: Fetched) -> Descriptor
 
 // The descriptor at `at`, short or long.
 pub fn read_desc(longs: &[u32], base: u32, ranges: &[Range], at: u32, long: bool) -> Descriptor
-    ensures { λ r. ⌜ r ≡ readOf (memory (now (longs .entry)) base (now (ranges .entry))) at long ⌝ }
+    ensures { λ r. ⌜ r ≡ shownRead (readOf (memory (now (longs .entry)) base (now (ranges .entry))) at long) ⌝ }
 {
     let first = fetch(longs, base, ranges, at);
     if is_alone(long, first) {

@@ -13,14 +13,16 @@ use lib.ListN.{length, getD, drop, length-append, length-drop, drop-of-length-le
 use lib.Seq.{drop-cons}
 use Rattle.definition.specs.Words.{if_then_else_, bitOf}
 use Rattle.definition.specs.Memory.{Memory, fetchOf}
-use Rattle.definition.specs.Walk030.{entryOf, shortOf, longOf, onSecond, readOf, isOf, used, widthsOf, topIndex, Step, steps, stepsWith, Found, Outcome, ended, longsAt, asking, deeper, guarded, byKind, onTarget, onTable, onDescriptor, walkFrom, start, walkSteps, outcomeOf, walk030}
+use Rattle.definition.specs.Walk030.{entryOf, Descriptor, Whole, Lost, shortOf, longOf, onSecond, readOf, isOf, used, widthsOf, topIndex, Step, steps, stepsWith, Found, Outcome, ended, asking, deeper, guarded, byKind, onTarget, onTable, onDescriptor, walkFrom, start, walkSteps, outcomeOf, walk030}
 use Rattle.definition.specs.Registers.{rootOf}
 use Rattle.definition.specs.declared.Registers.{Registers}
 use Rattle.definition.specs.declared.Root.{Root}
 use Rattle.definition.specs.declared.Fetched.{Fetched}
 use Rattle.definition.specs.declared.Fetched.the-variants.{Long, Failed}
-use Rattle.definition.specs.declared.Descriptor.{Descriptor}
-use Rattle.definition.specs.declared.Descriptor.the-variants.{Whole, Lost}
+use Rattle.definition.proofs.Asked030.{askedFor}
+use Rattle.memory.specs.Descriptors.{shownRead}
+use Rattle.memory.specs.declared.descriptor.Descriptor.{Descriptor as Read}
+use Rattle.memory.specs.declared.descriptor.Descriptor.the-variants as given
 use Rattle.definition.specs.declared.End.{End}
 use Rattle.definition.specs.declared.End.the-variants.{Page, Invalid, LevelStop, BusError, Config}
 use Rattle.walk030.specs.Walked.{shown}
@@ -32,26 +34,41 @@ use Rattle.memory.proofs.Widths.{used-at, width-small, widths-few}
 use Rattle.walk030.proofs.Aiming as aim
 
 -- ---- what a descriptor asks for
-second-few : (first at : ℕ) (r : Fetched) → askedOf (onSecond first at r) ≤ 2
-second-few first at (Long second) = omega arith
-second-few first at Failed = omega arith
+second-few : (first at next : ℕ) (r : Fetched) → length (askedFor (onSecond first at next r)) ≤ 2
+second-few first at next (Long second) = omega arith
+second-few first at next Failed = omega arith
 
-long-few : (m : Memory) (at : ℕ) (r : Fetched) → askedOf (longOf m at r) ≤ 2
-long-few m at (Long first) = second-few first (entryOf at 1 false) (fetchOf m (entryOf at 1 false))
+long-few : (m : Memory) (at : ℕ) (r : Fetched) → length (askedFor (longOf m at r)) ≤ 2
+long-few m at (Long first) = second-few first at (entryOf at 1 false) (fetchOf m (entryOf at 1 false))
 long-few m at Failed = omega arith
 
-short-few : (at : ℕ) (r : Fetched) → askedOf (shortOf at r) ≤ 2
+short-few : (at : ℕ) (r : Fetched) → length (askedFor (shortOf at r)) ≤ 2
 short-few at (Long first) = omega arith
 short-few at Failed = omega arith
 
-read-few : (m : Memory) (at : ℕ) (long : Bool) → askedOf (readOf m at long) ≤ 2
+read-few : (m : Memory) (at : ℕ) (long : Bool) → length (askedFor (readOf m at long)) ≤ 2
 unfolding readOf
 read-few m at true = long-few m at (fetchOf m at)
 read-few m at false = short-few at (fetchOf m at)
 
-longs-length : (at n : ℕ) → length (longsAt at n) ≡ n
-longs-length at zero = refl
-longs-length at (suc n) = ap suc (longs-length (entryOf at 1 false) n)
+-- the code counts them
+counted : (d : Descriptor) → askedOf (shownRead d) ≡ length (askedFor d)
+counted (Whole kind field wp sup x) = refl
+counted (Lost at x) = refl
+
+-- what the code was given is what was read
+lost-is : (d : Descriptor) {at n : ℕ} → shownRead d ≡ given.Lost at n → d ≡ Lost at (askedFor d)
+lost-is (Whole kind field wp sup x) e = let z : _≡_ {A = ℕ} 0 1 = cc in absurd (omega arith)
+lost-is (Lost at x) {at′} e = let same : at ≡ at′ = cc in rw same
+
+whole-is : (d : Descriptor) {kind field n : ℕ} {wp sup : Bool} → shownRead d ≡ given.Whole kind field wp sup n → d ≡ Whole kind field wp sup (askedFor d)
+whole-is (Whole kind field wp sup x) {kind′} {field′} {n} {wp′} {sup′} e =
+    let k : kind ≡ kind′ = cc in
+    let f : field ≡ field′ = cc in
+    let w : wp ≡ wp′ = cc in
+    let s : sup ≡ sup′ = cc in
+    rw (k, f, w, s)
+whole-is (Lost at x) e = let z : _≡_ {A = ℕ} 0 1 = cc in absurd (omega arith)
 
 steps-length : (address consumed : ℕ) (ws : List ℕ) → length (steps address consumed ws) ≡ length ws
 steps-length address consumed [] = refl
@@ -222,8 +239,8 @@ module _ (m : Memory) (tc : ℕ) (root : Root) (address code limit : ℕ) where
       then ended (Page field (s .consumed)) (found s asked)
       else if byKind kind true false (s .target) then ended (Invalid (s .target)) (found s asked) else rest (onwardOf (length us) s kind field) asked
 
-  lost : (s : Walking030) (asked : List ℕ) (at x : ℕ)
-      → onward s asked (Lost at x) ≡ ended (BusError at) (found (seenOf (length us) s (Lost at x)) (asked ++ longsAt (s .last) x))
+  lost : (s : Walking030) (asked : List ℕ) (at : ℕ) (x : List ℕ)
+      → onward s asked (Lost at x) ≡ ended (BusError at) (found (seenOf (length us) s (shownRead (Lost at x))) (asked ++ x))
   unfolding seenOf
   lost s asked at x = go (s .target)
     where
@@ -232,16 +249,16 @@ module _ (m : Memory) (tc : ℕ) (root : Root) (address code limit : ℕ) where
       go true = refl
       go false = refl
 
-  module _ (r : ℕ) (s : Walking030) (asked : List ℕ) (a : Aims r s asked) (kind field x : ℕ) (wp sup : Bool) where
+  module _ (r : ℕ) (s : Walking030) (asked : List ℕ) (a : Aims r s asked) (kind field : ℕ) (x : List ℕ) (wp sup : Bool) where
     -- with the descriptor, and with the longs asked for it
     abbrev with-it : Walking030
-    with-it = seenOf (length us) s (Whole kind field wp sup x)
+    with-it = seenOf (length us) s (shownRead (Whole kind field wp sup x))
 
     abbrev grown : List ℕ
-    grown = asked ++ longsAt (s .last) x
+    grown = asked ++ x
 
     abbrev held : Bool → Bool → ℕ → Walking030
-    held w p n = heldOf s w p n (s .asked + x)
+    held w p n = heldOf s w p n (s .asked + length x)
 
     decides-target : s .target ≡ true → onward s asked (Whole kind field wp sup x) ≡ decided with-it grown kind field
     unfolding seenOf
@@ -297,13 +314,13 @@ module _ (m : Memory) (tc : ℕ) (root : Root) (address code limit : ℕ) where
           go false hb false hc false he = rw (adding (rw (t, hb, hc, he)), t, hb, hc, he, a .plain t .0) (to-table (eqb-false (s .k) (length us) he))
 
       -- the walk goes on
-      goes-on : x ≤ 2 → whole ≡ rest (onwardOf (length us) with-it kind field) grown
+      goes-on : length x ≤ 2 → whole ≡ rest (onwardOf (length us) with-it kind field) grown
           → Stands (onwardOf (length us) with-it kind field) grown × (rank (onwardOf (length us) with-it kind field) < r)
       unfolding seenOf
       goes-on few e = go (eqb (s .k) (length us)) refl e
         where
-          count : length grown ≡ s .asked + x
-          count = omega (arith, length-append asked (longsAt (s .last) x), longs-length (s .last) x, a .count)
+          count : length grown ≡ s .asked + length x
+          count = omega (arith, length-append asked x, a .count)
 
           deep : levelsOf s ≡ s .levels + 1
           deep = rw t
@@ -344,15 +361,15 @@ module _ (m : Memory) (tc : ℕ) (root : Root) (address code limit : ℕ) where
         go true t = decides-target t
         go false t = decides-level t
 
-  seen-asked : (n : ℕ) (s : Walking030) (d : Descriptor) → seenOf n s d .asked ≡ s .asked + askedOf d
+  seen-asked : (n : ℕ) (s : Walking030) (d : Read) → seenOf n s d .asked ≡ s .asked + askedOf d
   unfolding seenOf
-  seen-asked n s (Whole kind field wp sup x) = refl
-  seen-asked n s (Lost at x) = refl
+  seen-asked n s (given.Whole kind field wp sup x) = refl
+  seen-asked n s (given.Lost at x) = refl
 
-  seen-target : (n : ℕ) (s : Walking030) (d : Descriptor) → seenOf n s d .target ≡ s .target
+  seen-target : (n : ℕ) (s : Walking030) (d : Read) → seenOf n s d .target ≡ s .target
   unfolding seenOf
-  seen-target n s (Whole kind field wp sup x) = refl
-  seen-target n s (Lost at x) = refl
+  seen-target n s (given.Whole kind field wp sup x) = refl
+  seen-target n s (given.Lost at x) = refl
 
   -- ---- where it begins
   config : (ss : List Step) (b : Bool)
@@ -443,63 +460,71 @@ module _ (m : Memory) (tc : ℕ) (root : Root) (address code limit : ℕ) where
     pub ends-stop : T b → {w : Walked} → w ≡ answered (t .s) LevelStop → w ≡ shown whole
     ends-stop h ew = ended-so (t .s) (t .asked) LevelStop (stops (t .s) (t .asked) (t .stands) (sym eb ∙ T-true b h)) (t .stands .count) refl ew
 
-    module _ (h : T (not b)) {r : Walking030} (e : r ≡ aimOf (t .ws) address code (t .s)) {w : ℕ} (ew : w ≡ r .last) {l : Bool} (el : l ≡ r .long) {d : Descriptor} (ed : d ≡ readOf m w l) where
+    module _ (h : T (not b)) {r : Walking030} (e : r ≡ aimOf (t .ws) address code (t .s)) {w : ℕ} (ew : w ≡ r .last) {l : Bool} (el : l ≡ r .long) {d : Read} (ed : d ≡ shownRead (readOf m w l)) where
       aims : Aims (rank (t .s)) r (t .asked)
       aims =
           subst (λ (s : Walking030). Aims (rank (t .s)) s (t .asked)) (sym (e ∙ rw (t .ws-is)))
           (aimed (t .s) (t .asked) (t .stands) (sym eb ∙ T-false b h))
 
-      read : d ≡ readOf m (r .last) (r .long)
+      -- the descriptor that was read, and the longs asked for it
+      abbrev it : Descriptor
+      it = readOf m (r .last) (r .long)
+
+      read : d ≡ shownRead it
       read = ed ∙ rw (ew, el)
 
-      few : askedOf d ≤ 2
-      few = rw read (read-few m (r .last) (r .long))
+      counts-it : askedOf d ≡ length (askedFor it)
+      counts-it = ap askedOf read ∙ counted it
+
+      few : length (askedFor it) ≤ 2
+      few = read-few m (r .last) (r .long)
 
       -- what `seen` asks
       pub seen-asks : (r .levels < 1000) × (r .asked < 1000) × (askedOf d < 1000)
-      seen-asks = (omega (arith, aims .levels≤), omega (arith, aims .asked≤), omega (arith, few))
-
-      reads : whole ≡ onward r (t .asked) d
-      reads = aims .same ∙ ap (onward r (t .asked)) (sym read)
+      seen-asks = (omega (arith, aims .levels≤), omega (arith, aims .asked≤), omega (arith, few, counts-it))
 
       module _ {q : Walking030} (eq : q ≡ seenOf (t .n) r d) where
         seen-is : q ≡ seenOf (length us) r d
         seen-is = eq ∙ ap (λ (n : ℕ). seenOf n r d) (t .n-is)
 
-        -- the longs asked for, with n for the descriptor
-        abbrev pub now : ℕ → List ℕ
-        now n = t .asked ++ longsAt (r .last) n
+        -- the longs asked for, with those for the descriptor
+        abbrev pub now : List ℕ
+        now = t .asked ++ askedFor it
 
-        counts : (n : ℕ) → askedOf d ≡ n → length (now n) ≡ q .asked
-        counts n e =
-            omega (arith, length-append (t .asked) (longsAt (r .last) n), longs-length (r .last) n, aims .count, ap (λ (s : Walking030). s .asked) seen-is, seen-asked (length us) r d)
+        counts : length now ≡ q .asked
+        counts =
+            omega (arith, length-append (t .asked) (askedFor it), counts-it, aims .count, ap (λ (s : Walking030). s .asked) seen-is, seen-asked (length us) r d)
 
         -- the way out at a bus error
-        pub ends-lost : {at n : ℕ} → d ≡ Lost at n → {a : Walked} → a ≡ answered q (BusError at) → a ≡ shown whole
+        pub ends-lost : {at n : ℕ} → d ≡ given.Lost at n → {a : Walked} → a ≡ answered q (BusError at) → a ≡ shown whole
         ends-lost {at} {n} el ea =
-            ended-so q (now n) (BusError at)
-            (reads ∙ ap (onward r (t .asked)) el ∙ lost r (t .asked) at n
-            ∙ ap (λ (s : Walking030). ended (BusError at) (found s (now n))) (sym (seen-is ∙ ap (seenOf (length us) r) el)))
-            (counts n (ap askedOf el)) refl ea
+            let is-lost = lost-is it (sym read ∙ el) in
+            ended-so q now (BusError at)
+            (aims .same ∙ ap (onward r (t .asked)) is-lost ∙ lost r (t .asked) at (askedFor it)
+            ∙ ap (λ (s : Walking030). ended (BusError at) (found s now)) (sym (seen-is ∙ ap (seenOf (length us) r) (read ∙ ap shownRead is-lost))))
+            counts refl ea
 
-        module _ {kind field n : ℕ} {wp sup : Bool} (is-whole : d ≡ Whole kind field wp sup n) {p : Bool} (ep : p ≡ eqb kind 1) where
-          holds : q ≡ seenOf (length us) r (Whole kind field wp sup n)
-          holds = seen-is ∙ ap (seenOf (length us) r) is-whole
+        module _ {kind field n : ℕ} {wp sup : Bool} (is-whole : d ≡ given.Whole kind field wp sup n) {p : Bool} (ep : p ≡ eqb kind 1) where
+          it-is : it ≡ Whole kind field wp sup (askedFor it)
+          it-is = whole-is it (sym read ∙ is-whole)
 
-          settles : whole ≡ decided q (now n) kind field
+          holds : q ≡ seenOf (length us) r (shownRead (Whole kind field wp sup (askedFor it)))
+          holds = seen-is ∙ ap (seenOf (length us) r) (read ∙ ap shownRead it-is)
+
+          settles : whole ≡ decided q now kind field
           settles =
-              reads ∙ ap (onward r (t .asked)) is-whole ∙ decides (rank (t .s)) r (t .asked) aims kind field n wp sup
-              ∙ ap (λ (s : Walking030). decided s (now n) kind field) (sym holds)
+              aims .same ∙ ap (onward r (t .asked)) it-is ∙ decides (rank (t .s)) r (t .asked) aims kind field (askedFor it) wp sup
+              ∙ ap (λ (s : Walking030). decided s now kind field) (sym holds)
 
           -- the way out at a page
           pub ends-page : T p → {c : ℕ} → c ≡ q .consumed → {a : Walked} → a ≡ answered q (Page field c) → a ≡ shown whole
-          ends-page hp ec ea = ended-so q (now n) (Page field (q .consumed)) (settles ∙ rw (sym ep ∙ T-true p hp)) (counts n (ap askedOf is-whole)) (rw ec) ea
+          ends-page hp ec ea = ended-so q now (Page field (q .consumed)) (settles ∙ rw (sym ep ∙ T-true p hp)) counts (rw ec) ea
 
           module _ (hp : T (not p)) {i : Bool} (ei : i ≡ byKind kind true false (q .target)) where
             -- the way out at an invalid descriptor
             pub ends-invalid : T i → {c : Bool} → c ≡ q .target → {a : Walked} → a ≡ answered q (Invalid c) → a ≡ shown whole
             ends-invalid hi ec ea =
-                ended-so q (now n) (Invalid (q .target)) (settles ∙ rw (sym ei ∙ T-true i hi, sym ep ∙ T-false p hp)) (counts n (ap askedOf is-whole)) (rw ec) ea
+                ended-so q now (Invalid (q .target)) (settles ∙ rw (sym ei ∙ T-true i hi, sym ep ∙ T-false p hp)) counts (rw ec) ea
 
             -- the walk goes on
             module _ (hi : T (not i)) {r₂ : Walking030} (e₂ : r₂ ≡ onwardOf (t .n) q kind field) where
@@ -511,27 +536,27 @@ module _ (m : Memory) (tc : ℕ) (root : Root) (address code limit : ℕ) where
                   go false f true c h = absurd (clash h)
                   go false f false c h = h
 
-              onward-is : r₂ ≡ onwardOf (length us) (seenOf (length us) r (Whole kind field wp sup n)) kind field
+              onward-is : r₂ ≡ onwardOf (length us) (seenOf (length us) r (shownRead (Whole kind field wp sup (askedFor it)))) kind field
               onward-is = e₂ ∙ ap (λ (n : ℕ). onwardOf n q kind field) (t .n-is) ∙ ap (λ (s : Walking030). onwardOf (length us) s kind field) holds
 
-              goes : whole ≡ rest r₂ (now n)
+              goes : whole ≡ rest r₂ now
               goes =
                   settles ∙ rw (sym ei ∙ T-false i hi, sym ep ∙ T-false p hp)
-                  (ap (λ (s : Walking030). rest s (now n)) (sym (e₂ ∙ ap (λ (n : ℕ). onwardOf n q kind field) (t .n-is))))
+                  (ap (λ (s : Walking030). rest s now) (sym (e₂ ∙ ap (λ (n : ℕ). onwardOf n q kind field) (t .n-is))))
 
-              turned : Stands r₂ (now n) × (rank r₂ < rank (t .s))
+              turned : Stands r₂ now × (rank r₂ < rank (t .s))
               turned =
-                  subst (λ (s : Walking030). Stands s (now n) × (rank s < rank (t .s))) (sym onward-is)
-                  (goes-on (rank (t .s)) r (t .asked) aims kind field n wp sup no-target (subst (λ (k : ℕ). k ≤ 2) (ap askedOf is-whole) few) (goes ∙ ap (λ (s : Walking030). rest s (now n)) onward-is))
+                  subst (λ (s : Walking030). Stands s now × (rank s < rank (t .s))) (sym onward-is)
+                  (goes-on (rank (t .s)) r (t .asked) aims kind field (askedFor it) wp sup no-target few (goes ∙ ap (λ (s : Walking030). rest s now) onward-is))
 
-              pub next-stands : Stands r₂ (now n)
+              pub next-stands : Stands r₂ now
               next-stands = turned .0
 
               pub less : rank r₂ < rank (t .s)
               less = turned .1
 
               abbrev pub next : Turn
-              next = record { ws = t .ws; n = t .n; s = r₂; asked = now n; ws-is = t .ws-is; n-is = t .n-is; stands = next-stands }
+              next = record { ws = t .ws; n = t .n; s = r₂; asked = now; ws-is = t .ws-is; n-is = t .n-is; stands = next-stands }
 
 -- from the root of a code's space it is the definition's walk
 pub from-root : (m : Memory) (g : Registers) (address code limit : ℕ) {tc : ℕ} → tc ≡ g .tc → {root : Root} → root ≡ rootOf g code

@@ -7,8 +7,8 @@ use lib.ListN.{getD}
 use lib.Dec.{ltb, leb, eqb}
 use Rattle.definition.specs.Words.{if_then_else_, bitOf}
 use Rattle.definition.specs.Walk030.{entryOf, isOf, topIndex, byKind}
-use Rattle.definition.specs.declared.Descriptor.{Descriptor}
-use Rattle.definition.specs.declared.Descriptor.the-variants.{Whole, Lost}
+use Rattle.memory.specs.declared.descriptor.Descriptor.{Descriptor}
+use Rattle.memory.specs.declared.descriptor.Descriptor.the-variants.{Whole, Lost}
 use Rattle.definition.specs.declared.End.{End}
 use Rattle.definition.specs.declared.End.the-variants.{Config}
 use Rattle.definition.specs.declared.Root.{Root}

@@ -1,12 +1,12 @@
 // The 68030 walk over lent longs and lent bus-error ranges.
 mod machine;
 
-use definition::Descriptor;
 use definition::End;
 use definition::Range;
 use definition::Registers;
 use definition::Root;
 use memory::bits::bit;
+use memory::descriptor::Descriptor;
 use memory::descriptor::read_desc;
 use memory::page030::widths;
 use memory::registers::tc_of;

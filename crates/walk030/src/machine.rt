@@ -1,9 +1,9 @@
 // Where a 68030 walk stands before a descriptor, and what one descriptor changes.
 use crate::Walked;
-use definition::Descriptor;
 use definition::End;
 use definition::Root;
 use memory::bits::bit;
+use memory::descriptor::Descriptor;
 use memory::descriptor::entry;
 use memory::descriptor::kind_of;
 use memory::descriptor::table_of;

@@ -57,9 +57,10 @@ use Rattle.definition.specs.Walk030.{byKind}
 use Rattle.definition.specs.Words.{bitOf}
 use Rattle.walk030.specs.Machine.{aimOf, answered, askedOf, atLimit, beginOf, misconfiguredOf, noWalk, onwardOf, seenOf}
 use Rattle.definition.specs.Walk030.{readOf}
-use Rattle.definition.specs.declared.Descriptor.{Descriptor}
-use Rattle.definition.proofs.Descriptor as row-Descriptor
-use Rattle.definition.proofs.Descriptor.Laws as law-Descriptor
+use Rattle.memory.specs.Descriptors.{shownRead}
+use Rattle.memory.specs.declared.descriptor.Descriptor.{Descriptor}
+use Rattle.memory.proofs.descriptor.Descriptor as row-Descriptor
+use Rattle.memory.proofs.descriptor.Descriptor.Laws as law-Descriptor
 use Rattle.definition.specs.declared.End.{End}
 use Rattle.definition.proofs.End as row-End
 use Rattle.definition.proofs.End.Laws as law-End
@@ -334,8 +335,8 @@ module _ {M : Type 1} (𝓤 : URA M) (H : Heap 𝓤) (A : Atoms 𝓤) (W : Given
   goes-10 a0 v0 a1 v1 a2 v2 a3 v3 a4 v4 i1 i3 i4 =
       qed W (‵ (flft κ0 q0) ∷ ‵ (flft κ1 q1) ∷ ‵ ((ShrSlice (named 0) κ0 u32) .own a0 (v0 ∷ [])) ∷ ‵ ((ShrSlice (named 1) κ1 row-Range.the-row) .own a2 (v2 ∷ [])) ∷ []) ∵ nothing ! $ owned ! Boolean (Is Boolean) (bool-makes 𝓤 H A W) a4 _ i4 $ fjoin ! $ owned ! u32 (Is u32) (uint-makes 𝓤 H A W w32) a3 _ i3 $ fjoin ! $ move ! (4 ∷ 0 ∷ []) $ fjoin ! $ owned ! u32 (Is u32) (uint-makes 𝓤 H A W w32) a1 _ i1 $ fjoin ! $ move ! (3 ∷ 0 ∷ []) $ fjoin ! $ nothing ! $ move ! (3 ∷ 0 ∷ []) $ join ! $ move ! (2 ∷ 0 ∷ []) $ join ! $ join ! $ frame ! $ done !
 
-  said-10 : (a0 : RefT (List ℕ)) (a1 : ℕ) (a2 : RefT (List Range)) (a3 : ℕ) (a4 : Bool) (r : Descriptor) → ent 𝓤 (ensured 𝓤 H A c10.ended (c10.clauses 𝓤 H A mem run) (κ0, (κ1, tt)) (a0, (a1, (a2, (a3, (a4, tt))))) tt r) (fact 𝓤 (r ≡ readOf (memory (now a0) a1 (now a2)) a3 a4))
-  said-10 a0 a1 a2 a3 a4 r = exE 𝓤 _ (λ ws. snd∗ 𝓤 (sem 𝓤 H A (lasts c10.ended (κ0, (κ1, tt)) (a0, (a1, (a2, (a3, (a4, tt))))) ws)) (fact 𝓤 (r ≡ readOf (memory (now a0) a1 (now a2)) a3 a4)))
+  said-10 : (a0 : RefT (List ℕ)) (a1 : ℕ) (a2 : RefT (List Range)) (a3 : ℕ) (a4 : Bool) (r : Descriptor) → ent 𝓤 (ensured 𝓤 H A c10.ended (c10.clauses 𝓤 H A mem run) (κ0, (κ1, tt)) (a0, (a1, (a2, (a3, (a4, tt))))) tt r) (fact 𝓤 (r ≡ shownRead (readOf (memory (now a0) a1 (now a2)) a3 a4)))
+  said-10 a0 a1 a2 a3 a4 r = exE 𝓤 _ (λ ws. snd∗ 𝓤 (sem 𝓤 H A (lasts c10.ended (κ0, (κ1, tt)) (a0, (a1, (a2, (a3, (a4, tt))))) ws)) (fact 𝓤 (r ≡ shownRead (readOf (memory (now a0) a1 (now a2)) a3 a4))))
 
   -- the call of `machine.seen`: what it is passed, what it asks, and what is known of its result
   abbrev to-11 : (a0 : Walking030) (v0 : Val) (a1 : ℕ) (v1 : Val) (a2 : Descriptor) (v2 : Val) → C11 𝓤 H A mem run .Ghost
@@ -484,7 +485,7 @@ module _ {M : Type 1} (𝓤 : URA M) (H : Heap 𝓤) (A : Atoms 𝓤) (W : Given
           split ! $ move ! (56 ∷ 57 ∷ 2 ∷ 0 ∷ []) $ group ! 4 $
           use1 W (raw (C10 𝓤 H A mem run .pre (to-10 x1 (sliceVal (x1 .ptr) (length (x1 .now))) x2 (vint w32 x2) x3 (sliceVal (x3 .ptr) (length (x3 .now))) r36 (vint w32 r36) r40 (vbool r40)))) (goes-10 x1 (sliceVal (x1 .ptr) (length (x1 .now))) x2 (vint w32 x2) x3 (sliceVal (x3 .ptr) (length (x3 .now))) r36 (vint w32 r36) r40 (vbool r40) i2 (subst (Is u32 r36) (uint-tells w32 r36 _ is38) is38) (subst (Is Boolean r40) (bool-tells r40 _ is42) is42)) $
           calls-at ! fm (C10 𝓤 H A mem run) known-10 (to-10 x1 (sliceVal (x1 .ptr) (length (x1 .now))) x2 (vint w32 x2) x3 (sliceVal (x3 .ptr) (length (x3 .now))) r36 (vint w32 r36) r40 (vbool r40)) (and-then ! (load ! (from ! (stop !)) (look ! 4 refl)) (and-then ! (load ! (from ! (stop !)) (look ! 5 refl)) (and-then ! (load ! (from ! (stop !)) (look ! 6 refl)) (and-then ! (load ! (from ! (stop !)) (look ! 16 refl)) (and-then ! (load ! (from ! (stop !)) (look ! 17 refl)) (no-more !)))))) (λ u43.
-          use1 W (later (some (λ (r : Descriptor). ((‵ (flft κ0 q0) ⊛ ‵ (flft κ1 q1) ⊛ ‵ ftrue) ⊛ ‵ (row-Descriptor.the-row .own r (u43 ∷ []))) ⊛ raw (ensured 𝓤 H A c10.ended (c10.clauses 𝓤 H A mem run) (κ0, (κ1, tt)) (x1, (x2, (x3, (r36, (r40, tt))))) tt r)))) (id⊢ 𝓤 _) $ await ! tt $ choose ! (λ r44. split ! $ move ! (1 ∷ []) $ use1 W (raw (fact 𝓤 (r44 ≡ readOf (memory (now x1) x2 (now x3)) r36 r40))) (said-10 x1 x2 x3 r36 r40 r44) $ heard ! (r44 ≡ readOf (memory (now x1) x2 (now x3)) r36 r40) (λ e45. split ! $
+          use1 W (later (some (λ (r : Descriptor). ((‵ (flft κ0 q0) ⊛ ‵ (flft κ1 q1) ⊛ ‵ ftrue) ⊛ ‵ (row-Descriptor.the-row .own r (u43 ∷ []))) ⊛ raw (ensured 𝓤 H A c10.ended (c10.clauses 𝓤 H A mem run) (κ0, (κ1, tt)) (x1, (x2, (x3, (r36, (r40, tt))))) tt r)))) (id⊢ 𝓤 _) $ await ! tt $ choose ! (λ r44. split ! $ move ! (1 ∷ []) $ use1 W (raw (fact 𝓤 (r44 ≡ shownRead (readOf (memory (now x1) x2 (now x3)) r36 r40)))) (said-10 x1 x2 x3 r36 r40 r44) $ heard ! (r44 ≡ shownRead (readOf (memory (now x1) x2 (now x3)) r36 r40)) (λ e45. split ! $
           split ! $ move ! (1 ∷ []) $ split ! $ move ! (1 ∷ []) $ drop ! $ move ! (2 ∷ []) $
           facts ! row-Descriptor.the-row (Is row-Descriptor.the-row) (shows 𝓤 H A row-Descriptor.the-row) r44 (u43 ∷ []) (λ is46. land ! (from ! (stop !)) (init ! 19 refl (EL.lawful row-Descriptor.the-type law-Descriptor.the-laws 𝓤 H A W tt .typed r44 _ is46 .0)) $
           rewrite ! 19 (λ (u : Val). ‵ (fat fullShare law-Descriptor.mir l15 0 u)) (ap only (EL.tells row-Descriptor.the-type law-Descriptor.the-laws r44 _ is46)) refl $

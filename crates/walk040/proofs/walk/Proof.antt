@@ -39,7 +39,8 @@ use denote.Exit.{yes}
 use Rattle.walk040.proofs.Driving as law
 use Rattle.definition.specs.Memory.{memory}
 use Rattle.definition.specs.Walk040.{rootAt, walk040}
-use Rattle.walk040.specs.Walked.{shown040, walk040From}
+use Rattle.walk040.specs.Walked.{shown040}
+use Rattle.definition.specs.Walk040.{walk040From}
 use Rattle.definition.specs.declared.Range.{Range}
 use Rattle.definition.proofs.Range as row-Range
 use Rattle.definition.specs.declared.Registers.{Registers}

@@ -40,11 +40,11 @@ use Rattle.memory.proofs.Branching.{leaves-if}
 use Rattle.memory.proofs.Reading as law
 use Rattle.definition.specs.Memory.{memory}
 use Rattle.definition.specs.Walk030.{entryOf, readOf, shortOf}
-use Rattle.memory.specs.Descriptors.{alone, ofTwo}
+use Rattle.memory.specs.Descriptors.{alone, ofTwo, shownRead}
 use Rattle.definition.specs.Memory.{fetchOf}
-use Rattle.definition.specs.declared.Descriptor.{Descriptor}
-use Rattle.definition.proofs.Descriptor as row-Descriptor
-use Rattle.definition.proofs.Descriptor.Laws as law-Descriptor
+use Rattle.memory.specs.declared.descriptor.Descriptor.{Descriptor}
+use Rattle.memory.proofs.descriptor.Descriptor as row-Descriptor
+use Rattle.memory.proofs.descriptor.Descriptor.Laws as law-Descriptor
 use Rattle.definition.specs.declared.Fetched.{Fetched}
 use Rattle.definition.proofs.Fetched as row-Fetched
 use Rattle.definition.proofs.Fetched.Laws as law-Fetched
@@ -101,7 +101,7 @@ module _ {M : Type 1} (𝓤 : URA M) (H : Heap 𝓤) (A : Atoms 𝓤) (W : Given
   abbrev Post : Val → SProp 𝓤
   Post = walk-of 𝓤 H A self.ended stayed (self.clauses 𝓤 H A mem run) .post (((κ0, (κ1, tt)), (q0, (q1, tt)), tt, (x1, (x2, (x3, (x4, (x5, tt))))), at-entry), tt)
 
-  exits : (r : Descriptor) (u : Val) → Is row-Descriptor.the-row r (u ∷ []) → (r ≡ readOf (memory (now x1) x2 (now x3)) x4 x5) → ent 𝓤 (⋆ 𝓤 H A (‵ (flft κ0 q0) ∷ ‵ (flft κ1 q1) ∷ ‵ ((ShrSlice (named 0) κ0 u32) .own x1 (sliceVal (x1 .ptr) (length (x1 .now)) ∷ [])) ∷ ‵ ((ShrSlice (named 1) κ1 row-Range.the-row) .own x3 (sliceVal (x3 .ptr) (length (x3 .now)) ∷ [])) ∷ [])) (Post u)
+  exits : (r : Descriptor) (u : Val) → Is row-Descriptor.the-row r (u ∷ []) → (r ≡ shownRead (readOf (memory (now x1) x2 (now x3)) x4 x5)) → ent 𝓤 (⋆ 𝓤 H A (‵ (flft κ0 q0) ∷ ‵ (flft κ1 q1) ∷ ‵ ((ShrSlice (named 0) κ0 u32) .own x1 (sliceVal (x1 .ptr) (length (x1 .now)) ∷ [])) ∷ ‵ ((ShrSlice (named 1) κ1 row-Range.the-row) .own x3 (sliceVal (x3 .ptr) (length (x3 .now)) ∷ [])) ∷ [])) (Post u)
   exits r u is e =
       qed W (‵ (flft κ0 q0) ∷ ‵ (flft κ1 q1) ∷ ‵ ((ShrSlice (named 0) κ0 u32) .own x1 (sliceVal (x1 .ptr) (length (x1 .now)) ∷ [])) ∷ ‵ ((ShrSlice (named 1) κ1 row-Range.the-row) .own x3 (sliceVal (x3 .ptr) (length (x3 .now)) ∷ [])) ∷ []) ∵
       suffices ! _ (ends-at 𝓤 H A self.ended stayed (self.clauses 𝓤 H A mem run) W (((κ0, (κ1, tt)), (q0, (q1, tt)), tt, (x1, (x2, (x3, (x4, (x5, tt))))), at-entry), tt) u r (tt, (tt, (tt, (tt, (tt, tt))))) (tt, (tt, (tt, (tt, (tt, tt)))))) $ says ! e $
@@ -137,8 +137,8 @@ module _ {M : Type 1} (𝓤 : URA M) (H : Heap 𝓤) (A : Atoms 𝓤) (W : Given
   goes-2 a0 v0 a1 v1 i0 i1 =
       qed W ([]) ∵ nothing ! $ owned ! row-Fetched.the-row (Is row-Fetched.the-row) (EL.makes row-Fetched.the-type law-Fetched.the-plain 𝓤 H A) a1 _ i1 $ fjoin ! $ owned ! u32 (Is u32) (uint-makes 𝓤 H A W w32) a0 _ i0 $ fjoin ! $ nothing ! $ join ! $ frame ! $ done !
 
-  said-2 : (a0 : ℕ) (a1 : Fetched) (r : Descriptor) → ent 𝓤 (ensured 𝓤 H A c2.ended (c2.clauses 𝓤 H A mem run) tt (a0, (a1, tt)) tt r) (fact 𝓤 (r ≡ shortOf a0 a1))
-  said-2 a0 a1 r = exE 𝓤 _ (λ ws. snd∗ 𝓤 (sem 𝓤 H A (lasts c2.ended tt (a0, (a1, tt)) ws)) (fact 𝓤 (r ≡ shortOf a0 a1)))
+  said-2 : (a0 : ℕ) (a1 : Fetched) (r : Descriptor) → ent 𝓤 (ensured 𝓤 H A c2.ended (c2.clauses 𝓤 H A mem run) tt (a0, (a1, tt)) tt r) (fact 𝓤 (r ≡ shownRead (shortOf a0 a1)))
+  said-2 a0 a1 r = exE 𝓤 _ (λ ws. snd∗ 𝓤 (sem 𝓤 H A (lasts c2.ended tt (a0, (a1, tt)) ws)) (fact 𝓤 (r ≡ shownRead (shortOf a0 a1))))
 
   -- the call of `descriptor.second_at`: what it is passed, what it asks, and what is known of its result
   abbrev to-3 : (a0 : ℕ) (v0 : Val) → C3 𝓤 H A mem run .Ghost
@@ -197,7 +197,7 @@ module _ {M : Type 1} (𝓤 : URA M) (H : Heap 𝓤) (A : Atoms 𝓤) (W : Given
         leaves-if ! (load ! (from ! (stop !)) (look ! 4 refl))
         (λ h9. use0 W (raw (C2 𝓤 H A mem run .pre (to-2 x4 (vint w32 x4) r2 (EL.val row-Fetched.the-type law-Fetched.the-laws r2)))) (goes-2 x4 (vint w32 x4) r2 (EL.val row-Fetched.the-type law-Fetched.the-laws r2) i4 (subst (Is row-Fetched.the-row r2) (EL.tells row-Fetched.the-type law-Fetched.the-laws r2 _ is4) is4)) $
         calls-at ! fm (C2 𝓤 H A mem run) known-2 (to-2 x4 (vint w32 x4) r2 (EL.val row-Fetched.the-type law-Fetched.the-laws r2)) (and-then ! (load ! (from ! (stop !)) (look ! 15 refl)) (and-then ! (load ! (from ! (stop !)) (look ! 11 refl)) (no-more !))) (λ u10.
-        use1 W (later (some (λ (r : Descriptor). (‵ ftrue ⊛ ‵ (row-Descriptor.the-row .own r (u10 ∷ []))) ⊛ raw (ensured 𝓤 H A c2.ended (c2.clauses 𝓤 H A mem run) tt (x4, (r2, tt)) tt r)))) (id⊢ 𝓤 _) $ await ! tt $ choose ! (λ r11. split ! $ move ! (1 ∷ []) $ use1 W (raw (fact 𝓤 (r11 ≡ shortOf x4 r2))) (said-2 x4 r2 r11) $ heard ! (r11 ≡ shortOf x4 r2) (λ e12. split ! $
+        use1 W (later (some (λ (r : Descriptor). (‵ ftrue ⊛ ‵ (row-Descriptor.the-row .own r (u10 ∷ []))) ⊛ raw (ensured 𝓤 H A c2.ended (c2.clauses 𝓤 H A mem run) tt (x4, (r2, tt)) tt r)))) (id⊢ 𝓤 _) $ await ! tt $ choose ! (λ r11. split ! $ move ! (1 ∷ []) $ use1 W (raw (fact 𝓤 (r11 ≡ shownRead (shortOf x4 r2)))) (said-2 x4 r2 r11) $ heard ! (r11 ≡ shownRead (shortOf x4 r2)) (λ e12. split ! $
         drop ! $
         facts ! row-Descriptor.the-row (Is row-Descriptor.the-row) (shows 𝓤 H A row-Descriptor.the-row) r11 (u10 ∷ []) (λ is13. land ! (from ! (stop !)) (init ! 22 refl (EL.lawful row-Descriptor.the-type law-Descriptor.the-laws 𝓤 H A W tt .typed r11 _ is13 .0)) $
         rewrite ! 22 (λ (u : Val). ‵ (fat fullShare law-Descriptor.mir l0 0 u)) (ap only (EL.tells row-Descriptor.the-type law-Descriptor.the-laws r11 _ is13)) refl $
