@@ -8,9 +8,11 @@ use borrow.Author.Tests.{leb-true}
 use lib.Dec.{leb}
 use lib.ListN.{length, take, drop}
 use lib.Seq.{length-take-le}
-use Rattle.definition.specs.Words.{if_then_else_}
-use Rattle.definition.specs.Calls.{Line, translationLine}
-use Rattle.definition.specs.Trace.{Record, Malformed, recordOf, State, malformedLine, stepOf, text, firstState, isMalformed, Front, Ended, Body, Short, frontOf, recordsAfter, recordsOf, linesFrom, texts, ending, endingOf, playFrom, opening, play}
+use Rattle.definition.specs.Words.{if_then_else_, anyOf}
+use Rattle.definition.specs.Refusal.{refusalOf}
+use Rattle.definition.specs.Translate.{inOrder, translate}
+use Rattle.definition.specs.Calls.{Line, A, K, R, translationLine, calling}
+use Rattle.definition.specs.Trace.{Record, Malformed, recordOf, State, malformedLine, stepOf, hex, decimalIn, text, firstState, isMalformed, Front, Ended, Body, Short, frontOf, recordsAfter, recordsOf, linesFrom, texts, ending, endingOf, playFrom, opening, play}
 use Rattle.definition.proofs.Replay.{watchedOf, walksOf, Steady, Accepted}
 use Rattle.definition.proofs.Marked.{Marked, recordIn, momentsOf, Under, watchedLines}
 use Rattle.definition.specs.declared.Registers.{Registers}
@@ -101,6 +103,21 @@ plays-short s (x ∷ b) e = stopped s (x ∷ b) (short-front x b e)
 pub plays-ended : (s : State) → playFrom s [] ≡ ending
 unfolding playFrom recordsAfter linesFrom
 plays-ended s = refl
+
+-- ---- document 01's bytes
+-- 'Bytes `01 00 07 02 00 FF 00 00 12 34` print exactly the lines `v1`, `A 00001234 0`, `end`.'
+pub document-bytes : play (1 ∷ 0 ∷ 7 ∷ 2 ∷ 0 ∷ 0xFF ∷ 0 ∷ 0 ∷ 0x12 ∷ 0x34 ∷ []) ≡ opening ++ (text (A 0x1234 0) ++ ending)
+unfolding play playFrom recordsAfter frontOf recordOf linesFrom stepOf calling translate inOrder refusalOf anyOf text hex decimalIn
+document-bytes = refl
+
+pub document-line : text (A 0x1234 0) ≡ 65 ∷ 32 ∷ 48 ∷ 48 ∷ 48 ∷ 48 ∷ 49 ∷ 50 ∷ 51 ∷ 52 ∷ 32 ∷ 48 ∷ 10 ∷ []
+unfolding text hex decimalIn
+document-line = refl
+
+-- 'Refusal 7 (.. short record ..) comes .. after the lines before it, and stops the run without `end`': a store, and one byte
+pub stopped-bytes : play (1 ∷ 0 ∷ 9 ∷ 9 ∷ 0 ∷ 0 ∷ 0 ∷ 4 ∷ 0 ∷ 0 ∷ 0 ∷ 7 ∷ 0 ∷ []) ≡ opening ++ (text K ++ text (R 7))
+unfolding play playFrom recordsAfter frontOf recordOf linesFrom stepOf refusalOf text decimalIn
+stopped-bytes = refl
 
 -- ---- two files
 -- the lines of a file's records

@@ -9,6 +9,7 @@ kindNumber FaultKind.IllegalOperation = 1
 kindNumber FaultKind.AccessLevelViolation = 2
 kindNumber FaultKind.BusError = 3
 
+-- the causes likewise
 abbrev pub causeNumber : FaultCause → ℕ
 causeNumber FaultCause.PointerA = 0
 causeNumber FaultCause.PointerB = 1

@@ -1,13 +1,13 @@
 -- The audit of a snapshot, added by the port: the first cached entry that is not what the walk of its key finds now, and what the two say.
 -- It reads the family, TC, CRP and SRP alone: neither the transparent registers nor whether the PMMU is on change what it says.
 use Rattle.definition.specs.Words.{ℕ, _+_, _*_, _%_, _^_, Bool, true, false, not, _&&_, _||_, List, eqb, ltb, length, getD, drop, if_then_else_, bitOf, firstOf}
-use Rattle.definition.specs.Registers.{codeOf}
+use Rattle.definition.specs.Registers.{allRegisters, codeOf}
 use Rattle.definition.specs.Memory.{Memory}
 use Rattle.definition.specs.Walk030.{Outcome, walk030, everyLevel, physicalOf, shiftOf}
 use Rattle.definition.specs.Walk040.{Outcome040, walk040, pageBits, frameOf}
 use Rattle.definition.specs.Cache030.{Entry, Cache030, noEntry, permitted}
 use Rattle.definition.specs.Cache040.{Slot, Cache040, noSlot, slotHit}
-use Rattle.definition.specs.Refusal.{Checks, noFamily, badBase, badRange, badCache, unless}
+use Rattle.definition.specs.Refusal.{Checks, checks, noFamily, badBase, badRange, badCache, unless}
 use Rattle.definition.specs.Translate.{Caches, cacheless}
 use Rattle.definition.specs.Types.{Registers, Access, Override, Hit, Miss, Shift, Bits, NoPage, End, End040, Audit, Finding}
 
@@ -68,6 +68,7 @@ isEnd040 tc s (End040.Lost at) = false
 unfoldable pub stale040 : Registers → Memory → Slot → Bool
 stale040 g m s = s .valid && not (isEnd040 (g .tc) s (foundFor040 g m s .end))
 
+-- the first stale slot's index at `from` or above, and 64 or more where none is
 abbrev pub firstStale040 : Registers → Memory → Cache040 → ℕ → ℕ
 firstStale040 g m c from = firstFrom (stale040 g m) from (c .slots)
 
@@ -86,20 +87,13 @@ auditFamily g m c from =
 -- 1, 2, 3 and 4 can apply
 abbrev pub auditChecks : Registers → Memory → Caches → Checks
 auditChecks g m c =
-    record {
-      one = noFamily (g .family);
-      two = badBase m;
-      three = badRange m;
-      four = badCache (c .c030);
-      five = false;
-      six = false;
-      eight = false;
-    }
+    checks (noFamily (g .family)) (badBase m) (badRange m) (badCache (c .c030)) false false false
 
 -- the first stale entry at `from` or above. From 0, and then from each named index plus 1, every stale entry is named once (proofs/Said.antt)
 unfoldable pub auditFrom : Registers → Memory → Caches → ℕ → Audit
 auditFrom g m c from = unless (auditChecks g m c) (λ (n : ℕ). Audit.Refused n) (auditFamily g m c from)
 
+-- the first of all
 abbrev pub audit : Registers → Memory → Caches → Audit
 audit g m c = auditFrom g m c 0
 
@@ -107,20 +101,7 @@ audit g m c = auditFrom g m c 0
 -- the registers with the PMMU on and no transparent register that matches
 abbrev pub bare : Registers → Registers
 bare g =
-    record {
-      family = g .family;
-      present = true;
-      enabled = true;
-      tc = g .tc;
-      crp = g .crp;
-      srp = g .srp;
-      tt0 = 0;
-      tt1 = 0;
-      itt0 = 0;
-      itt1 = 0;
-      dtt0 = 0;
-      dtt1 = 0;
-    }
+    allRegisters (g .family) true true (g .tc) (g .crp .limit) (g .crp .address) (g .srp .limit) (g .srp .address) 0 0 0 0 0 0
 
 -- an access by its privilege and space alone: 'the CPU's own supervisor state' is its own, and it has no override
 abbrev pub plainAccess : Bool → Bool → Bool → ℕ → Access
@@ -159,5 +140,6 @@ findingFamily g m c i write =
     then finding030 g m (c .c030 .shift) (getD (c .c030 .entries) i noEntry) write
     else finding040 g m (getD (c .c040 .slots) i noSlot) write
 
+-- what is said of entry i, or the refusal
 unfoldable pub finding : Registers → Memory → Caches → ℕ → Bool → Finding
 finding g m c i write = unless (auditChecks g m c) (λ (n : ℕ). Finding.Refused n) (findingFamily g m c i write)

@@ -18,6 +18,7 @@ pub record Cache030 : Type 0 where
   pub clock : ℕ
   pub shift : ℕ
 
+-- 'every number 0'
 abbrev pub noEntry : Entry
 noEntry = record { valid = false; code = 0; page = 0; base = 0; wp = false; stamp = 0 }
 
@@ -25,10 +26,12 @@ noEntry = record { valid = false; code = 0; page = 0; base = 0; wp = false; stam
 abbrev pub empty030 : Cache030
 empty030 = record { entries = replicate 22 noEntry; recent = 0; clock = 0; shift = 0 }
 
+-- with other entries
 abbrev pub withEntries : List Entry → Cache030 → Cache030
 withEntries es c = record { entries = es; recent = c .recent; clock = c .clock; shift = c .shift }
 
 -- ---- matching
+-- 'keyed by the walk's code .. and page'
 abbrev pub matches : ℕ → ℕ → Entry → Bool
 matches code page e = e .valid && (eqb (e .code) code && eqb (e .page) page)
 
@@ -40,6 +43,7 @@ matching c code page =
     else firstOf (matches code page) (c .entries)
 
 -- ---- use
+-- with another stamp
 abbrev pub stamped : ℕ → Entry → Entry
 stamped n e = record { valid = e .valid; code = e .code; page = e .page; base = e .base; wp = e .wp; stamp = n }
 
@@ -71,9 +75,11 @@ touched c i =
 abbrev pub found : Cache030 → ℕ → ℕ → ℕ → Bool
 found c code page shift = eqb (c .shift) shift && ltb (matching c code page) (length (c .entries))
 
+-- the entry that matches
 abbrev pub entryFor : Cache030 → ℕ → ℕ → Entry
 entryFor c code page = getD (c .entries) (matching c code page) noEntry
 
+-- 'WP .. makes a write miss'
 abbrev pub permitted : Bool → Entry → Hit
 permitted write e = if write && e .wp then Miss else At (e .base)
 
@@ -87,6 +93,7 @@ afterHit c recorded code page shift =
     if recorded && found c code page shift then touched c (matching c code page) else c
 
 -- ---- insert
+-- 'mark invalid'
 abbrev pub dropped : Entry → Entry
 dropped e = record { valid = false; code = e .code; page = e .page; base = e .base; wp = e .wp; stamp = e .stamp }
 
@@ -125,6 +132,7 @@ inserted c code page shift base wp =
 abbrev pub dropIf : (Entry → Bool) → Cache030 → Cache030
 dropIf p c = withEntries (map (λ (e : Entry). if p e then dropped e else e) (c .entries)) c
 
+-- 'empties both': this one
 unfoldable pub flushedAll : Cache030 → Cache030
 flushedAll c = withEntries (allDropped (c .entries)) c
 

@@ -11,12 +11,15 @@ pub record Slot : Type 0 where
   pub wp : Bool
   pub sup : Bool
 
+-- '64 slots'
 pub record Cache040 : Type 0 where
   pub slots : List Slot
 
+-- 'every number 0'
 abbrev pub noSlot : Slot
 noSlot = record { valid = false; frame = 0; supervisor = false; base = 0; wp = false; sup = false }
 
+-- 'the empty caches that a replay starts from'
 abbrev pub empty040 : Cache040
 empty040 = record { slots = replicate 64 noSlot }
 
@@ -33,6 +36,7 @@ sameBool false b = not b
 abbrev pub holds : ℕ → Bool → Slot → Bool
 holds frame supervisor s = s .valid && (eqb (s .frame) frame && sameBool (s .supervisor) supervisor)
 
+-- 'protection forbids': a write by W, a user by S
 abbrev pub forbids : Bool → Bool → Slot → Bool
 forbids supervisor write s = write && s .wp || not supervisor && s .sup
 
@@ -41,9 +45,11 @@ abbrev pub slotHit : ℕ → Bool → Bool → Slot → Hit
 slotHit frame supervisor write s =
     if holds frame supervisor s && not (forbids supervisor write s) then At (s .base) else Miss
 
+-- the base of the frame's slot
 unfoldable pub hit040 : Cache040 → ℕ → Bool → Bool → Hit
 hit040 c frame supervisor write = slotHit frame supervisor write (slotAt c frame)
 
+-- a page takes its slot, whatever was there
 unfoldable pub inserted040 : Cache040 → ℕ → Bool → ℕ → Bool → Bool → Cache040
 inserted040 c frame supervisor base wp sup =
     record {
@@ -54,6 +60,7 @@ inserted040 c frame supervisor base wp sup =
 abbrev pub emptied : Slot → Slot
 emptied s = record { valid = false; frame = s .frame; supervisor = s .supervisor; base = s .base; wp = s .wp; sup = s .sup }
 
+-- 'empties both': this one
 unfoldable pub flushedAll040 : Cache040 → Cache040
 flushedAll040 c = record { slots = map emptied (c .slots) }
 

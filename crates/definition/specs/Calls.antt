@@ -36,10 +36,12 @@ translationLine count (Translation.Address address) = A address count
 translationLine count (Translation.Fault kind cause address) = F (kindNumber kind) (causeNumber cause) address count
 translationLine count (Translation.Refused n) = R n
 
+-- 'L count'
 abbrev pub loadLine : ℕ → Load → Line
 loadLine count Load.Loaded = L count
 loadLine count (Load.Refused n) = R n
 
+-- 'T MMUSR address count'
 abbrev pub testLine : ℕ → Test → Line
 testLine count (Test.Status mmusr address) = T mmusr address count
 testLine count (Test.Refused n) = R n
@@ -50,6 +52,7 @@ probeLine (Probe.Address address) = A address 0
 probeLine Probe.Nothing = N
 probeLine (Probe.Refused n) = R n
 
+-- 'K'
 abbrev pub flushLine : Flush → Line
 flushLine Flush.Flushed = K
 flushLine (Flush.Refused n) = R n
@@ -59,21 +62,27 @@ pub record Called : Type 0 where
   pub line : Line
   pub caches : Caches
 
+-- one of them
 abbrev pub called : Line → Caches → Called
 called line caches = record { line = line; caches = caches }
 
+-- each call's result so: the count is the number of the longs asked for
 abbrev pub ofTranslated : Translated → Called
 ofTranslated t = called (translationLine (length (t .asked)) (t .answer)) (t .caches)
 
+-- a load's
 abbrev pub ofLoaded : Loaded → Called
 ofLoaded l = called (loadLine (length (l .asked)) (l .answer)) (l .caches)
 
+-- a test's, which 'touches no cache'
 abbrev pub ofTested : Caches → Tested → Called
 ofTested c t = called (testLine (length (t .asked)) (t .answer)) c
 
+-- a flush's
 abbrev pub ofFlushed : Flushed → Called
 ofFlushed f = called (flushLine (f .answer)) (f .caches)
 
+-- any call, under registers, over a memory, from caches
 unfoldable pub calling : Registers → Memory → Caches → Call → Called
 calling g m c (access a) = ofTranslated (translate g a m c)
 calling g m c (loading code write address) = ofLoaded (load g code write address m c)

@@ -2,7 +2,7 @@
 use Rattle.definition.specs.Words.{ℕ, Bool, false, _||_}
 use Rattle.definition.specs.Cache030.{Cache030, flushedAll, flushedCode, flushedPage}
 use Rattle.definition.specs.Cache040.{Cache040, flushedAll040, flushedFrame}
-use Rattle.definition.specs.Refusal.{Checks, badCache, badFrame, aboveSeven, unless}
+use Rattle.definition.specs.Refusal.{Checks, checks, badCache, badFrame, aboveSeven, unless}
 use Rattle.definition.specs.Translate.{Caches}
 use Rattle.definition.specs.Types.{Flush}
 
@@ -11,13 +11,15 @@ pub record Flushed : Type 0 where
   pub answer : Flush
   pub caches : Caches
 
+-- one of them
 abbrev pub flushed : Flush → Cache030 → Cache040 → Flushed
 flushed answer c030 c040 = record { answer = answer; caches = record { c030 = c030; c040 = c040 } }
 
 -- 5 and 4 alone can apply to a flush
 abbrev pub flushChecks : Bool → Bool → Checks
-flushChecks five four = record { one = false; two = false; three = false; four = four; five = five; six = false; eight = false }
+flushChecks five four = checks false false false four five false false
 
+-- a flush that is done, or its refusal, which leaves the caches
 abbrev pub flushUnless : Checks → Caches → Flushed → Flushed
 flushUnless k c done = unless k (λ (n : ℕ). flushed (Flush.Refused n) (c .c030) (c .c040)) done
 

@@ -5,7 +5,7 @@ use Rattle.definition.specs.Memory.{Memory}
 use Rattle.definition.specs.Transparent.{transparent030}
 use Rattle.definition.specs.Walk030.{shiftOf}
 use Rattle.definition.specs.Cache030.{Cache030, flushedPage}
-use Rattle.definition.specs.Refusal.{Checks, noFamily, badBase, badRange, badCache, aboveSeven, not030, unless}
+use Rattle.definition.specs.Refusal.{Checks, checks, noFamily, badBase, badRange, badCache, aboveSeven, not030, unless}
 use Rattle.definition.specs.Translate.{Caches, Searched, search030}
 use Rattle.definition.specs.Types.{Registers, Shift, Bits, NoPage, Load}
 
@@ -15,6 +15,7 @@ pub record Loaded : Type 0 where
   pub asked : List ℕ
   pub caches : Caches
 
+-- with the next 68030 cache; the 68040's stays
 abbrev pub loaded : Load → List ℕ → Cache030 → Caches → Loaded
 loaded answer asked cache c = record { answer = answer; asked = asked; caches = record { c030 = cache; c040 = c .c040 } }
 
@@ -41,18 +42,12 @@ loadInOrder g code write address m c =
     then loaded Load.Loaded [] (c .c030) c
     else afterDrop g m code write address (flushedPage (c .c030) code 7 address) c
 
+-- 1, 6, 5, 2, 3 and 4 can apply
 abbrev pub loadChecks : Registers → ℕ → Memory → Caches → Checks
 loadChecks g code m c =
-    record {
-      one = noFamily (g .family);
-      two = badBase m;
-      three = badRange m;
-      four = badCache (c .c030);
-      five = aboveSeven code;
-      six = not030 (g .family);
-      eight = false;
-    }
+    checks (noFamily (g .family)) (badBase m) (badRange m) (badCache (c .c030)) (aboveSeven code) (not030 (g .family)) false
 
+-- the call
 unfoldable pub load : Registers → ℕ → Bool → ℕ → Memory → Caches → Loaded
 load g code write address m c =
     unless (loadChecks g code m c)

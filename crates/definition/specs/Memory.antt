@@ -8,6 +8,7 @@ pub record Memory : Type 0 where
   pub base : ℕ
   pub ranges : List Range
 
+-- one of them
 abbrev pub memory : List ℕ → ℕ → List Range → Memory
 memory longs base ranges = record { longs = longs; base = base; ranges = ranges }
 
@@ -20,6 +21,7 @@ unfoldable pub touchesOf : ℕ → ℕ → ℕ → Bool
 touchesOf first last at =
     within first last at || within first last (at + 1) || within first last (at + 2) || within first last (at + 3)
 
+-- of the long at `at` and all of them
 abbrev pub inRanges : List Range → ℕ → Bool
 inRanges ranges at = anyOf (λ (r : Range). touchesOf (r .first) (r .last) at) ranges
 
@@ -32,5 +34,6 @@ abbrev pub fetchWith : List ℕ → ℕ → ℕ → Bool → Fetched
 fetchWith longs base at hit =
     if inside longs base at && not hit then Long (getD longs ((at - base) / 4) 0) else Failed
 
+-- what asking for the long at `at` gives
 abbrev pub fetchOf : Memory → ℕ → Fetched
 fetchOf m at = fetchWith (m .longs) (m .base) at (inRanges (m .ranges) at)

@@ -6,10 +6,11 @@ use Rattle.definition.specs.Walk030.{shiftOf}
 use Rattle.definition.specs.Walk040.{pageBits}
 use Rattle.definition.specs.Cache030.{Cache030, hitOf}
 use Rattle.definition.specs.Cache040.{Cache040, hit040}
-use Rattle.definition.specs.Refusal.{Checks, noFamily, badCache, unless}
+use Rattle.definition.specs.Refusal.{Checks, checks, noFamily, badCache, unless}
 use Rattle.definition.specs.Translate.{Caches, hitAddress, joined}
 use Rattle.definition.specs.Types.{Registers, Shift, Bits, NoPage, Hit, At, Miss, Probe}
 
+-- a hit's address, 'else nothing'
 abbrev pub probed : (ℕ → ℕ) → Hit → Probe
 probed address (At base) = Probe.Address (address base)
 probed address Miss = Probe.Nothing
@@ -20,6 +21,7 @@ probe030 c code write address NoPage = Probe.Nothing
 probe030 c code write address (Bits shift) =
     probed (λ (base : ℕ). hitAddress base address shift) (hitOf c code (address / 2 ^ shift) shift write)
 
+-- of the 68040, by 'the CPU's own state'
 abbrev pub probe040 : Registers → Cache040 → Bool → Bool → ℕ → Probe
 probe040 g c own write address =
     probed (λ (base : ℕ). joined (g .tc) base address) (hit040 c (address / 2 ^ pageBits (g .tc)) own write)
@@ -35,10 +37,12 @@ probeInOrder g own instruction write address c =
     then probe030 (c .c030) (codeOf own instruction) write address (shiftOf (g .tc))
     else probe040 g (c .c040) own write address
 
+-- 1 and 4 can apply
 abbrev pub probeChecks : Registers → Caches → Checks
 probeChecks g c =
-    record { one = noFamily (g .family); two = false; three = false; four = badCache (c .c030); five = false; six = false; eight = false }
+    checks (noFamily (g .family)) false false (badCache (c .c030)) false false false
 
+-- the call
 unfoldable pub probe : Registers → Bool → Bool → Bool → ℕ → Caches → Probe
 probe g own instruction write address c =
     unless (probeChecks g c) (λ (n : ℕ). Probe.Refused n) (probeInOrder g own instruction write address c)

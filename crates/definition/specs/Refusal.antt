@@ -20,6 +20,7 @@ badStore longs address = not (eqb (address % 4) 0 && ltb address (4 * length lon
 abbrev pub crossed : Range → Bool
 crossed r = ltb (r .last) (r .first)
 
+-- of any of the ranges
 abbrev pub badRange : Memory → Bool
 badRange m = anyOf crossed (m .ranges)
 
@@ -31,6 +32,7 @@ badCache c = ltb 21 (c .recent) || ltb 31 (c .shift)
 abbrev pub aboveSeven : ℕ → Bool
 aboveSeven n = ltb 7 n
 
+-- of an override
 abbrev pub badOverride : Override → Bool
 badOverride Override.Plain = false
 badOverride (Override.Code code) = aboveSeven code
@@ -61,10 +63,17 @@ pub record Checks : Type 0 where
   pub six : Bool
   pub eight : Bool
 
+-- what applies, in the order of the numbers
+abbrev pub checks : Bool → Bool → Bool → Bool → Bool → Bool → Bool → Checks
+checks one two three four five six eight =
+    record { one = one; two = two; three = three; four = four; five = five; six = six; eight = eight }
+
+-- a check: whether it applies, and its number
 pub record Check : Type 0 where
   pub applies : Bool
   pub number : ℕ
 
+-- one of them
 abbrev pub check : Bool → ℕ → Check
 check applies number = record { applies = applies; number = number }
 

@@ -2,6 +2,24 @@
 use Rattle.definition.specs.Words.{ℕ, _%_, Bool, true, false, _&&_, eqb, if_then_else_, bitOf}
 use Rattle.definition.specs.Types.{Registers, Root, Access, Override}
 
+-- 'Registers', in the order of document 01: the family, the two flags, and 11 longs
+abbrev pub allRegisters : ℕ → Bool → Bool → ℕ → ℕ → ℕ → ℕ → ℕ → ℕ → ℕ → ℕ → ℕ → ℕ → ℕ → Registers
+allRegisters family present enabled tc climit caddress slimit saddress tt0 tt1 itt0 itt1 dtt0 dtt1 =
+    record {
+      family = family;
+      present = present;
+      enabled = enabled;
+      tc = tc;
+      crp = record { limit = climit; address = caddress };
+      srp = record { limit = slimit; address = saddress };
+      tt0 = tt0;
+      tt1 = tt1;
+      itt0 = itt0;
+      itt1 = itt1;
+      dtt0 = dtt0;
+      dtt1 = dtt1;
+    }
+
 -- 'No PMMU or not enabled: the address itself.'
 abbrev pub on : Registers → Bool
 on g = g .present && g .enabled
@@ -23,9 +41,11 @@ abbrev pub instructionBy : Override → Bool → Bool
 instructionBy Override.Plain instruction = instruction
 instructionBy (Override.Code code) instruction = eqb (code % 4) 2
 
+-- an access's privilege, its override taken in
 abbrev pub asSupervisor : Access → Bool
 asSupervisor a = supervisorBy (a .code) (a .supervisor)
 
+-- and whether it is an instruction's
 abbrev pub asInstruction : Access → Bool
 asInstruction a = instructionBy (a .code) (a .instruction)
 
@@ -38,6 +58,7 @@ abbrev pub comparedBy : Override → Bool → Bool → ℕ
 comparedBy Override.Plain own instruction = codeOf own instruction
 comparedBy (Override.Code code) own instruction = code
 
+-- of an access
 abbrev pub comparedCode : Access → ℕ
 comparedCode a = comparedBy (a .code) (a .own) (a .instruction)
 

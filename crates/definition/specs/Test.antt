@@ -3,7 +3,7 @@ use Rattle.definition.specs.Words.{ℕ, _+_, _%_, List, [], Bool, false,
 use Rattle.definition.specs.Memory.{Memory}
 use Rattle.definition.specs.Transparent.{transparent030}
 use Rattle.definition.specs.Walk030.{Outcome, walk030}
-use Rattle.definition.specs.Refusal.{Checks, noFamily, badBase, badRange, aboveSeven, not030, unless}
+use Rattle.definition.specs.Refusal.{Checks, checks, noFamily, badBase, badRange, aboveSeven, not030, unless}
 use Rattle.definition.specs.Types.{Registers, End, Test}
 
 -- an answer and the longs asked for. 'touches no cache'
@@ -11,9 +11,11 @@ pub record Tested : Type 0 where
   pub answer : Test
   pub asked : List ℕ
 
+-- one of them
 abbrev pub tested : Test → List ℕ → Tested
 tested answer asked = record { answer = answer; asked = asked }
 
+-- a bit of MMUSR
 abbrev pub flag : Bool → ℕ → ℕ
 flag b n = if b then n else 0
 
@@ -41,17 +43,10 @@ testInOrder g code level address m =
     then tested (Test.Status (flag (transparent030 g address code) 0x0040) 0) []
     else statusOf code (walk030 m g address code level)
 
+-- 1, 6, 5, 2 and 3 can apply
 abbrev pub testChecks : Registers → ℕ → ℕ → Memory → Checks
 testChecks g code level m =
-    record {
-      one = noFamily (g .family);
-      two = badBase m;
-      three = badRange m;
-      four = false;
-      five = aboveSeven code || aboveSeven level;
-      six = not030 (g .family);
-      eight = false;
-    }
+    checks (noFamily (g .family)) (badBase m) (badRange m) false (aboveSeven code || aboveSeven level) (not030 (g .family)) false
 
 -- `write` is what the record has; PTEST's write byte changes nothing in the base (docs/DECISIONS.md, The meaning 12)
 unfoldable pub test : Registers → ℕ → Bool → ℕ → ℕ → Memory → Tested

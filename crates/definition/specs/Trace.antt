@@ -1,10 +1,11 @@
 -- Document 01, 'The trace and the program': what each record means, what is malformed, which line it prints, and how a whole file plays.
 use Rattle.definition.specs.Words.{ℕ, zero, suc, _+_, _*_, _/_, _%_, _^_, List, [], _∷_, _++_, Bool, true, false, not, _&&_, ltb, leb, eqb, length, getD, set, take, drop, replicate, if_then_else_, bitOf}
+use Rattle.definition.specs.Registers.{allRegisters}
 use Rattle.definition.specs.Memory.{Memory, memory}
-use Rattle.definition.specs.Refusal.{Checks, noFamily, badStore, crossed, noRoom, unless}
+use Rattle.definition.specs.Refusal.{Checks, checks, noFamily, badStore, crossed, noRoom, unless}
 use Rattle.definition.specs.Translate.{Caches, emptyCaches}
 use Rattle.definition.specs.Calls.{Call, access, loading, testing, probing, flushingAll, flushingCode, flushingPage, flushingFrame, Line, A, F, L, T, K, N, R, Called, calling}
-use Rattle.definition.specs.Types.{Registers, Root, Range, Override}
+use Rattle.definition.specs.Types.{Registers, Range, Override}
 
 -- ---- records
 -- what a record's body says; or nothing that document 01 has
@@ -32,20 +33,8 @@ abbrev pub kind01 : List ℕ → Record
 kind01 b =
     shaped b 46 (ltb (getD b 1 0) 4)
     (Loads
-    (record {
-      family = getD b 0 0;
-      present = flagOf b 1 0;
-      enabled = flagOf b 1 1;
-      tc = be b 2;
-      crp = record { limit = be b 6; address = be b 10 };
-      srp = record { limit = be b 14; address = be b 18 };
-      tt0 = be b 22;
-      tt1 = be b 26;
-      itt0 = be b 30;
-      itt1 = be b 34;
-      dtt0 = be b 38;
-      dtt1 = be b 42;
-    }))
+    (allRegisters (getD b 0 0) (flagOf b 1 0) (flagOf b 1 1) (be b 2) (be b 6) (be b 10) (be b 14) (be b 18) (be b 22) (be b 26) (be b 30) (be b 34)
+    (be b 38) (be b 42)))
 
 -- 'override or FF'
 abbrev pub overrideOf : ℕ → Override
@@ -83,6 +72,7 @@ kind05 b = shaped b 0 true (Calls flushingAll)
 abbrev pub kind06 : List ℕ → Record
 kind06 b = shaped b 2 true (Calls (flushingCode (getD b 0 0) (getD b 1 0)))
 
+-- the second of them
 abbrev pub kind07 : List ℕ → Record
 kind07 b = shaped b 6 true (Calls (flushingPage (getD b 0 0) (getD b 1 0) (be b 2)))
 
@@ -142,18 +132,20 @@ pub record Played : Type 0 where
   pub line : Line
   pub state : State
 
+-- one of them
 abbrev pub played : Line → State → Played
 played line state = record { line = line; state = state }
 
 -- what applies to a record of the program's own
 abbrev pub programChecks : Bool → Bool → Bool → Bool → Checks
 programChecks one two three eight =
-    record { one = one; two = two; three = three; four = false; five = false; six = false; eight = eight }
+    checks one two three false false false eight
 
 -- 'A refusal prints R and its number, stores nothing and goes on.'
 abbrev pub keeping : Checks → State → State → Played
 keeping k s next = unless k (λ (n : ℕ). played (R n) s) (played K next)
 
+-- a call's line, with its caches
 abbrev pub withCaches : State → Called → Played
 withCaches s c =
     played (c .line) (record { registers = s .registers; longs = s .longs; ranges = s .ranges; caches = c .caches })
@@ -162,6 +154,7 @@ withCaches s c =
 abbrev pub malformedLine : Line
 malformedLine = R 7
 
+-- what each record does: its line, and what is kept
 unfoldable pub stepOf : State → Record → Played
 stepOf s (Loads g) =
     keeping (programChecks (noFamily (g .family)) false false false) s
@@ -185,6 +178,7 @@ unfoldable pub hex : ℕ → ℕ → List ℕ
 hex zero n = []
 hex (suc k) n = hexDigit (n / 16 ^ k % 16) ∷ hex k n
 
+-- the last digit
 abbrev pub digit : ℕ → ℕ
 digit n = n % 10 + 48
 
@@ -193,9 +187,11 @@ unfoldable pub decimalIn : ℕ → ℕ → List ℕ
 decimalIn zero n = digit n ∷ []
 decimalIn (suc most) n = if ltb n 10 then digit n ∷ [] else decimalIn most (n / 10) ++ (digit n ∷ [])
 
+-- of as many digits as it has
 abbrev pub decimal : ℕ → List ℕ
 decimal n = decimalIn n n
 
+-- each line ends with it
 abbrev pub newline : List ℕ
 newline = 10 ∷ []
 
@@ -216,31 +212,15 @@ text (R n) = 82 ∷ spaced (decimal n) ++ newline
 
 -- ---- a whole file
 -- 'registers start as family 30, all else 0'
-abbrev pub noRoot : Root
-noRoot = record { limit = 0; address = 0 }
-
 abbrev pub firstRegisters : Registers
-firstRegisters =
-    record {
-      family = 30;
-      present = false;
-      enabled = false;
-      tc = 0;
-      crp = noRoot;
-      srp = noRoot;
-      tt0 = 0;
-      tt1 = 0;
-      itt0 = 0;
-      itt1 = 0;
-      dtt0 = 0;
-      dtt1 = 0;
-    }
+firstRegisters = allRegisters 30 false false 0 0 0 0 0 0 0 0 0 0 0
 
 -- 'Memory is 8,192 longs at 0, all zero'
 abbrev pub firstState : State
 firstState = record { registers = firstRegisters; longs = replicate 8192 0; ranges = []; caches = emptyCaches }
 
 -- ---- the records of a file
+-- it is nothing that document 01 has
 abbrev pub isMalformed : Record → Bool
 isMalformed (Loads g) = false
 isMalformed (Calls call) = false

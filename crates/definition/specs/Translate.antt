@@ -7,7 +7,7 @@ use Rattle.definition.specs.Walk030.{Outcome, walk030, everyLevel, physi
 use Rattle.definition.specs.Walk040.{Outcome040, walk040, pageBits, frameOf, physical040}
 use Rattle.definition.specs.Cache030.{Cache030, empty030, hitOf, afterHit, inserted}
 use Rattle.definition.specs.Cache040.{Cache040, empty040, hit040, inserted040}
-use Rattle.definition.specs.Refusal.{Checks, noFamily, badBase, badRange, badCache, badOverride, unless}
+use Rattle.definition.specs.Refusal.{Checks, checks, noFamily, badBase, badRange, badCache, badOverride, unless}
 use Rattle.definition.specs.Types.{Registers, Access, Shift, Bits, NoPage, Hit, At, Miss, End, End040, FaultCause, Translation, FaultKind}
 
 -- 'Two caches'
@@ -15,6 +15,7 @@ pub record Caches : Type 0 where
   pub c030 : Cache030
   pub c040 : Cache040
 
+-- 'the empty caches that a replay starts from'
 abbrev pub emptyCaches : Caches
 emptyCaches = record { c030 = empty030; c040 = empty040 }
 
@@ -24,6 +25,7 @@ pub record Translated : Type 0 where
   pub asked : List ℕ
   pub caches : Caches
 
+-- one of them
 abbrev pub translated : Translation → List ℕ → Caches → Translated
 translated answer asked caches = record { answer = answer; asked = asked; caches = caches }
 
@@ -64,6 +66,7 @@ pub record Searched : Type 0 where
   pub asked : List ℕ
   pub cache : Cache030
 
+-- one of them
 abbrev pub searched : Translation → List ℕ → Cache030 → Searched
 searched answer asked cache = record { answer = answer; asked = asked; cache = cache }
 
@@ -85,6 +88,7 @@ onEnd030 tc c code address write wp sup asked (End.BusError at) = searched (busE
 onEnd030 tc c code address write wp sup asked End.LevelStop = searched (configuration address) asked c
 onEnd030 tc c code address write wp sup asked End.Config = searched (configuration address) asked c
 
+-- what the end of a walk gives, with what it found
 abbrev pub concluded030 : ℕ → Cache030 → ℕ → ℕ → Bool → Outcome → Searched
 concluded030 tc c code address write o =
     onEnd030 tc c code address write (o .found .wp) (o .found .sup) (o .found .asked) (o .end)
@@ -106,9 +110,11 @@ with030 g m c recorded code address write (Bits shift) =
     onHit030 g m (afterHit c recorded code (address / 2 ^ shift) shift) code address write shift
     (hitOf c code (address / 2 ^ shift) shift write)
 
+-- the search's cache beside the 68040's, which stays
 abbrev pub beside : Caches → Searched → Translated
 beside c s = translated (s .answer) (s .asked) (record { c030 = s .cache; c040 = c .c040 })
 
+-- an access on the 68030, past the transparent registers
 unfoldable pub translate030 : Registers → Access → Memory → Caches → Translated
 translate030 g a m c =
     beside c (with030 g m (c .c030) (a .recorded) (walkCode a) (a .address) (a .write) (shiftOf (g .tc)))
@@ -129,6 +135,7 @@ onEnd040 g a c asked (End040.Resident field wp sup) =
 onEnd040 g a c asked (End040.Absent missing) = translated (violation missing (a .address)) asked c
 onEnd040 g a c asked (End040.Lost at) = translated (busError at) asked c
 
+-- what the end of a walk gives
 abbrev pub concluded040 : Registers → Access → Caches → Outcome040 → Translated
 concluded040 g a c o = onEnd040 g a c (o .asked) (o .end)
 
@@ -136,6 +143,7 @@ concluded040 g a c o = onEnd040 g a c (o .asked) (o .end)
 abbrev pub joined : ℕ → ℕ → ℕ → ℕ
 joined tc base address = bitOr base (address % 2 ^ pageBits tc) % 2 ^ 32
 
+-- 'cache, walk'
 abbrev pub onHit040 : Registers → Access → Memory → Caches → Hit → Translated
 onHit040 g a m c (At base) = atOnce (Translation.Address (joined (g .tc) base (a .address))) c
 onHit040 g a m c Miss = concluded040 g a c (walk040 m g (a .address) (asSupervisor a))
@@ -155,18 +163,12 @@ inOrder g a m c =
     then atOnce (Translation.Address (a .address)) c
     else if eqb (g .family) 30 then translate030 g a m c else translate040 g a m c
 
+-- 1, 5, 2, 3 and 4 can apply
 abbrev pub translateChecks : Registers → Access → Memory → Caches → Checks
 translateChecks g a m c =
-    record {
-      one = noFamily (g .family);
-      two = badBase m;
-      three = badRange m;
-      four = badCache (c .c030);
-      five = badOverride (a .code);
-      six = false;
-      eight = false;
-    }
+    checks (noFamily (g .family)) (badBase m) (badRange m) (badCache (c .c030)) (badOverride (a .code)) false false
 
+-- the call
 unfoldable pub translate : Registers → Access → Memory → Caches → Translated
 translate g a m c =
     unless (translateChecks g a m c) (λ (n : ℕ). atOnce (Translation.Refused n) c) (inOrder g a m c)

@@ -10,6 +10,7 @@ abbrev pub sizeOf : Bool → ℕ
 sizeOf true = 8
 sizeOf false = 4
 
+-- where entry i of a table stands
 abbrev pub entryOf : ℕ → ℕ → Bool → ℕ
 entryOf table index long = (table + index * sizeOf long) % 2 ^ 32
 
@@ -60,6 +61,7 @@ pub record Step : Type 0 where
   pub index : ℕ
   pub consumed : ℕ
 
+-- the levels of these widths, after so many bits
 abbrev pub steps : ℕ → ℕ → List ℕ → List Step
 steps address consumed [] = []
 steps address consumed (w ∷ ws) =
@@ -70,6 +72,7 @@ abbrev pub stepsWith : Bool → ℕ → ℕ → ℕ → List ℕ → List Step
 stepsWith true code address consumed ws = record { index = code; consumed = consumed } ∷ steps address consumed ws
 stepsWith false code address consumed ws = steps address consumed ws
 
+-- the levels of a walk
 abbrev pub stepsOf : ℕ → ℕ → ℕ → List Step
 stepsOf tc address code = stepsWith (bitOf tc 24) code address (isOf tc) (used (widthsOf tc))
 
@@ -87,6 +90,7 @@ pub record Outcome : Type 0 where
   pub end : End
   pub found : Found
 
+-- one of them
 abbrev pub ended : End → Found → Outcome
 ended e f = record { end = e; found = f }
 
@@ -148,9 +152,11 @@ walkSteps m root limit (step ∷ rest) =
     then ended Config (start (root .address))
     else walkFrom m limit (step ∷ rest) (root .address / 16 * 16) (eqb (root .limit % 4) 3) (start (root .address))
 
+-- a walk by TC and its root
 abbrev pub outcomeOf : Memory → ℕ → Root → ℕ → ℕ → ℕ → Outcome
 outcomeOf m tc root address code limit = walkSteps m root limit (stepsOf tc address code)
 
+-- a walk by the registers, of at most so many levels
 abbrev pub walk030 : Memory → Registers → ℕ → ℕ → ℕ → Outcome
 walk030 m g address code limit = outcomeOf m (g .tc) (rootOf g code) address code limit
 
@@ -168,6 +174,7 @@ abbrev pub physicalOf : ℕ → ℕ → ℕ → ℕ
 physicalOf field consumed address = (field / 256 * 256 + lowOf address consumed) % 2 ^ 32
 
 -- ---- the page shift
+-- 'that sum'
 abbrev pub sumOf : List ℕ → ℕ
 sumOf [] = 0
 sumOf (w ∷ ws) = w + sumOf ws
@@ -176,5 +183,6 @@ sumOf (w ∷ ws) = w + sumOf ws
 abbrev pub shiftFrom : ℕ → Shift
 shiftFrom sum = if leb 1 sum && leb sum 31 then Bits (32 - sum) else NoPage
 
+-- the page shift that TC gives
 abbrev pub shiftOf : ℕ → Shift
 shiftOf tc = shiftFrom (isOf tc + sumOf (used (widthsOf tc)))

@@ -9,6 +9,7 @@ pub record Outcome040 : Type 0 where
   pub end : End040
   pub asked : List ℕ
 
+-- one of them
 abbrev pub ended040 : End040 → List ℕ → Outcome040
 ended040 e asked = record { end = e; asked = asked }
 
@@ -17,6 +18,7 @@ abbrev pub onLong : ℕ → List ℕ → (ℕ → List ℕ → Outcome040) → F
 onLong at before next Failed = ended040 (Lost at) (before ++ (at ∷ []))
 onLong at before next (Long x) = next x (before ++ (at ∷ []))
 
+-- and so by what the memory gives
 abbrev pub asks : Memory → ℕ → List ℕ → (ℕ → List ℕ → Outcome040) → Outcome040
 asks m at before next = onLong at before next (fetchOf m at)
 
@@ -63,6 +65,7 @@ onPointer m tc address root pointer asked =
     then ended040 (Absent FaultCause.PointerB) asked
     else asks m (pageAt tc pointer address) asked (λ page asked. onEntry m (bitOf root 2 || bitOf pointer 2) page asked)
 
+-- by the root's entry
 abbrev pub onRoot : Memory → ℕ → ℕ → ℕ → List ℕ → Outcome040
 onRoot m tc address root asked =
     if ltb (root % 4) 2
@@ -73,6 +76,7 @@ onRoot m tc address root asked =
 abbrev pub walk040From : Memory → ℕ → ℕ → ℕ → Outcome040
 walk040From m tc first address = asks m first [] (λ root asked. onRoot m tc address root asked)
 
+-- by the registers and the privilege
 unfoldable pub walk040 : Memory → Registers → ℕ → Bool → Outcome040
 walk040 m g address supervisor = walk040From m (g .tc) (rootAt g supervisor address) address
 
@@ -80,5 +84,6 @@ walk040 m g address supervisor = walk040From m (g .tc) (rootAt g supervisor addr
 abbrev pub frameOf : ℕ → ℕ → ℕ
 frameOf tc page = page / 2 ^ pageBits tc * 2 ^ pageBits tc
 
+-- with the address's low bits
 abbrev pub physical040 : ℕ → ℕ → ℕ → ℕ
 physical040 tc page address = (frameOf tc page + address % 2 ^ pageBits tc) % 2 ^ 32

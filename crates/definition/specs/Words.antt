@@ -7,6 +7,7 @@ pub use lib.Dec.{eqb, ltb, leb}
 pub use lib.ListN.{length, getD, set, take, drop, replicate}
 pub use lib.Bits.{bitAnd, bitOr, bitXor}
 
+-- the one or the other
 infixr 1 if_then_else_
 abbrev pub if_then_else_ : {A : Type 0} → Bool → A → A → A
 if_then_else_ true a b = a

@@ -59,10 +59,10 @@ counted (Lost at x) = refl
 -- what the code was given is what was read
 lost-is : (d : Descriptor) {at n : ℕ} → shownRead d ≡ given.Lost at n → d ≡ Lost at (askedFor d)
 lost-is (Whole kind field wp sup x) e = let z : _≡_ {A = ℕ} 0 1 = cc in absurd (omega arith)
-lost-is (Lost at x) {at′} e = let same : at ≡ at′ = cc in rw same
+lost-is (Lost at x) {at = at′} e = let same : at ≡ at′ = cc in rw same
 
 whole-is : (d : Descriptor) {kind field n : ℕ} {wp sup : Bool} → shownRead d ≡ given.Whole kind field wp sup n → d ≡ Whole kind field wp sup (askedFor d)
-whole-is (Whole kind field wp sup x) {kind′} {field′} {n} {wp′} {sup′} e =
+whole-is (Whole kind field wp sup x) {kind = kind′} {field = field′} {wp = wp′} {sup = sup′} e =
     let k : kind ≡ kind′ = cc in
     let f : field ≡ field′ = cc in
     let w : wp ≡ wp′ = cc in
