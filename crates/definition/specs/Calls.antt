@@ -62,7 +62,7 @@ pub record Called : Type 0 where
   pub line : Line
   pub caches : Caches
 
--- one of them
+-- by its parts
 abbrev pub called : Line → Caches → Called
 called line caches = record { line = line; caches = caches }
 

@@ -11,7 +11,7 @@ pub record Flushed : Type 0 where
   pub answer : Flush
   pub caches : Caches
 
--- one of them
+-- by its parts
 abbrev pub flushed : Flush → Cache030 → Cache040 → Flushed
 flushed answer c030 c040 = record { answer = answer; caches = record { c030 = c030; c040 = c040 } }
 

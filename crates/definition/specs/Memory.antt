@@ -8,7 +8,7 @@ pub record Memory : Type 0 where
   pub base : ℕ
   pub ranges : List Range
 
--- one of them
+-- by its parts
 abbrev pub memory : List ℕ → ℕ → List Range → Memory
 memory longs base ranges = record { longs = longs; base = base; ranges = ranges }
 

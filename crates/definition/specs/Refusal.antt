@@ -73,7 +73,7 @@ pub record Check : Type 0 where
   pub applies : Bool
   pub number : ℕ
 
--- one of them
+-- by its parts
 abbrev pub check : Bool → ℕ → Check
 check applies number = record { applies = applies; number = number }
 

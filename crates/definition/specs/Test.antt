@@ -11,7 +11,7 @@ pub record Tested : Type 0 where
   pub answer : Test
   pub asked : List ℕ
 
--- one of them
+-- by its parts
 abbrev pub tested : Test → List ℕ → Tested
 tested answer asked = record { answer = answer; asked = asked }
 

@@ -72,7 +72,7 @@ kind05 b = shaped b 0 true (Calls flushingAll)
 abbrev pub kind06 : List ℕ → Record
 kind06 b = shaped b 2 true (Calls (flushingCode (getD b 0 0) (getD b 1 0)))
 
--- the second of them
+-- 07 of them
 abbrev pub kind07 : List ℕ → Record
 kind07 b = shaped b 6 true (Calls (flushingPage (getD b 0 0) (getD b 1 0) (be b 2)))
 
@@ -132,7 +132,7 @@ pub record Played : Type 0 where
   pub line : Line
   pub state : State
 
--- one of them
+-- by its parts
 abbrev pub played : Line → State → Played
 played line state = record { line = line; state = state }
 

@@ -25,7 +25,7 @@ pub record Translated : Type 0 where
   pub asked : List ℕ
   pub caches : Caches
 
--- one of them
+-- by its parts
 abbrev pub translated : Translation → List ℕ → Caches → Translated
 translated answer asked caches = record { answer = answer; asked = asked; caches = caches }
 
@@ -66,7 +66,7 @@ pub record Searched : Type 0 where
   pub asked : List ℕ
   pub cache : Cache030
 
--- one of them
+-- by its parts
 abbrev pub searched : Translation → List ℕ → Cache030 → Searched
 searched answer asked cache = record { answer = answer; asked = asked; cache = cache }
 

@@ -90,7 +90,7 @@ pub record Outcome : Type 0 where
   pub end : End
   pub found : Found
 
--- one of them
+-- by its parts
 abbrev pub ended : End → Found → Outcome
 ended e f = record { end = e; found = f }
 

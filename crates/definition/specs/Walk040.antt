@@ -9,7 +9,7 @@ pub record Outcome040 : Type 0 where
   pub end : End040
   pub asked : List ℕ
 
--- one of them
+-- by its parts
 abbrev pub ended040 : End040 → List ℕ → Outcome040
 ended040 e asked = record { end = e; asked = asked }
 
