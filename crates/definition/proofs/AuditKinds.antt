@@ -81,7 +81,7 @@ both family tc =
       tc = tc;
       crp = record { limit = 0x80000002; address = 0x1000 };
       srp = record { limit = 0x80000002; address = 0x1000 };
-      tt0 = 0x00FF801C;
+      tt0 = 0x00FF8107;
       tt1 = 0;
       itt0 = 0;
       itt1 = 0;

@@ -200,7 +200,7 @@ module _ (g : Registers) (m : Memory) (c : Caches) (own instruction write : Bool
   unfolding probeInOrder inOrder
   gives-in-order =
       two-ifs Gives (not (on g)) _ _ _ _ silent
-      (two-ifs Gives (transparent g address (codeOf own instruction) instruction) _ _ _ _ (same-address _)
+      (two-ifs Gives (transparent g address (codeOf own instruction) instruction write) _ _ _ _ (same-address _)
       (two-ifs Gives (eqb (g .family) 30) _ _ _ _ gives-030-whole gives-040))
 
   gives : refusalOf (auditChecks g m c) ≡ 0 → probe g own instruction write address c ≡ Probe.Address x

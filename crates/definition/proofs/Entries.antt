@@ -80,7 +80,7 @@ module _ (I : Cache030 → Type 0) (J : Cache040 → Type 0) (g : Registers) (m 
     unfolding inOrder
     in-order-keeps =
         if-both After (not (on g)) _ _ h
-        (if-both After (transparent g (a .address) (comparedCode a) (asInstruction a)) _ _ h (if-both After (eqb (g .family) 30) _ _ by-030 by-040))
+        (if-both After (transparent g (a .address) (comparedCode a) (asInstruction a) (a .write)) _ _ h (if-both After (eqb (g .family) 30) _ _ by-030 by-040))
 
     pub translate-keeps : Both I J (translate g a m c .caches)
     unfolding translate
@@ -96,7 +96,7 @@ module _ (I : Cache030 → Type 0) (J : Cache040 → Type 0) (g : Registers) (m 
       let d = flushed-page-keeps g m I (k .in030) (c .c030) code 7 address (h .in030) in
       if-both AfterLoad (eqb (refusalOf (loadChecks g code m c)) 0) _ _
       (if-both AfterLoad (not (on g)) _ _ h
-      (if-both AfterLoad (stopped (shiftOf (g .tc)) (transparent030 g address code)) _ _ (record { in030 = d; in040 = h .in040 })
+      (if-both AfterLoad (stopped (shiftOf (g .tc)) (transparent030 g address code write)) _ _ (record { in030 = d; in040 = h .in040 })
       (record { in030 = search-keeps g m I (k .in030) code address write (flushedPage (c .c030) code 7 address) d; in040 = h .in040 })))
       h
 

@@ -50,7 +50,7 @@ order-alike : (g : Registers) (a : Access) (m m′ : Memory) (c c′ : Caches) (
 unfolding inOrder
 order-alike g a m m′ c c′ Q h k =
     if-given Q answerOf (not (on g)) _ _ _ _ (λ _. refl)
-    (if-given Q answerOf (transparent g (a .address) (comparedCode a) (asInstruction a)) _ _ _ _ (λ _. refl)
+    (if-given Q answerOf (transparent g (a .address) (comparedCode a) (asInstruction a) (a .write)) _ _ _ _ (λ _. refl)
     (if-given-by Q answerOf (eqb (g .family) 30) _ _ _ _ h k))
 
 -- both caches are right for accesses under g: check 4 passes, and each entry and slot that they can meet has its walk over a memory of P

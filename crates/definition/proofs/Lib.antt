@@ -1,4 +1,5 @@
 pub mod Examples
+pub mod Mended
 pub mod AuditKinds
 pub mod Refusals
 pub mod Choice

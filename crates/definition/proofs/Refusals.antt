@@ -217,7 +217,7 @@ module _ (g : Registers) (m : Memory) where
     unfolding inOrder
     inOrder-never =
         neither inTranslated (not (on g)) _ _ refl
-        (neither inTranslated (transparent g (a .address) (comparedCode a) (asInstruction a)) _ _ refl
+        (neither inTranslated (transparent g (a .address) (comparedCode a) (asInstruction a) (a .write)) _ _ refl
         (neither inTranslated (eqb (g .family) 30) _ _ translate030-never translate040-never))
 
     pub translate-refuses : inTranslation (translate g a m c .answer) ≡ numbers (refusalOf (translateChecks g a m c))
@@ -244,7 +244,7 @@ module _ (g : Registers) (code : ℕ) (write : Bool) (address : ℕ) (m : Memory
   unfolding loadInOrder
   load-never =
       neither inLoaded (not (on g)) _ _ refl
-      (neither inLoaded (stopped (shiftOf (g .tc)) (transparent030 g address code)) _ _ refl refl)
+      (neither inLoaded (stopped (shiftOf (g .tc)) (transparent030 g address code write)) _ _ refl refl)
 
   pub load-refuses : inLoad (load g code write address m c .answer) ≡ numbers (refusalOf (loadChecks g code m c))
   unfolding load
@@ -265,18 +265,18 @@ abbrev inTested : Tested → List ℕ
 inTested t = inTest (t .answer)
 
 module _ (g : Registers) (code : ℕ) (write : Bool) (level address : ℕ) (m : Memory) where
-  test-never : inTested (testInOrder g code level address m) ≡ []
+  test-never : inTested (testInOrder g code write level address m) ≡ []
   unfolding testInOrder
   test-never = neither inTested (eqb level 0) _ _ refl refl
 
   pub test-refuses : inTest (test g code write level address m .answer) ≡ numbers (refusalOf (testChecks g code level m))
   unfolding test
-  test-refuses = exactly inTested (testChecks g code level m) (λ n. tested (Test.Refused n) []) (testInOrder g code level address m) (λ n. refl) test-never
+  test-refuses = exactly inTested (testChecks g code level m) (λ n. tested (Test.Refused n) []) (testInOrder g code write level address m) (λ n. refl) test-never
 
   pub test-leaves : (n : ℕ) → test g code write level address m .answer ≡ Test.Refused n → test g code write level address m ≡ tested (Test.Refused n) []
   unfolding test
   test-leaves n e =
-      whole inTested (testChecks g code level m) (λ n. tested (Test.Refused n) []) (testInOrder g code level address m) (λ n. refl) test-never n
+      whole inTested (testChecks g code level m) (λ n. tested (Test.Refused n) []) (testInOrder g code write level address m) (λ n. refl) test-never n
       (ap inTest e)
 
 -- ---- probe
@@ -299,7 +299,7 @@ module _ (g : Registers) (own instruction write : Bool) (address : ℕ) (c : Cac
   unfolding probeInOrder
   probe-never =
       neither inProbe (not (on g)) _ _ refl
-      (neither inProbe (transparent g address (codeOf own instruction) instruction) _ _ refl
+      (neither inProbe (transparent g address (codeOf own instruction) instruction write) _ _ refl
       (neither inProbe (eqb (g .family) 30) _ _
       (probe030-never (c .c030) (codeOf own instruction) write address (shiftOf (g .tc)))
       (probed-never (λ (base : ℕ). joined (g .tc) base address) (hit040 (c .c040) (address / 2 ^ pageBits (g .tc)) own write))))

@@ -45,7 +45,7 @@ use Rattle.definition.proofs.Said.{Names, says-by, stale-at-030, stale-
 -- a read or a write of this privilege and space gets another answer than its cacheless walk's, unless a transparent register answers it
 pub record Wrong (g : Registers) (m : Memory) (c : Caches) (supervisor instruction : Bool) (address : ℕ) : Type 0 where
   pub write : Bool
-  pub differs : transparent g address (codeOf supervisor instruction) instruction ≡ false
+  pub differs : transparent g address (codeOf supervisor instruction) instruction write ≡ false
       → translate g (plainAccess supervisor instruction write address) m c .answer
       ≡ cacheless g (plainAccess supervisor instruction write address) m .answer → ⊥
 
@@ -65,7 +65,7 @@ same-refusal : (g : Registers) (m : Memory) (c : Caches) (a : Access) → transl
 same-refusal g m c a e r = let f = none-four (auditChecks g m c) r in rw (← e, f) at r
 
 -- an access with the PMMU on and no transparent match
-module _ (g : Registers) (m : Memory) (a : Access) (on-is : on g ≡ true) (seen : transparent g (a .address) (comparedCode a) (asInstruction a) ≡ false) where
+module _ (g : Registers) (m : Memory) (a : Access) (on-is : on g ≡ true) (seen : transparent g (a .address) (comparedCode a) (asInstruction a) (a .write) ≡ false) where
   by-030 : eqb (g .family) 30 ≡ true → (c : Caches) → refusalOf (translateChecks g a m c) ≡ 0 → translate g a m c .answer ≡ translate030 g a m c .answer
   unfolding translate inOrder
   by-030 family c r = rw (eq-eqb (refusalOf (translateChecks g a m c)) 0 r, on-is, seen, family)
@@ -75,9 +75,9 @@ module _ (g : Registers) (m : Memory) (a : Access) (on-is : on g ≡ true) (seen
   by-040 family c r = rw (eq-eqb (refusalOf (translateChecks g a m c)) 0 r, on-is, seen, family)
 
 -- bare registers match nothing
-opaque : (g : Registers) (address code : ℕ) (instruction : Bool) → transparent (bare g) address code instruction ≡ false
+opaque : (g : Registers) (address code : ℕ) (instruction write : Bool) → transparent (bare g) address code instruction write ≡ false
 unfolding transparent
-opaque g address code instruction =
+opaque g address code instruction write =
     if-both (λ (b : Bool). b ≡ false) (eqb (g .family) 30) _ _ refl
     (if-both (λ (b : Bool). b ≡ false) (eqb (g .family) 40) _ _ (if-both (λ (b : Bool). b ≡ false) instruction _ _ refl refl) refl)
 
@@ -140,7 +140,7 @@ stale-is-030 g m s e t =
 -- what an access of a code gets from the caches, and from the tables
 module _ (g : Registers) (m : Memory) (c : Caches) (accepted : refusalOf (auditChecks g m c) ≡ 0) (on-is : on g ≡ true) (family : eqb (g .family) 30 ≡ true)
     (s : ℕ) (sh : shiftOf (g .tc) ≡ Bits s) (code : ℕ) (is : isAccessCode code ≡ true) (write : Bool) (address : ℕ)
-    (seen : transparent g address (codeOf (bitOf code 2) (eqb (code % 4) 2)) (eqb (code % 4) 2) ≡ false) where
+    (seen : transparent g address (codeOf (bitOf code 2) (eqb (code % 4) 2)) (eqb (code % 4) 2) write ≡ false) where
   abbrev its-access : Access
   its-access = plainAccess (bitOf code 2) (eqb (code % 4) 2) write address
 
@@ -234,7 +234,7 @@ module _ (g : Registers) (m : Memory) (c : Caches) (from i : ℕ) (h : auditFrom
             d .differs
             (same
             ∙ from-tables (bare g) m c (its-names .accepted) refl its-family (c .c030 .shift) its-shift (entryAt c i .code) (named-030 .met) (d .write)
-            (its-page % 2 ^ 32) (opaque g (its-page % 2 ^ 32) _ (eqb (entryAt c i .code % 4) 2)));
+            (its-page % 2 ^ 32) (opaque g (its-page % 2 ^ 32) _ (eqb (entryAt c i .code % 4) 2) (d .write)));
       }
 
 -- ---- the 68040
@@ -385,7 +385,7 @@ module _ (g : Registers) (m : Memory) (c : Caches) (from i : ℕ) (h : auditFrom
               d .differs
               (same
               ∙ ap (λ (b : Access). cacheless (bare g) b m .answer) (data-access (slotIn c i .supervisor) (d .write) low)
-              ∙ by-040 (bare g) m a refl (opaque g low _ false) slot-family emptyCaches (same-refusal g m c a refl (slot-names .accepted))
+              ∙ by-040 (bare g) m a refl (opaque g low _ false (d .write)) slot-family emptyCaches (same-refusal g m c a refl (slot-names .accepted))
               ∙ hits040.empty-answer (bare g) m a
               ∙ ap (λ (o : Outcome040). concluded040 (bare g) a emptyCaches o .answer)
               (bare-walk g m low (slotIn c i .supervisor) ∙ narrow-040 slot-page m g (slotIn c i .supervisor)));

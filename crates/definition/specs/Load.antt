@@ -31,7 +31,7 @@ searchedFor s c = loaded Load.Loaded (s .asked) (s .cache) c
 -- after 'drops the page (mask 7)', whose cache this is
 abbrev pub afterDrop : Registers → Memory → ℕ → Bool → ℕ → Cache030 → Caches → Loaded
 afterDrop g m code write address cache c =
-    if stopped (shiftOf (g .tc)) (transparent030 g address code)
+    if stopped (shiftOf (g .tc)) (transparent030 g address code write)
     then loaded Load.Loaded [] cache c
     else searchedFor (search030 g m cache code address write) c
 

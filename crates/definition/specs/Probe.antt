@@ -31,7 +31,7 @@ unfoldable pub probeInOrder : Registers → Bool → Bool → Bool → ℕ → C
 probeInOrder g own instruction write address c =
     if not (on g)
     then Probe.Nothing
-    else if transparent g address (codeOf own instruction) instruction
+    else if transparent g address (codeOf own instruction) instruction write
     then Probe.Address address
     else if eqb (g .family) 30
     then probe030 (c .c030) (codeOf own instruction) write address (shiftOf (g .tc))

@@ -37,10 +37,10 @@ statusOf code o =
     tested (Test.Status (mmusrOf code (o .found .wp) (o .found .sup) (o .found .levels) (o .end)) (o .found .last)) (o .found .asked)
 
 -- 'Level 0: 0040 if a TT matches, else 0, address 0. Otherwise at most that many levels'. 'PTEST works whether enabled or not'
-unfoldable pub testInOrder : Registers → ℕ → ℕ → ℕ → Memory → Tested
-testInOrder g code level address m =
+unfoldable pub testInOrder : Registers → ℕ → Bool → ℕ → ℕ → Memory → Tested
+testInOrder g code write level address m =
     if eqb level 0
-    then tested (Test.Status (flag (transparent030 g address code) 0x0040) 0) []
+    then tested (Test.Status (flag (transparent030 g address code write) 0x0040) 0) []
     else statusOf code (walk030 m g address code level)
 
 -- 1, 6, 5, 2 and 3 can apply
@@ -48,7 +48,7 @@ abbrev pub testChecks : Registers → ℕ → ℕ → Memory → Checks
 testChecks g code level m =
     checks (noFamily (g .family)) (badBase m) (badRange m) false (aboveSeven code || aboveSeven level) (not030 (g .family)) false
 
--- `write` is what the record has; PTEST's write byte changes nothing in the base (docs/DECISIONS.md, The meaning 12)
+-- `write` is PTEST's R/W form, which TT0 and TT1 alone ask for
 unfoldable pub test : Registers → ℕ → Bool → ℕ → ℕ → Memory → Tested
 test g code write level address m =
-    unless (testChecks g code level m) (λ (n : ℕ). tested (Test.Refused n) []) (testInOrder g code level address m)
+    unless (testChecks g code level m) (λ (n : ℕ). tested (Test.Refused n) []) (testInOrder g code write level address m)

@@ -159,7 +159,7 @@ unfoldable pub inOrder : Registers → Access → Memory → Caches → Translat
 inOrder g a m c =
     if not (on g)
     then atOnce (Translation.Address (a .address)) c
-    else if transparent g (a .address) (comparedCode a) (asInstruction a)
+    else if transparent g (a .address) (comparedCode a) (asInstruction a) (a .write)
     then atOnce (Translation.Address (a .address)) c
     else if eqb (g .family) 30 then translate030 g a m c else translate040 g a m c
 

@@ -2,7 +2,7 @@
 use definition::Registers;
 ghost use mathlib.Core.Path.{_≡_};
 ghost use Rattle.definition.specs.Words.{bitOf, agrees};
-ghost use Rattle.definition.specs.Transparent.{covers, matches030, privilege, matches040, transparent030, transparent};
+ghost use Rattle.definition.specs.Transparent.{covers, directed, matches030, privilege, matches040, transparent030, transparent};
 ghost use Rattle.transparent.specs.Chosen.{matchesBy, eitherBy, firstBy, secondBy};
 
 // Whether a and b agree on the mask's bits.
@@ -29,12 +29,27 @@ fn covers_address(tt: u32, address: u32) -> bool
     false
 }
 
-// One 68030 register: the code agrees with the base in 10:8 but for the bits set in 4:2.
-pub fn matches_030(tt: u32, address: u32, code: u32) -> bool
-    ensures { λ r. ⌜ r ≡ matches030 tt address code ⌝ }
+// RWM, bit 8: both directions. Where it is clear, R/W, bit 9: reads where it is set, writes where it is clear.
+fn takes_direction(tt: u32, write: bool) -> bool
+    ensures { λ r. ⌜ r ≡ directed tt write ⌝ }
+{
+    if (tt >> 8) % 2 == 1 {
+        return true;
+    }
+    if (tt >> 9) % 2 == 1 {
+        return !write;
+    }
+    write
+}
+
+// One 68030 register: it takes the direction, and the code agrees with the base in 6:4 but for the bits set in 2:0.
+pub fn matches_030(tt: u32, address: u32, code: u32, write: bool) -> bool
+    ensures { λ r. ⌜ r ≡ matches030 tt address code write ⌝ }
 {
     if covers_address(tt, address) {
-        return agree(code, (tt >> 8) % 8, 7 - (tt >> 2) % 8);
+        if takes_direction(tt, write) {
+            return agree(code, (tt >> 4) % 8, 7 - tt % 8);
+        }
     }
     false
 }
@@ -61,31 +76,31 @@ pub fn matches_040(tt: u32, address: u32, supervisor: bool) -> bool
 }
 
 // One register of this family. Family 60 matches nothing.
-fn matches(family: u32, tt: u32, address: u32, code: u32) -> bool
-    ensures { λ r. ⌜ r ≡ matchesBy family tt address code ⌝ }
+fn matches(family: u32, tt: u32, address: u32, code: u32, write: bool) -> bool
+    ensures { λ r. ⌜ r ≡ matchesBy family tt address code write ⌝ }
 {
     match family {
-        30 => matches_030(tt, address, code),
+        30 => matches_030(tt, address, code, write),
         40 => matches_040(tt, address, (code >> 2) % 2 == 1),
         _ => false,
     }
 }
 
 // Either of two of them.
-fn either(family: u32, first: u32, second: u32, address: u32, code: u32) -> bool
-    ensures { λ r. ⌜ r ≡ eitherBy family first second address code ⌝ }
+fn either(family: u32, first: u32, second: u32, address: u32, code: u32, write: bool) -> bool
+    ensures { λ r. ⌜ r ≡ eitherBy family first second address code write ⌝ }
 {
-    if matches(family, first, address, code) {
+    if matches(family, first, address, code, write) {
         return true;
     }
-    matches(family, second, address, code)
+    matches(family, second, address, code, write)
 }
 
 // TT0 or TT1.
-pub fn transparent_030(g: Registers, address: u32, code: u32) -> bool
-    ensures { λ r. ⌜ r ≡ transparent030 g address code ⌝ }
+pub fn transparent_030(g: Registers, address: u32, code: u32, write: bool) -> bool
+    ensures { λ r. ⌜ r ≡ transparent030 g address code write ⌝ }
 {
-    either(30, g.tt0, g.tt1, address, code)
+    either(30, g.tt0, g.tt1, address, code, write)
 }
 
 // The first register that an access is compared with: TT0, or ITT0 for instructions and DTT0 for data.
@@ -114,14 +129,14 @@ fn second_of(g: Registers, instruction: bool) -> u32
     g.dtt1
 }
 
-// Whether an access of this code is translated to its own address. Where neither register is enabled, which is a hit's way, nothing is compared.
-pub fn is_transparent(g: Registers, address: u32, code: u32, instruction: bool) -> bool
-    ensures { λ r. ⌜ r ≡ transparent g address code instruction ⌝ }
+// Whether an access of this code and direction is translated to its own address. Where neither register is enabled, which is a hit's way, nothing is compared.
+pub fn is_transparent(g: Registers, address: u32, code: u32, instruction: bool, write: bool) -> bool
+    ensures { λ r. ⌜ r ≡ transparent g address code instruction write ⌝ }
 {
     let first = first_of(g, instruction);
     let second = second_of(g, instruction);
     if is_enabled(first) | is_enabled(second) {
-        return either(g.family, first, second, address, code);
+        return either(g.family, first, second, address, code, write);
     }
     false
 }

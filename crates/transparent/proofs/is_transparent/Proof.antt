@@ -20,11 +20,11 @@ either-requires c κs = search needs
 
 returns : tie.Need-returns
 returns c =
-    compared _ _ _ _ (c .before .before .before .before .before .first-of .ensures) (c .before .before .before .before .second-of .ensures) (c .either .ensures)
+    compared _ _ _ _ _ (c .before .before .before .before .before .first-of .ensures) (c .before .before .before .before .second-of .ensures) (c .either .ensures)
 
 returns-2 : tie.Need-returns-2
 returns-2 c =
-    none-enabled _ _ _ _ (c .before .before .before .before .first-of .ensures) (c .before .before .before .second-of .ensures) (c .before .before .is-enabled .ensures) (c .before .is-enabled2 .ensures) (c .if1 .left)
+    none-enabled _ _ _ _ _ (c .before .before .before .before .first-of .ensures) (c .before .before .before .second-of .ensures) (c .before .before .is-enabled .ensures) (c .before .is-enabled2 .ensures) (c .if1 .left)
 
 pub is-transparent-spec : {M : Type 1} → statement M
 is-transparent-spec =
