@@ -173,12 +173,14 @@ impl Builder {
         registers
     }
 
-    /// A 68030 TT register that matches this address, and mostly this code.
+    /// A 68030 TT register that matches this address, and mostly this code: of both
+    /// directions (RWM set) or of one (R/W alone), with any bits that mean nothing.
     pub fn tt_for(&mut self, address: u32, code: u8) -> u32 {
         let base = if self.random.chance(75) { code } else { self.random.below(8) as u8 };
         let mask = self.random.pick(&[0, 0, 7, 4, 3, 1]);
-        let junk = self.random.long() & 0x78E3;
-        self.region_for(address) | u32::from(base) << 8 | mask << 2 | junk
+        let directions = self.random.pick(&[0, 0x100, 0x200, 0x300]);
+        let junk = self.random.long() & 0x7C88;
+        self.region_for(address) | directions | u32::from(base) << 4 | mask | junk
     }
 
     /// A 68040 ITT or DTT register that matches this address.

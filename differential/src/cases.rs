@@ -2,12 +2,12 @@
 //! states.
 
 use crate::builder::Builder;
-use crate::examples::{Example, corners, differences, twelve};
+use crate::examples::{Example, corners, differences, mended, twelve};
 use crate::malformed::WAYS;
 use crate::random::Random;
 use crate::selftest::oracle_lines;
 use crate::slips::Slip;
-use crate::stored::Case;
+use crate::stored::{Case, stored_traces};
 use crate::themes::THEMES;
 use crate::trace::{encode, stretches};
 use std::collections::BTreeSet;
@@ -54,6 +54,14 @@ impl Cases {
         self.cases.push(case);
     }
 
+    /// Says what the cases cover; whether that is all of it.
+    fn tell(&self) -> bool {
+        let missing: Vec<&&str> = COVERED.iter().filter(|what| !self.covered.contains(**what)).collect();
+        println!("{} cases written; not covered: {missing:?}", self.cases.len());
+        println!("{} slips, of which these are not shown: {:?}", Slip::all().len(), self.unseen);
+        missing.is_empty() && self.unseen.is_empty()
+    }
+
     /// Writes data/, args with the names, and what crates/cases must write.
     fn write(&mut self, folder: &Path) -> io::Result<()> {
         let data = folder.join("data");
@@ -86,8 +94,8 @@ fn case(name: String, trace: Vec<u8>) -> Case {
 }
 
 /// Writes so many cases, and says what they cover. The twelve examples and the ways
-/// of refusal 7 come first, then the themes, again and again with other numbers; last the
-/// inputs of docs/DIFFERENCES.md and the corners, whatever the count.
+/// of refusal 7 come first, then the themes, again and again with other numbers; last those
+/// by hand, whatever the count.
 pub fn cases(folder: &Path, count: usize, seed: u64) -> io::Result<bool> {
     let mut cases = Cases::new();
     let mut seeds = Random::new(seed);
@@ -106,23 +114,39 @@ pub fn cases(folder: &Path, count: usize, seed: u64) -> io::Result<bool> {
         let best = candidates.max_by_key(|candidate| cases.gain(candidate)).expect("a candidate");
         cases.add(best);
     }
-    for (name, trace) in named(differences()) {
-        cases.add(case(format!("difference_{name}"), trace));
-    }
     let before = cases.unseen.len();
-    for (name, trace) in corners() {
+    for (name, trace) in by_hand() {
         cases.add(case(name, trace));
     }
     cases.write(folder)?;
-    let missing: Vec<&&str> = COVERED.iter().filter(|what| !cases.covered.contains(**what)).collect();
-    println!("{} cases written; not covered: {missing:?}", cases.cases.len());
-    println!(
-        "{} slips: {before} not shown without the corners, and {} not at all",
-        Slip::all().len(),
-        cases.unseen.len()
-    );
-    println!("not shown: {:?}", cases.unseen);
-    Ok(missing.is_empty() && cases.unseen.is_empty())
+    println!("{before} slips not shown without those by hand");
+    Ok(cases.tell())
+}
+
+/// Makes the lines of the stored traces anew, which stay as they are, and adds those by
+/// hand that are not stored yet.
+pub fn renew(folder: &Path) -> io::Result<bool> {
+    let mut cases = Cases::new();
+    let mut traces = stored_traces(folder)?;
+    for (name, trace) in by_hand() {
+        let kept = traces.entry(name.clone()).or_insert_with(|| trace.clone());
+        if *kept != trace {
+            println!("{name} is stored with other bytes: what is changed needs a name of its own");
+            return Ok(false);
+        }
+    }
+    for (name, trace) in traces {
+        cases.add(case(name, trace));
+    }
+    cases.write(folder)?;
+    Ok(cases.tell())
+}
+
+/// The traces by hand beside the twelve: the inputs of docs/DIFFERENCES.md, and the corners.
+fn by_hand() -> impl Iterator<Item = (String, Vec<u8>)> {
+    let mended = mended().into_iter().map(|row| row.here).collect();
+    let called = |kind: &'static str| move |(name, trace): (String, Vec<u8>)| (format!("{kind}_{name}"), trace);
+    named(differences()).map(called("difference")).chain(named(mended).map(called("mended"))).chain(corners())
 }
 
 fn named(examples: Vec<Example>) -> impl Iterator<Item = (String, Vec<u8>)> {

@@ -1,12 +1,14 @@
-//! Traces with lines written by hand: document 01's twelve examples, and what it
-//! says of refusals and the file.
+//! Traces with lines written by hand: document 01's twelve examples, what it says of
+//! refusals and the file, and what document 02's requests mend.
 
 mod corners;
 mod differences;
+mod mended;
 
 use crate::trace::{INSTRUCTION, NONE, RECORD, Record, Registers, SUPERVISOR, WRITE};
 pub use corners::corners;
 pub use differences::differences;
+pub use mended::mended;
 
 /// A trace with the lines that it must give, `v1` and `end` left out. The lines of
 /// records that only prepare (K) are left out as well.
@@ -14,6 +16,13 @@ pub struct Example {
     pub name: &'static str,
     pub records: Vec<Record>,
     pub lines: Vec<String>,
+}
+
+/// A trace where the manual is followed and the Rust is not: the lines here, and the
+/// lines of the original as it is shipped.
+pub struct Mended {
+    pub here: Example,
+    pub shipped: Example,
 }
 
 pub const LOGICAL: u32 = 0x0204_1ABC;
@@ -235,7 +244,7 @@ pub fn refusals() -> Vec<Example> {
         example(
             "own_state_and_override",
             vec![
-                with(|r| r.tt0 = 0x0200_8500),
+                with(|r| r.tt0 = 0x0200_8150),
                 Record::Access { flags: RECORD | SUPERVISOR, override_code: NONE, address: LOGICAL },
                 Record::Access { flags: RECORD | SUPERVISOR | INSTRUCTION, override_code: 5, address: LOGICAL },
             ],

@@ -27,11 +27,13 @@ use std::process::ExitCode;
 const USAGE: &str = "usage:
   differential selftest [TRACES]               try the bed itself
   differential oracle [--states]               the original's lines for the trace on standard input
+  differential shipped [--states]              the same with nothing mended
   differential paper [--states] [SLIP]         the same by the second reading, with a slip
   differential generate SEED [working_set]     the trace of a seed, to standard output
   differential compare lines|states|working_set PLAYER SEED RECORDS FOLDER
                                                compare until so many records were compared
   differential cases FOLDER COUNT SEED         write stored cases: data/, args and stdout of FOLDER
+  differential renew FOLDER                    make the lines of the stored traces anew
   differential pairs FOLDER COUNT SEED         write pairs of replays with the same watched accesses
   differential cacheops SEED COUNT             operations on the original's caches
   differential walks SEED COUNT                walks of the original
@@ -60,6 +62,10 @@ fn run(words: &[&str]) -> Result<bool, String> {
             let output = replay::replay(&mut original::Original::default(), &input()?, states(options)?);
             print(output.text().as_bytes())?;
         }
+        ["shipped", ref options @ ..] => {
+            let output = replay::replay(&mut original::Original::as_shipped(), &input()?, states(options)?);
+            print(output.text().as_bytes())?;
+        }
         ["paper", ref options @ ..] => {
             let (flags, names): (Vec<&str>, Vec<&str>) = options.iter().partition(|word| word.starts_with("--"));
             let slip = names.first().map(|name| slip(name)).transpose()?;
@@ -84,6 +90,7 @@ fn run(words: &[&str]) -> Result<bool, String> {
         ["cases", folder, count, seed] => {
             return cases::cases(Path::new(folder), number(count)? as usize, number(seed)?).map_err(told);
         }
+        ["renew", folder] => return cases::renew(Path::new(folder)).map_err(told),
         ["pairs", folder, count, seed] => {
             return pairs::pairs(Path::new(folder), number(count)? as usize, number(seed)?).map_err(told);
         }

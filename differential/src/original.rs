@@ -1,4 +1,5 @@
-//! The original's functions behind [`Machine`].
+//! The original's functions behind [`Machine`], and what stands between the two where
+//! the manuals are followed and the original is not (docs/DIFFERENCES.md, 'Mended').
 
 use crate::core::cpu::CpuCore;
 use crate::core::memory::{AddressBus, BusFault, BusFaultKind};
@@ -12,11 +13,29 @@ use crate::trace::Registers;
 #[derive(Default)]
 pub struct Original {
     cpu: CpuCore,
+    /// Whether it is asked as it is shipped, with nothing mended.
+    as_shipped: bool,
+}
+
+/// A TT register of the MC68030 as the original reads one, for a call of this direction:
+/// the code's base from 6:4 in 10:8 and its mask from 2:0 in 4:2, the region where it is.
+/// It is disabled where RWM (8) is clear and R/W (9) forbids the direction.
+fn moved(tt: u32, write: bool) -> u32 {
+    let (base, mask, reads, both) = (tt >> 4 & 7, tt & 7, tt & 0x200 != 0, tt & 0x100 != 0);
+    let enabled = tt & 0x8000 != 0 && (both || reads != write);
+    tt & 0xFFFF_0000 | u32::from(enabled) << 15 | base << 8 | mask << 2
 }
 
 impl Original {
-    /// The CPU with these registers, in this state, without an override.
-    fn with(&mut self, registers: &Registers, cpu_supervisor: bool) -> &mut CpuCore {
+    pub fn as_shipped() -> Self {
+        Original { as_shipped: true, ..Original::default() }
+    }
+
+    /// The CPU with these registers, in this state, without an override, for a call of
+    /// this direction.
+    fn with(&mut self, registers: &Registers, cpu_supervisor: bool, write: bool) -> &mut CpuCore {
+        let tt = |register: u32| if self.as_shipped { register } else { moved(register, write) };
+        let [tt0, tt1] = [registers.tt0, registers.tt1].map(tt);
         let cpu = &mut self.cpu;
         cpu.cpu_type = match registers.family {
             30 => CpuType::M68030,
@@ -31,8 +50,8 @@ impl Original {
         cpu.mmu_crp_aptr = registers.crp_address;
         cpu.mmu_srp_limit = registers.srp_limit;
         cpu.mmu_srp_aptr = registers.srp_address;
-        cpu.mmu_tt0 = registers.tt0;
-        cpu.mmu_tt1 = registers.tt1;
+        cpu.mmu_tt0 = tt0;
+        cpu.mmu_tt1 = tt1;
         cpu.itt0 = registers.itt0;
         cpu.itt1 = registers.itt1;
         cpu.dtt0 = registers.dtt0;
@@ -46,7 +65,7 @@ impl Original {
 
 impl Machine for Original {
     fn translate(&mut self, registers: &Registers, access: &Access, memory: &mut TableMemory) -> Answer {
-        let cpu = self.with(registers, access.cpu_supervisor);
+        let cpu = self.with(registers, access.cpu_supervisor, access.write);
         cpu.mmu_fc_override = access.override_code;
         if !access.record {
             // The fast-memory window's state: while it is enabled, no hit records a use.
@@ -61,7 +80,7 @@ impl Machine for Original {
     }
 
     fn load(&mut self, registers: &Registers, code: u8, write: bool, address: u32, memory: &mut TableMemory) {
-        mmu::pload_030(self.with(registers, false), memory, address, code, write);
+        mmu::pload_030(self.with(registers, false, write), memory, address, code, write);
     }
 
     fn test(
@@ -73,7 +92,7 @@ impl Machine for Original {
         address: u32,
         memory: &mut TableMemory,
     ) -> (u16, u32) {
-        mmu::ptest_030(self.with(registers, false), memory, address, code.into(), write, level.into())
+        mmu::ptest_030(self.with(registers, false, write), memory, address, code.into(), write, level.into())
     }
 
     fn probe(
@@ -84,7 +103,7 @@ impl Machine for Original {
         write: bool,
         address: u32,
     ) -> Option<u32> {
-        let cpu = self.with(registers, cpu_supervisor);
+        let cpu = self.with(registers, cpu_supervisor, write);
         mmu::probe_resident(cpu, ResidentMmu::of(cpu), address, write, instruction)
     }
 

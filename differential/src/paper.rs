@@ -1,5 +1,5 @@
-//! A second reading: document 01 as plain Rust, written from its text and not
-//! from the original. It tries the test bed itself. Without a slip it must agree
+//! A second reading: document 01 with document 02's requests as plain Rust, written from
+//! their text and not from the original. It tries the test bed itself. Without a slip it must agree
 //! with the original on every generated trace; with any of the slips below the
 //! generated traces must tell the two apart.
 
@@ -145,18 +145,28 @@ impl Paper {
         register & 0x8000 != 0 && ((address >> 24) ^ (register >> 24)) & !ignored == 0
     }
 
-    fn tt_matches(&self, register: u32, address: u32, code: u8) -> bool {
-        let (base, mask) = if self.is(Slip::CodeFieldsOfTheManual) {
-            (register >> 4 & 7, register & 7)
-        } else {
-            (register >> 8 & 7, register >> 2 & 7)
-        };
-        let compared = if self.is(Slip::CodeMaskInverted) { mask } else { 7 - mask };
-        self.region_matches(register, address) && (u32::from(code) ^ base) & compared == 0
+    /// R/W, bit 9, applies where RWM, bit 8, is clear: set for reads only, clear for writes only.
+    fn takes_direction(&self, register: u32, write: bool) -> bool {
+        let masked = register & 0x100 != 0 && !self.is(Slip::RwmIgnored);
+        let of_reads = (register & 0x200 != 0) != self.is(Slip::RwInverted);
+        masked || of_reads != write || self.is(Slip::RwIgnored) || self.is(Slip::TtBitsOfDocument01)
     }
 
-    fn either_tt(&self, registers: &Registers, address: u32, code: u8) -> bool {
-        let [tt0, tt1] = [registers.tt0, registers.tt1].map(|register| self.tt_matches(register, address, code));
+    fn tt_matches(&self, register: u32, address: u32, code: u8, write: bool) -> bool {
+        let (base, mask) = match self.slip {
+            Some(Slip::TtBitsOfDocument01) => (register >> 8, register >> 2),
+            Some(Slip::CodeBaseFrom10To8) => (register >> 8, register),
+            Some(Slip::CodeMaskOneUp) => (register >> 4, register >> 1),
+            _ => (register >> 4, register),
+        };
+        let compared = if self.is(Slip::CodeMaskInverted) { mask } else { !mask };
+        self.region_matches(register, address)
+            && self.takes_direction(register, write)
+            && (u32::from(code) ^ base) & compared & 7 == 0
+    }
+
+    fn either_tt(&self, registers: &Registers, address: u32, code: u8, write: bool) -> bool {
+        let [tt0, tt1] = [registers.tt0, registers.tt1].map(|register| self.tt_matches(register, address, code, write));
         match self.slip {
             Some(Slip::OnlyTt0) => tt0,
             Some(Slip::OnlyTt1) => tt1,
@@ -177,7 +187,7 @@ impl Paper {
         privilege && self.region_matches(register, address)
     }
 
-    fn transparent(&self, registers: &Registers, code: u8, instruction: bool, address: u32) -> bool {
+    fn transparent(&self, registers: &Registers, code: u8, instruction: bool, write: bool, address: u32) -> bool {
         let family = if self.is(Slip::Family60Matches) { registers.family.min(40) } else { registers.family };
         let pair = if instruction || self.is(Slip::ItrForData) {
             [registers.itt0, registers.itt1]
@@ -185,7 +195,7 @@ impl Paper {
             [registers.dtt0, registers.dtt1]
         };
         match family {
-            30 => self.either_tt(registers, address, code),
+            30 => self.either_tt(registers, address, code, write),
             40 => {
                 let [first, second] = pair.map(|register| self.ttr_matches(register, address, code & 4 != 0));
                 match self.slip {
@@ -727,7 +737,7 @@ impl Machine for Paper {
         self.unrecorded = !access.record;
         let cached = self.is(Slip::CacheBeforeTransparent)
             && self.probe(registers, supervisor, instruction, access.write, address).is_some();
-        if self.transparent(registers, compared, instruction, address) && !cached {
+        if self.transparent(registers, compared, instruction, access.write, address) && !cached {
             return Answer::Address(address);
         }
         if registers.family != 30 {
@@ -758,7 +768,8 @@ impl Machine for Paper {
             let at_tcs = shift.filter(|_| self.is(Slip::LoadDropsAtTcsShift)).map(u64::from);
             self.drop_page(code, 7, address, at_tcs.unwrap_or(stored));
         }
-        let transparent = self.either_tt(registers, address, code) && !self.is(Slip::LoadIgnoresTransparent);
+        let matched = self.either_tt(registers, address, code, write && !self.is(Slip::LoadMatchesAsARead));
+        let transparent = matched && !self.is(Slip::LoadIgnoresTransparent);
         if shift.is_none() || transparent {
             return;
         }
@@ -788,11 +799,12 @@ impl Machine for Paper {
         if self.is(Slip::TestNeedsThePmmu) && !self.on(registers) {
             return (0, 0);
         }
+        let matched = self.either_tt(registers, address, code, write && !self.is(Slip::TestMatchesAsARead));
         if level == 0 && !self.is(Slip::TestLevel0Walks) {
             let otherwise = if self.is(Slip::TestLevel0WithoutATtIsInvalid) { 0x0400 } else { 0 };
-            return (if self.either_tt(registers, address, code) { 0x40 } else { otherwise }, 0);
+            return (if matched { 0x40 } else { otherwise }, 0);
         }
-        if self.is(Slip::TestOfATransparentAddress) && self.either_tt(registers, address, code) {
+        if self.is(Slip::TestOfATransparentAddress) && matched {
             return (0x40, 0);
         }
         let most = u32::from(level) + u32::from(self.is(Slip::TestGoesOneLevelOn));
@@ -832,7 +844,8 @@ impl Machine for Paper {
         }
         let code = code_of(cpu_supervisor, instruction);
         let ignored = self.is(Slip::ProbeIgnoresTransparent) || self.is(Slip::CacheBeforeTransparent);
-        if self.transparent(registers, code, instruction, address) && !ignored {
+        let matches_as = write && !self.is(Slip::ProbeMatchesAsARead);
+        if self.transparent(registers, code, instruction, matches_as, address) && !ignored {
             return Some(address);
         }
         let write = write && !self.is(Slip::ProbeIgnoresWp);

@@ -1,7 +1,7 @@
 //! The bed's own tests: lines written by hand, and the second reading of document
 //! 01 with and without slips.
 
-use crate::examples::{Example, FILES, corners, differences, refusals, twelve, with_states};
+use crate::examples::{Example, FILES, Mended, corners, differences, mended, refusals, twelve, with_states};
 use crate::generate;
 use crate::original::Original;
 use crate::paper::Paper;
@@ -18,7 +18,7 @@ pub fn oracle_lines(bytes: &[u8], states: bool) -> Vec<String> {
 
 /// Whether all is well; what is not goes to standard output.
 pub fn selftest(traces: u64) -> bool {
-    [examples_hold(), files_hold(), second_reading_agrees(traces), slips_show()].iter().all(|&well| well)
+    [examples_hold(), mended_hold(), files_hold(), second_reading_agrees(traces), slips_show()].iter().all(|&well| well)
 }
 
 fn examples_hold() -> bool {
@@ -31,17 +31,29 @@ fn examples_hold() -> bool {
 }
 
 fn example_holds(example: &Example) -> bool {
-    let bytes = encode(&example.records);
-    [oracle_lines(&bytes, false), lines_of(&mut Paper::default(), &bytes, false)].iter().all(|lines| {
-        let told: Vec<&str> = lines.iter().map(String::as_str).filter(|line| *line != "K").collect();
-        let mut wanted = vec!["v1"];
-        wanted.extend(example.lines.iter().map(String::as_str));
-        wanted.push("end");
-        if told != wanted {
-            println!("{}: wanted {wanted:?}, got {told:?}", example.name);
-        }
-        told == wanted
-    })
+    gives(&mut Original::default(), example) && gives(&mut Paper::default(), example)
+}
+
+/// Whether each mended row has its lines here, and the original as it is shipped the others.
+fn mended_hold() -> bool {
+    let all = mended();
+    let holds = |row: &Mended| example_holds(&row.here) && gives(&mut Original::as_shipped(), &row.shipped);
+    let failed = all.iter().filter(|row| !holds(row)).count();
+    println!("selftest: {} mended rows on both sides, {failed} failed", all.len());
+    failed == 0
+}
+
+/// Whether the machine gives the example's lines.
+fn gives(machine: &mut impl Machine, example: &Example) -> bool {
+    let lines = lines_of(machine, &encode(&example.records), false);
+    let told: Vec<&str> = lines.iter().map(String::as_str).filter(|line| *line != "K").collect();
+    let mut wanted = vec!["v1"];
+    wanted.extend(example.lines.iter().map(String::as_str));
+    wanted.push("end");
+    if told != wanted {
+        println!("{}: wanted {wanted:?}, got {told:?}", example.name);
+    }
+    told == wanted
 }
 
 fn files_hold() -> bool {

@@ -179,7 +179,12 @@ fn tt030(b: &mut Builder) {
         let mut other = b.sets[0].clone();
         let target = b.place();
         other.0.tt0 = b.tt_for(target.address, target.code);
-        other.0.tt1 = if b.random.chance(50) { b.tt_for(!target.address, 5) } else { 0 };
+        // Nothing, another region, or the same one: then both may match, or one for each direction.
+        other.0.tt1 = match b.random.below(4) {
+            0 => 0,
+            1 => b.tt_for(!target.address, 5),
+            _ => b.tt_for(target.address, target.code),
+        };
         if b.random.chance(20) {
             other.0.tt0 &= !0x8000;
         }
@@ -367,7 +372,7 @@ fn overrides(b: &mut Builder) {
         tc |= b.random.pick(&[0, 0x0100_0000, 0x0200_0000, 0x0300_0000]);
     }
     let mut registers = b.registers_of(family, tc);
-    registers.tt0 = 0x55FE_8000 | (b.random.below(8) as u32) << 8;
+    registers.tt0 = 0x55FE_8100 | (b.random.below(8) as u32) << 4;
     b.tree(&registers, &Shape { long: 40, wp: 8, sup: 12, ..Shape::PLAIN }, 7, &[1, 5, 2, 6]);
     let first = b.place();
     for override_code in [0, 1, 2, 3, 4, 5, 6, 7, 8, 0x80, 0xFE] {

@@ -4,20 +4,21 @@
 use super::{LOGICAL, base, family_40, on_base, read, store, tables, under, with, write};
 use crate::slips::{HIGH_BITS, UNKNOWN, wrong_bits};
 use crate::trace::{
-    INSTRUCTION, KINDS, NONE, RECORD, Record, Registers, SUPERVISOR, encode, flags_of, framed, length_of,
+    CPU_STATE, INSTRUCTION, KINDS, NONE, RECORD, Record, Registers, SUPERVISOR, encode, flags_of, framed, length_of,
 };
 
 type Named = (String, Vec<u8>);
 
 /// All of them, each with its name.
 pub fn corners() -> Vec<Named> {
-    let by_records: [(&str, Vec<Record>); 14] = [
+    let by_records: [(&str, Vec<Record>); 15] = [
         ("corner_use", use_of_entries()),
         ("corner_insert", inserts()),
         ("corner_flush", flushes()),
         ("corner_flush_040", flushes_040()),
         ("corner_off", off()),
-        ("corner_tt", two_tts()),
+        ("corner_two_tts", two_tts()),
+        ("corner_tt_fields", tt_fields()),
         ("corner_ttr", two_ttrs()),
         ("corner_target", targets()),
         ("corner_target_040", targets_040()),
@@ -132,13 +133,39 @@ fn off() -> Vec<Record> {
 /// TT0 and TT1 both set, for two regions and for one.
 fn two_tts() -> Vec<Record> {
     let of = |tt0: u32, tt1: u32| with(move |registers| (registers.tt0, registers.tt1) = (tt0, tt1));
-    let (second, fourth) = (0x0200_8100, 0x0400_8100);
+    let (second, fourth) = (0x0200_8110, 0x0400_8110);
     let calls = [0x0200_0000, 0x0400_0000, 0x0600_0000].map(read);
     let mut records = Vec::new();
     for registers in [of(second, fourth), of(fourth, second), of(second, second), of(second, 0), of(0, second)] {
         records.push(registers);
         records.extend(calls.clone());
         records.extend([test(1, 0), load(1, 0x0400_0000), probe(0x0400_0000)]);
+    }
+    records
+}
+
+/// Each field of TT0, by every call and in both directions: base and mask, R/W with RWM
+/// set and clear, the bits that mean nothing; and a direction for each register.
+fn tt_fields() -> Vec<Record> {
+    let calls = |write: u8| {
+        let access = |override_code: u8| Record::Access { flags: RECORD | write, override_code, address: LOGICAL };
+        let state = |flags: u8| Record::Access { flags: RECORD | write | flags, override_code: NONE, address: LOGICAL };
+        let codes = [access(NONE), access(0), access(2), access(3), access(5), access(7)];
+        let states = [state(SUPERVISOR), state(CPU_STATE)];
+        let test = Record::Test { code: 1, write, level: 0, address: LOGICAL };
+        let load = Record::Load { code: 1, write, address: LOGICAL };
+        let probe = Record::Probe { flags: write, address: LOGICAL };
+        [codes.as_slice(), &states, &[Record::FlushAll, test, load, Record::FlushAll, probe]].concat()
+    };
+    let directions = [0x0200_8017, 0x0200_8117, 0x0200_8217, 0x0200_8317].map(|tt0: u32| (tt0, 0));
+    let fields = [(0x0200_8110, 0), (0x0200_8152, 0), (0x0200_8124, 0), (0x0200_FD9F, 0)];
+    let pairs = [(0x0200_8207, 0x0200_8007), (0x0200_8107, 0x0200_8107), (0x0300_8107, 0x02FF_8250)];
+    let mut records = tables();
+    for (tt0, tt1) in [directions.as_slice(), &fields, &pairs].concat() {
+        records.push(with(|registers| (registers.tt0, registers.tt1) = (tt0, tt1)));
+        records.extend(calls(0));
+        records.push(Record::FlushAll);
+        records.extend(calls(1));
     }
     records
 }

@@ -28,7 +28,6 @@ fn changed_40(change: impl FnOnce(&mut Registers), stores: &[(u32, u32)], then: 
 fn of_68030() -> Vec<Example> {
     let twice = |between: Record| [read(LOGICAL), between, read(LOGICAL)];
     vec![
-        example("tt_fields", under(with(|r| r.tt0 = 0x0200_8100), &[], &[read(LOGICAL)]), &["A 02041ABC 0"]),
         example("low_address_bits", on_base(&[(0x3004, 0x55701)], &[read(LOGICAL)]), &["A 000561BC 3"]),
         example(
             "override_0",
@@ -78,8 +77,8 @@ fn of_68030() -> Vec<Example> {
         example("registers_flush_nothing", on_base(&[], &twice(with(|_| ()))), &["A 00055ABC 3", "A 00055ABC 0"]),
         example("cache_inhibit", on_base(&[(0x3004, 0x55041)], &[read(LOGICAL)]), &["A 00055ABC 3"]),
         example(
-            "load_of_a_transparent_address",
-            under(with(|r| r.tt0 = 0x0200_8104), &[], &[Record::Load { code: 1, write: 0, address: LOGICAL }]),
+            "pload_of_a_transparent_address",
+            under(with(|r| r.tt0 = 0x0200_8110), &[], &[Record::Load { code: 1, write: 0, address: LOGICAL }]),
             &["L 0"],
         ),
         example(
