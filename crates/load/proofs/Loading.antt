@@ -44,21 +44,21 @@ module _ (g : Registers) (code : ℕ) (two crossed : Bool) where
   unfolding loadRefusal
   load-refusal-is c030 e s f h n = rw (← e, ← s, ← f, ← h) n
 
-  module _ (address : ℕ) {c030 : List ℕ} {n : ℕ} (is : n ≡ loadRefusal g code two crossed (cacheOf c030)) where
+  module _ (write : Bool) (address : ℕ) {c030 : List ℕ} {n : ℕ} (is : n ≡ loadRefusal g code two crossed (cacheOf c030)) where
     pub load-refused : (n ≡ 0 → ⊥) → length c030 ≡ 69
-        → PlannedIn (planLoad g code address two crossed (cacheOf c030)) (Plan.Settled (Load.Refused n)) c030
+        → PlannedIn (planLoad g code write address two crossed (cacheOf c030)) (Plan.Settled (Load.Refused n)) c030
     unfolding planLoad
     load-refused h z = rw (← is, ne-eqb n 0 h) (record { plans = refl; leaves = refl; sized = z })
 
     pub load-off : {x : Bool} → n ≡ 0 → x ≡ on g → not x ≡ true → length c030 ≡ 69
-        → PlannedIn (planLoad g code address two crossed (cacheOf c030)) (Plan.Settled Load.Loaded) c030
+        → PlannedIn (planLoad g code write address two crossed (cacheOf c030)) (Plan.Settled Load.Loaded) c030
     unfolding planLoad
     load-off e q h z = rw (sym is ∙ e, ap not (sym q) ∙ h) (record { plans = refl; leaves = refl; sized = z })
 
     pub load-dropped : {x stop : Bool} {p : Plan} {c030′ : List ℕ} → n ≡ 0 → x ≡ on g → not x ≡ false
         → Stepped (λ (c : Cache030). flushedPage c code 7 address) c030 c030′
-        → stop ≡ stopped (shiftOf (g .tc)) (transparent030 g address code) → p ≡ loadPlan stop code
-        → PlannedIn (planLoad g code address two crossed (cacheOf c030)) p c030′
+        → stop ≡ stopped (shiftOf (g .tc)) (transparent030 g address code write) → p ≡ loadPlan stop code
+        → PlannedIn (planLoad g code write address two crossed (cacheOf c030)) p c030′
     unfolding planLoad
     load-dropped e q h s t p =
         rw (sym is ∙ e, ap not (sym q) ∙ h, ← t) (record { plans = p; leaves = s .leaves; sized = s .sized })
@@ -104,12 +104,12 @@ module _ (g : Registers) (code : ℕ) (write : Bool) (address : ℕ) (m : Memory
       let o = walk030 m g address code everyLevel in
       rw (in-three-bits small, end030-asked (g .tc) cache code address write (o .found .wp) (o .found .sup) (o .found .asked) (o .end))
 
-  pub load-staged : (crossed : Bool) (c : Caches) → finishLoad (planLoad g code address (badBase m) crossed (c .c030)) ≡ shownLoaded (loadGiven crossed g code write address m c)
+  pub load-staged : (crossed : Bool) (c : Caches) → finishLoad (planLoad g code write address (badBase m) crossed (c .c030)) ≡ shownLoaded (loadGiven crossed g code write address m c)
   unfolding loadGiven loadInOrder planLoad loadRefusal concludedLoad
   load-staged crossed c =
       load-if (eqb (refusalOf (withThird crossed (loadChecks g code m c))) 0) _ _ _ _
       (λ h. load-if (not (on g)) _ _ _ _ (λ _. refl)
-      (dropped-staged (small h) c (flushedPage (c .c030) code 7 address) (stopped (shiftOf (g .tc)) (transparent030 g address code))))
+      (dropped-staged (small h) c (flushedPage (c .c030) code 7 address) (stopped (shiftOf (g .tc)) (transparent030 g address code write))))
       refl
     where
       small : eqb (refusalOf (withThird crossed (loadChecks g code m c))) 0 ≡ true → code < 8
@@ -126,7 +126,7 @@ module _ (g : Registers) (code : ℕ) (write : Bool) (address : ℕ) (m : Memory
   unfolding load loadInOrder
   load-beside c =
       stays (eqb (refusalOf (loadChecks g code m c)) 0) _ _
-      (stays (not (on g)) _ _ refl (stays (stopped (shiftOf (g .tc)) (transparent030 g address code)) _ _ refl refl)) refl
+      (stays (not (on g)) _ _ refl (stays (stopped (shiftOf (g .tc)) (transparent030 g address code write)) _ _ refl refl)) refl
     where
       stays : (b : Bool) (x y : Loaded) → x .caches .c040 ≡ c .c040 → y .caches .c040 ≡ c .c040 → (if b then x else y) .caches .c040 ≡ c .c040
       stays true x y h k = h
@@ -144,9 +144,9 @@ module _ (m : Memory) (g : Registers) (address : ℕ) (p : Plan) {f : Found} whe
 
 -- ---- the call
 pub loads : (g : Registers) (code : ℕ) (write : Bool) (address : ℕ) (m : Memory) (c : Cache030) (crossed : Bool) {two : Bool} → two ≡ badBase m
-    → {p : Plan} {c030 : List ℕ} → PlannedIn (planLoad g code address two crossed c) p c030 → {f : Found} → f ≡ foundLoad m g address p
+    → {p : Plan} {c030 : List ℕ} → PlannedIn (planLoad g code write address two crossed c) p c030 → {f : Found} → f ≡ foundLoad m g address p
     → {l : Load} {n : ℕ} {c030′ : List ℕ} → LoadedIn (concludedLoad (g .tc) write address (cacheOf c030) f) l n c030′
     → (k : Cache040) → LoadedIn (shownLoaded (loadGiven crossed g code write address m (pairWith c k))) l n c030′
 loads g code write address m c crossed is-two {p} {c030} k ef q other =
-    let planned : PlannedIn (planLoad g code address (badBase m) crossed c) p c030 = rw (← is-two) k in
+    let planned : PlannedIn (planLoad g code write address (badBase m) crossed c) p c030 = rw (← is-two) k in
     rw (← load-staged g code write address m crossed (pairWith c other), ← planned .plans, ← planned .leaves, ← ef) q

@@ -48,12 +48,12 @@ unfoldable pub loadRefusal : Registers → ℕ → Bool → Bool → Cache030 �
 loadRefusal g code two crossed c =
     refusalOf (checksOf (noFamily (g .family)) (not030 (g .family)) (aboveSeven code) two crossed (badCache c))
 
-unfoldable pub planLoad : Registers → ℕ → ℕ → Bool → Bool → Cache030 → Planned
-planLoad g code address two crossed c =
+unfoldable pub planLoad : Registers → ℕ → Bool → ℕ → Bool → Bool → Cache030 → Planned
+planLoad g code write address two crossed c =
     if eqb (loadRefusal g code two crossed c) 0
     then if not (on g)
     then planned (Plan.Settled Load.Loaded) c
-    else planned (loadPlan (stopped (shiftOf (g .tc)) (transparent030 g address code)) code) (flushedPage c code 7 address)
+    else planned (loadPlan (stopped (shiftOf (g .tc)) (transparent030 g address code write)) code) (flushedPage c code 7 address)
     else planned (Plan.Settled (Load.Refused (loadRefusal g code two crossed c))) c
 
 -- a plan r, with the array after it

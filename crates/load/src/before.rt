@@ -13,13 +13,13 @@ ghost use Rattle.definition.specs.Load.{stopped};
 ghost use Rattle.cache.specs.Atc030.{cacheOf};
 ghost use Rattle.load.specs.Loaded.{loadPlan, planLoad, PlannedIn};
 
-// Whether it stops: there is no page shift, or TT0 or TT1 matches.
-fn stops(g: Registers, address: u32, code: u32) -> bool
-    ensures { λ r. ⌜ r ≡ stopped (shiftOf (g .tc)) (transparent030 g address code) ⌝ }
+// Whether it stops: there is no page shift, or TT0 or TT1 matches its form, of reads or of writes.
+fn stops(g: Registers, address: u32, code: u32, write: bool) -> bool
+    ensures { λ r. ⌜ r ≡ stopped (shiftOf (g .tc)) (transparent030 g address code write) ⌝ }
 {
     match memory::page030::page_shift(g.tc) {
         Shift::NoPage => true,
-        Shift::Bits(_) => transparent::transparent_030(g, address, code),
+        Shift::Bits(_) => transparent::transparent_030(g, address, code, write),
     }
 }
 
@@ -40,9 +40,10 @@ pub fn plan_load(
     crossed: bool,
     g: Registers,
     code: u32,
+    write: bool,
     address: u32,
 ) -> Plan
-    ensures { λ r. ⌜ PlannedIn (planLoad g code address two crossed (cacheOf (now (c030 .entry)))) r (now (c030 .exit)) ⌝ }
+    ensures { λ r. ⌜ PlannedIn (planLoad g code write address two crossed (cacheOf (now (c030 .entry)))) r (now (c030 .exit)) ⌝ }
 {
     checks::sized(c030);
     let one = checks::no_family(g.family);
@@ -57,6 +58,6 @@ pub fn plan_load(
         return Plan::Settled(Load::Loaded);
     }
     flush_page(c030, code, 7, address);
-    let stop = stops(g, address, code);
+    let stop = stops(g, address, code, write);
     search_unless(stop, code)
 }

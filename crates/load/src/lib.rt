@@ -89,7 +89,7 @@ pub fn load(
     ensures { λ r. ⌜ ((k : Cache040) → LoadedIn (shownLoaded (loadGiven crossed g code write address (memory (now (longs .entry)) base (now (ranges .entry))) (pairWith (cacheOf (now (c030 .entry))) k))) (r .answer) (r .count) (now (c030 .exit))) ⌝ }
 {
     let two = checks::bad_longs(longs, base);
-    let plan = before::plan_load(c030, two, crossed, g, code, address);
+    let plan = before::plan_load(c030, two, crossed, g, code, write, address);
     let found = walked(longs, base, ranges, g, address, plan);
     after::concluded(c030, g, write, address, found)
 }

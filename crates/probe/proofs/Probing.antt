@@ -59,8 +59,8 @@ module _ (g : Registers) (own instruction write : Bool) (address : ℕ) (c : Cac
   unfolding probeInOrder
   probe-off h = rw (ap not (sym is-on) ∙ h)
 
-  module _ (h : not x ≡ false) {code : ℕ} {t : Bool} (is-code : code ≡ codeOf own instruction) (is-tt : t ≡ transparent g address code instruction) where
-    matched : {b : Bool} → t ≡ b → transparent g address (codeOf own instruction) instruction ≡ b
+  module _ (h : not x ≡ false) {code : ℕ} {t : Bool} (is-code : code ≡ codeOf own instruction) (is-tt : t ≡ transparent g address code instruction write) where
+    matched : {b : Bool} → t ≡ b → transparent g address (codeOf own instruction) instruction write ≡ b
     matched e = rw (← is-code) (sym is-tt ∙ e)
 
     pub probe-transparent : t ≡ true → Probe.Address address ≡ probeInOrder g own instruction write address c

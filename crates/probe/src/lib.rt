@@ -62,7 +62,7 @@ fn probe_in_order(
         return Probe::Nothing;
     }
     let code = checks::code_of(own, instruction);
-    if transparent::is_transparent(g, address, code, instruction) {
+    if transparent::is_transparent(g, address, code, instruction, write) {
         return Probe::Address(address);
     }
     if g.family == 30 {

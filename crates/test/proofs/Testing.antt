@@ -52,17 +52,17 @@ module _ (g : Registers) (code level : ℕ) (two crossed : Bool) where
   unfolding testRefusal
   test-refusal-is e s f h n = rw (← e, ← s, ← f, ← h) n
 
-  module _ (address : ℕ) {n : ℕ} (is : n ≡ testRefusal g code level two crossed) where
-    pub test-refused : (n ≡ 0 → ⊥) → Plan.Settled (Test.Refused n) ≡ planTest g code level address two crossed
+  module _ (write : Bool) (address : ℕ) {n : ℕ} (is : n ≡ testRefusal g code level two crossed) where
+    pub test-refused : (n ≡ 0 → ⊥) → Plan.Settled (Test.Refused n) ≡ planTest g code write level address two crossed
     unfolding planTest
     test-refused h = rw (← is, ne-eqb n 0 h)
 
-    pub test-level-0 : {b : Bool} {x : ℕ} → n ≡ 0 → level ≡ 0 → b ≡ transparent030 g address code → x ≡ flag b 0x0040
-        → Plan.Settled (Test.Status x 0) ≡ planTest g code level address two crossed
+    pub test-level-0 : {b : Bool} {x : ℕ} → n ≡ 0 → level ≡ 0 → b ≡ transparent030 g address code write → x ≡ flag b 0x0040
+        → Plan.Settled (Test.Status x 0) ≡ planTest g code write level address two crossed
     unfolding planTest
     test-level-0 e l b x = rw (sym is ∙ e, eq-eqb level 0 l, ← b, x) refl
 
-    pub test-walks : n ≡ 0 → (level ≡ 0 → ⊥) → Plan.Walk030 ≡ planTest g code level address two crossed
+    pub test-walks : n ≡ 0 → (level ≡ 0 → ⊥) → Plan.Walk030 ≡ planTest g code write level address two crossed
     unfolding planTest
     test-walks e l = rw (sym is ∙ e, ne-eqb level 0 l)
 
@@ -87,7 +87,7 @@ module _ (g : Registers) (code : ℕ) (write : Bool) (level address : ℕ) (m : 
   test-if true x y t u h k = h
   test-if false x y t u h k = k
 
-  pub test-staged : (crossed : Bool) → finishTest (planTest g code level address (badBase m) crossed) ≡ shownTested (testGiven crossed g code write level address m)
+  pub test-staged : (crossed : Bool) → finishTest (planTest g code write level address (badBase m) crossed) ≡ shownTested (testGiven crossed g code write level address m)
   unfolding testGiven testInOrder planTest testRefusal concludedTest
   test-staged crossed =
       test-if (eqb (refusalOf (withThird crossed (testChecks g code level m))) 0) _ _ _ _ (test-if (eqb level 0) _ _ _ _ refl refl) refl
@@ -108,8 +108,8 @@ module _ (m : Memory) (g : Registers) (code level address : ℕ) (p : Plan) {f :
 
 -- ---- the call
 pub tests : (g : Registers) (code : ℕ) (write : Bool) (level address : ℕ) (m : Memory) (crossed : Bool) {two : Bool} → two ≡ badBase m
-    → {p : Plan} → p ≡ planTest g code level address two crossed → {f : Found} → f ≡ foundTest m g code level address p
+    → {p : Plan} → p ≡ planTest g code write level address two crossed → {f : Found} → f ≡ foundTest m g code level address p
     → {t : Test} {n : ℕ} → TestedIn (concludedTest code f) t n → TestedIn (shownTested (testGiven crossed g code write level address m)) t n
 tests g code write level address m crossed is-two {p} k ef q =
-    let plans : p ≡ planTest g code level address (badBase m) crossed = rw (← is-two) k in
+    let plans : p ≡ planTest g code write level address (badBase m) crossed = rw (← is-two) k in
     rw (← test-staged g code write level address m crossed, ← plans, ← ef) q

@@ -25,18 +25,18 @@ use Rattle.test.specs.declared.Found.the-variants as found
 -- ---- the call, where the caller says whether a range is crossed: with the true word it is `test` (proofs/Testing.antt, given-true)
 unfoldable pub testGiven : Bool → Registers → ℕ → Bool → ℕ → ℕ → Memory → Tested
 testGiven crossed g code write level address m =
-    unless (withThird crossed (testChecks g code level m)) (λ (n : ℕ). tested (Test.Refused n) []) (testInOrder g code level address m)
+    unless (withThird crossed (testChecks g code level m)) (λ (n : ℕ). tested (Test.Refused n) []) (testInOrder g code write level address m)
 
 -- ---- the plan
 unfoldable pub testRefusal : Registers → ℕ → ℕ → Bool → Bool → ℕ
 testRefusal g code level two crossed =
     refusalOf (checksOf (noFamily (g .family)) (not030 (g .family)) (aboveSeven code || aboveSeven level) two crossed false)
 
-unfoldable pub planTest : Registers → ℕ → ℕ → ℕ → Bool → Bool → Plan
-planTest g code level address two crossed =
+unfoldable pub planTest : Registers → ℕ → Bool → ℕ → ℕ → Bool → Bool → Plan
+planTest g code write level address two crossed =
     if eqb (testRefusal g code level two crossed) 0
     then if eqb level 0
-    then Plan.Settled (Test.Status (flag (transparent030 g address code) 0x0040) 0)
+    then Plan.Settled (Test.Status (flag (transparent030 g address code write) 0x0040) 0)
     else Plan.Walk030
     else Plan.Settled (Test.Refused (testRefusal g code level two crossed))
 

@@ -12,10 +12,11 @@ pub fn plan_test(
     crossed: bool,
     g: Registers,
     code: u32,
+    write: bool,
     level: u32,
     address: u32,
 ) -> Plan
-    ensures { λ r. ⌜ r ≡ planTest g code level address two crossed ⌝ }
+    ensures { λ r. ⌜ r ≡ planTest g code write level address two crossed ⌝ }
 {
     let one = checks::no_family(g.family);
     let six = checks::not_030(g.family);
@@ -25,7 +26,7 @@ pub fn plan_test(
         return Plan::Settled(Test::Refused(n));
     }
     if level == 0 {
-        let matched = transparent::transparent_030(g, address, code);
+        let matched = transparent::transparent_030(g, address, code, write);
         let mmusr = flag_of(matched, 0x0040);
         return Plan::Settled(Test::Status { mmusr, address: 0 });
     }

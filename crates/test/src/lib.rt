@@ -71,7 +71,7 @@ fn walked(
 }
 
 // Test over the longs and the ranges that the caller lends: planned, walked, concluded. `crossed` is what the caller says of check 3, that a
-// range is crossed. The write byte changes nothing.
+// range is crossed. The write byte is what TT0 and TT1 are asked for, at level 0.
 pub fn test(
     longs: &[u32],
     base: u32,
@@ -86,7 +86,7 @@ pub fn test(
     ensures { λ r. ⌜ TestedIn (shownTested (testGiven crossed g code write level address (memory (now (longs .entry)) base (now (ranges .entry))))) (r .answer) (r .count) ⌝ }
 {
     let two = checks::bad_longs(longs, base);
-    let plan = before::plan_test(two, crossed, g, code, level, address);
+    let plan = before::plan_test(two, crossed, g, code, write, level, address);
     let found = walked(longs, base, ranges, g, code, level, address, plan);
     after::concluded(code, found)
 }

@@ -46,9 +46,9 @@ pub walk-small : (a : Access) {code : ℕ} → code ≡ walkCode a → code < 8
 walk-small a e = rw e (code-small (asSupervisor a) (asInstruction a))
 
 module _ (g : Registers) (a : Access) {c030 c040 : List ℕ} (z : SizedAll c030 c040) {code : ℕ} {i t : Bool}
-    (compared : code ≡ comparedCode a) (instruction : i ≡ asInstruction a) (is-tt : t ≡ transparent g (a .address) code i) where
+    (compared : code ≡ comparedCode a) (instruction : i ≡ asInstruction a) (is-tt : t ≡ transparent g (a .address) code i (a .write)) where
   -- whether a transparent register matches
-  matched : {b : Bool} → t ≡ b → transparent g (a .address) (comparedCode a) (asInstruction a) ≡ b
+  matched : {b : Bool} → t ≡ b → transparent g (a .address) (comparedCode a) (asInstruction a) (a .write) ≡ b
   matched e = rw (← compared, ← instruction) (sym is-tt ∙ e)
 
   pub plan-transparent : t ≡ true → PlannedIn (planOn g a (cachesOf c030 c040)) (settledAt (a .address)) c030 c040

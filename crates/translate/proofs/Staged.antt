@@ -98,7 +98,7 @@ module _ (g : Registers) (a : Access) (m : Memory) where
   translate-staged crossed c =
       finish-if (eqb (refusalOf (withThird crossed (translateChecks g a m c))) 0) _ _ _ _
       (finish-if (not (on g)) _ _ _ _ refl
-      (finish-if (transparent g (a .address) (comparedCode a) (asInstruction a)) _ _ _ _ refl
+      (finish-if (transparent g (a .address) (comparedCode a) (asInstruction a) (a .write)) _ _ _ _ refl
       (finish-if (eqb (g .family) 30) _ _ _ _ (translate030-staged c) (translate040-staged c))))
       refl
 

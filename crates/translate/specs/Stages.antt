@@ -92,7 +92,7 @@ plan040 tc c address supervisor write =
 
 unfoldable pub planOn : Registers → Access → Caches → Planned
 planOn g a c =
-    if transparent g (a .address) (comparedCode a) (asInstruction a)
+    if transparent g (a .address) (comparedCode a) (asInstruction a) (a .write)
     then planned (settledAt (a .address)) c
     else if eqb (g .family) 30
     then besidePlan c (plan030 (c .c030) (a .recorded) (walkCode a) (a .address) (a .write) (shiftOf (g .tc)))

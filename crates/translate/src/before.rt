@@ -88,7 +88,7 @@ fn plan_on(c030: &mut Atc030, c040: &Atc040, g: Registers, a: Access) -> Plan
 {
     let compared = checks::compared_code(a);
     let instruction = checks::as_instruction(a);
-    if transparent::is_transparent(g, a.address, compared, instruction) {
+    if transparent::is_transparent(g, a.address, compared, instruction, a.write) {
         return at_address(a.address);
     }
     if g.family == 30 {

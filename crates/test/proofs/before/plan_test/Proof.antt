@@ -19,7 +19,7 @@ first-refusal-requires : tie.Need-first-refusal-requires
 first-refusal-requires c κs = search needs
 
 returns : tie.Need-returns
-returns c = law.test-refused _ _ _ _ _ _ (law.test-refusal-is _ _ _ _ _ (c .before .before .before .before .before .no-family .ensures) (c .before .before .before .before .not-030 .ensures) (c .before .before .before .above-seven .ensures) (c .before .before .above-seven2 .ensures) (c .before .first-refusal .ensures)) (c .if1 .taken)
+returns c = law.test-refused _ _ _ _ _ _ _ (law.test-refusal-is _ _ _ _ _ (c .before .before .before .before .before .no-family .ensures) (c .before .before .before .before .not-030 .ensures) (c .before .before .before .above-seven .ensures) (c .before .before .above-seven2 .ensures) (c .before .first-refusal .ensures)) (c .if1 .taken)
 
 transparent-030-requires : tie.Need-transparent-030-requires
 transparent-030-requires c κs = search needs
@@ -28,10 +28,10 @@ flag-of-requires : tie.Need-flag-of-requires
 flag-of-requires c κs = search needs
 
 returns-2 : tie.Need-returns-2
-returns-2 c = law.test-level-0 _ _ _ _ _ _ (law.test-refusal-is _ _ _ _ _ (c .before .before .before .before .before .before .before .before .no-family .ensures) (c .before .before .before .before .before .before .before .not-030 .ensures) (c .before .before .before .before .before .before .above-seven .ensures) (c .before .before .before .before .before .above-seven2 .ensures) (c .before .before .before .before .first-refusal .ensures)) (c .before .before .before .if1 .left) (c .before .before .if2 .taken) (c .before .transparent-030 .ensures) (c .flag-of .ensures)
+returns-2 c = law.test-level-0 _ _ _ _ _ _ _ (law.test-refusal-is _ _ _ _ _ (c .before .before .before .before .before .before .before .before .no-family .ensures) (c .before .before .before .before .before .before .before .not-030 .ensures) (c .before .before .before .before .before .before .above-seven .ensures) (c .before .before .before .before .before .above-seven2 .ensures) (c .before .before .before .before .first-refusal .ensures)) (c .before .before .before .if1 .left) (c .before .before .if2 .taken) (c .before .transparent-030 .ensures) (c .flag-of .ensures)
 
 returns-3 : tie.Need-returns-3
-returns-3 c = law.test-walks _ _ _ _ _ _ (law.test-refusal-is _ _ _ _ _ (c .before .before .before .before .before .before .no-family .ensures) (c .before .before .before .before .before .not-030 .ensures) (c .before .before .before .before .above-seven .ensures) (c .before .before .before .above-seven2 .ensures) (c .before .before .first-refusal .ensures)) (c .before .if1 .left) (c .if2 .left)
+returns-3 c = law.test-walks _ _ _ _ _ _ _ (law.test-refusal-is _ _ _ _ _ (c .before .before .before .before .before .before .no-family .ensures) (c .before .before .before .before .before .not-030 .ensures) (c .before .before .before .before .above-seven .ensures) (c .before .before .before .above-seven2 .ensures) (c .before .before .first-refusal .ensures)) (c .before .if1 .left) (c .if2 .left)
 
 pub plan-test-spec : {M : Type 1} → statement M
 plan-test-spec =
