@@ -1,5 +1,6 @@
 pub mod Examples
 pub mod Mended
+pub mod MappingExamples
 pub mod AuditKinds
 pub mod Refusals
 pub mod Choice

@@ -15,5 +15,6 @@ pub mod Test
 pub mod Probe
 pub mod Flush
 pub mod Audit
+pub mod List
 pub mod Calls
 pub mod Trace

@@ -152,6 +152,41 @@ pub enum Finding {
     Refused(u32),
 }
 
+// A range that a 68030 tree maps: its first address, the bits consumed, its physical start, WP and S. Lost: its descriptor can't be fetched.
+pub struct Mapped {
+    pub first: u32,
+    pub consumed: u32,
+    pub physical: u32,
+    pub wp: bool,
+    pub sup: bool,
+    pub lost: bool,
+}
+
+// A table of a tree, or an entry of one: where it stands, whether its descriptors are long, the first address of its stretch, the bits consumed
+// up to it, and what WP and S of the descriptors above it add up to.
+pub struct Node {
+    pub at: u32,
+    pub long: bool,
+    pub first: u32,
+    pub consumed: u32,
+    pub wp: bool,
+    pub sup: bool,
+}
+
+// What an entry of a table is: nothing to list, a range, or a table of its own.
+pub enum Seen {
+    Nothing,
+    One(Mapped),
+    Opens(Node),
+}
+
+// What a list answers: so many ranges, which are all, or so many and the first address of the next.
+pub enum Listed {
+    All(usize),
+    More { count: usize, next: u32 },
+    Refused(u32),
+}
+
 // A fault kind's number.
 pub fn kind_number(k: FaultKind) -> u32
     ensures { λ r. ⌜ r ≡ kindNumber k ⌝ }
