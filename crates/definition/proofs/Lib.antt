@@ -10,6 +10,9 @@ pub mod Marked
 pub mod Agree
 pub mod Asked030
 pub mod Page030
+pub mod Stretches
+pub mod Ascending
+pub mod Mapping
 pub mod Asked040
 pub mod Page040
 pub mod Entries030
@@ -17,6 +20,7 @@ pub mod Entries040
 pub mod Entries
 pub mod Hits030
 pub mod Hits040
+pub mod Listing
 pub mod Independence
 pub mod Narrow
 pub mod Said

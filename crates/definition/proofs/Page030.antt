@@ -43,7 +43,7 @@ pub shift-cut : (tc s : ℕ) → shiftOf tc ≡ Bits s → Cut (isOf tc + sumOf 
 shift-cut tc s e = from-cut (isOf tc + sumOf (used (widthsOf tc))) s e
 
 -- ---- an index is a part of the address
-index-is : (a c w : ℕ) → c < 32 → c + w ≤ 32 → topIndex a c w ≡ a / 2 ^ (32 - c - w) % 2 ^ w
+pub index-is : (a c w : ℕ) → c < 32 → c + w ≤ 32 → topIndex a c w ≡ a / 2 ^ (32 - c - w) % 2 ^ w
 index-is a c w h l =
     let small : c % 32 ≡ c = omega arith in
     let e : w + (32 - w) ≡ 32 = omega arith in

@@ -1,20 +1,12 @@
 -- Request 01, 'List what a table tree maps': the ranges of a 68030 tree in one code, over the walk's own descriptors and levels (`Walk030`).
 -- That the list is what the walks find, address by address, is proved (proofs/Mapping.antt).
-use Prim.Native.Nat.{ℕ, zero, suc, _+_, _-_, _*_, _/_, _%_, _^_}
-use mathlib.Core.List.{List, [], _∷_, _++_}
-use mathlib.Core.Bool.{Bool, true, false, not, _||_}
-use lib.Dec.{ltb, eqb}
-use lib.ListN.{length, take, drop}
-use Rattle.definition.specs.Words.{if_then_else_, bitOf}
+use Rattle.definition.specs.Words.{ℕ, zero, suc, _+_, _-_, _*_, _/_, _%_, _^_, List, [], _∷_, _++_, Bool, true, false, not, _||_, ltb, eqb, length, take, drop, if_then_else_, bitOf}
+use Rattle.definition.specs.Types.{Registers, Root}
 use Rattle.definition.specs.Memory.{Memory}
 use Rattle.definition.specs.Registers.{rootOf}
-use Rattle.definition.specs.Walk030.{entryOf, readOf, widthsOf, used, isOf, sumOf, byKind}
+use Rattle.definition.specs.Walk030.{Descriptor, Whole, Lost, entryOf, readOf, widthsOf, used, isOf, sumOf, byKind}
 use Rattle.definition.specs.Refusal.{Checks, noFamily, badBase, badRange, aboveSeven, unless}
 use Rattle.definition.specs.Audit.{isAccessCode}
-use Rattle.definition.specs.declared.Descriptor.{Descriptor}
-use Rattle.definition.specs.declared.Descriptor.the-variants.{Whole, Lost}
-use Rattle.definition.specs.declared.Registers.{Registers}
-use Rattle.definition.specs.declared.Root.{Root}
 use Rattle.definition.specs.declared.Mapped.{Mapped}
 use Rattle.definition.specs.declared.Node.{Node}
 use Rattle.definition.specs.declared.Seen.{Seen}
