@@ -11,14 +11,12 @@ use lib.Dec.{eqb}
 use Rattle.definition.specs.Memory.{Memory}
 use Rattle.definition.specs.Refusal.{Checks, badCache, refusalOf}
 use Rattle.definition.specs.Translate.{Caches, emptyCaches, translateChecks, translate}
-use Rattle.definition.specs.Calls.{access, calling}
 use Rattle.definition.proofs.Replay.{Moment, watched, other, after, answersFrom, answers, watchedOf, walksOf, In, Steady, Accepted}
 use Rattle.definition.specs.declared.Registers.{Registers}
 use Rattle.definition.specs.declared.Access.{Access}
-use Rattle.definition.specs.declared.Translation.{Translation}
 use Rattle.definition.specs.declared.Translation.the-variants.{Refused}
 use Rattle.definition.proofs.Lists.{in-left, in-right, in-either}
-use Rattle.definition.proofs.Entries.{Fit, empty-fit, calling-fit}
+use Rattle.definition.proofs.Entries.{Fit, empty-fit, after-fit}
 use Rattle.definition.proofs.Refusals.{numbers, inTranslation, translate-refuses}
 use Rattle.definition.proofs.Independence.{independence}
 
@@ -51,20 +49,15 @@ module _ (g : Registers) where
         go false e = absurd (u (refusalOf (translateChecks g a m c)) (sym (refused-so e)))
 
   -- ---- a run
-  after-fit : (now : Moment) (c : Caches) → Fit c → Fit (after g c now)
-  unfolding calling
-  after-fit (watched a m) c h = calling-fit g m c h (access a)
-  after-fit (other call m) c h = calling-fit g m c h call
-
   run-unrefused : (l : List Moment) (c : Caches) → Fit c → ((a : Access) (m : Memory) → In (watched a m) l → refusalOf (translateChecks g a m emptyCaches) ≡ 0)
       → (n : ℕ) → In (Refused n) (answersFrom g c l) → ⊥
   unfolding answersFrom
   run-unrefused [] c h t n i = i
   run-unrefused (watched a m ∷ rest) c h t n (inl e) = accepted-answers a m c (h .four) (t a m (inl refl)) n e
   run-unrefused (watched a m ∷ rest) c h t n (inr i) =
-      run-unrefused rest (after g c (watched a m)) (after-fit (watched a m) c h) (λ b k j. t b k (inr j)) n i
+      run-unrefused rest (after g c (watched a m)) (after-fit g (watched a m) c h) (λ b k j. t b k (inr j)) n i
   run-unrefused (other call m ∷ rest) c h t n i =
-      run-unrefused rest (after g c (other call m)) (after-fit (other call m) c h) (λ b k j. t b k (inr j)) n i
+      run-unrefused rest (after g c (other call m)) (after-fit g (other call m) c h) (λ b k j. t b k (inr j)) n i
 
   run-accepted : (l : List Moment) (c : Caches) → Fit c → ((n : ℕ) → In (Refused n) (answersFrom g c l) → ⊥) → (a : Access) (m : Memory) → In (watched a m) l
       → refusalOf (translateChecks g a m emptyCaches) ≡ 0
@@ -74,9 +67,9 @@ module _ (g : Registers) where
       let over : m ≡ k = cc in
       rw (same, over) (answers-accepted b k c (h .four) (λ n f. u n (inl f)))
   run-accepted (watched b k ∷ rest) c h u a m (inr i) =
-      run-accepted rest (after g c (watched b k)) (after-fit (watched b k) c h) (λ n f. u n (inr f)) a m i
+      run-accepted rest (after g c (watched b k)) (after-fit g (watched b k) c h) (λ n f. u n (inr f)) a m i
   run-accepted (other call k ∷ rest) c h u a m (inl e) = let z : _≡_ {A = ℕ} 0 1 = cc in absurd (omega arith)
-  run-accepted (other call k ∷ rest) c h u a m (inr i) = run-accepted rest (after g c (other call k)) (after-fit (other call k) c h) u a m i
+  run-accepted (other call k ∷ rest) c h u a m (inr i) = run-accepted rest (after g c (other call k)) (after-fit g (other call k) c h) u a m i
 
   pub accepted-unrefused : (l : List Moment) → Accepted g l → Unrefused g l
   accepted-unrefused l t = record { none = run-unrefused l emptyCaches empty-fit (t .none) }

@@ -1,9 +1,9 @@
 -- A snapshot whose audit says Clean: every access gets the cacheless walk's answer, the probe's address is that answer, and so it stays over every run
 -- from there, as from the empty caches. Assumes nothing but what the statements say.
-use Prim.Native.Nat.{ℕ, _+_, _-_, _/_, _^_, zero-le}
-use mathlib.Core.Path.{_≡_, refl, ap, sym, _∙_}
+use Prim.Native.Nat.{ℕ, _/_, _^_, zero-le}
+use mathlib.Core.Path.{_≡_, refl, ap, sym, subst, _∙_}
 use mathlib.Core.Logic.{_⊎_, inl, inr, ⊎-elim}
-use mathlib.Core.List.{List, _++_}
+use mathlib.Core.List.{List, [], _∷_, _++_}
 use mathlib.Core.Bool.{Bool, true, false, not, _&&_, _||_, false≢true, true≢false}
 use native.Mathlib.Omega.{arith}
 use native.Mathlib.Nat.{mul-mod-left}
@@ -37,12 +37,16 @@ use Rattle.definition.specs.declared.Registers.{Registers}
 use Rattle.definition.specs.declared.Shift.{Shift}
 use Rattle.definition.specs.declared.Shift.the-variants.{Bits, NoPage}
 use Rattle.definition.proofs.Choice.{if-by, and-left, and-right, or-left, or-right}
-use Rattle.definition.proofs.Lists.{all-index}
+use Rattle.definition.proofs.Lists.{All, all-index}
+use Rattle.definition.proofs.Entries.{Anything}
 use Rattle.definition.proofs.Refusals.{none-four}
 use Rattle.definition.proofs.Agree.{Throughout}
 use Rattle.definition.proofs.Hits030.{Hits030, Good030}
 use Rattle.definition.proofs.Hits040.{Hits040, Good040}
-use Rattle.definition.proofs.Independence.{Right, translate-answer, Of, still-of, of-all, Sound, right-sound, after-run, run-answers, steady-left, steady-right, walks-alike}
+use Rattle.definition.proofs.Turns.{source, ReadsAlike}
+use Rattle.definition.proofs.OneAccess.{Right, translate-answer, Sound, right-sound}
+use Rattle.definition.proofs.Epochs.{Held}
+use Rattle.definition.proofs.Independence.{From, Of, still-of, of-all, after-run, Run, run-answers, steady-left, steady-right, runs-alike}
 use Rattle.definition.proofs.Said.{says-by, stale-at-030, stale-at-040}
 
 -- ---- an entry that is not stale is good
@@ -247,17 +251,27 @@ clean-however g g′ m c same e = clean-is-right g′ m c (clean-for g g′ m c 
 
 -- ---- a run
 -- the memory of the snapshot, or of one of the moments
-abbrev From : Memory → List Moment → Memory → Type 0
-From m l m′ = (m′ ≡ m) ⊎ Of l m′
+abbrev FromEither : Memory → List Moment → Memory → Type 0
+FromEither m l m′ = (m′ ≡ m) ⊎ Of l m′
 
 still-from : (m : Memory) (l : List Moment) (n : Memory) (asked : List ℕ) → ((at : ℕ) → In at asked → fetchOf m at ≡ fetchOf n at)
-    → ((now : Moment) (at : ℕ) → In now l → In at asked → fetchOf (memoryAt now) at ≡ fetchOf n at) → Throughout (From m l) n asked
+    → ((now : Moment) (at : ℕ) → In now l → In at asked → fetchOf (memoryAt now) at ≡ fetchOf n at) → Throughout (FromEither m l) n asked
 still-from m l n asked first same m′ o at i =
     ⊎-elim (λ (is : m′ ≡ m). rw is (sym (first at i))) (λ (o : Of l m′). still-of l n asked same m′ o at i) o
 
 module _ (g : Registers) (m : Memory) (c : Caches) (h : CleanSnapshot g m c) where
-  clean-sound : (l : List Moment) → Sound g (From m l) c
-  clean-sound l = right-sound g (From m l) c (h .size) (clean-right g m (From m l) (inl refl) c (h .clean))
+  -- where the audit says Clean, all that the caches hold is as if it came of one access over the snapshot's memory
+  clean-held : Held (source g m ∷ []) c
+  clean-held =
+      record {
+        fit = record { size = h .size; four = clean-right g m (Is m) refl c (h .clean) .four; held = all-index (Anything (c .c030 .shift)) (c .c030 .entries) noEntry (λ i. tt) };
+        sound = λ w s.
+            subst (λ (r : Registers). Sound r (ReadsAlike w) c) (s .0 .registers)
+            (right-sound g (ReadsAlike w) c (h .size) (clean-right g m (ReadsAlike w) (s .0 .reads) c (h .clean)));
+      }
+
+  from-snapshot : (l : List Moment) → All (From g (FromEither m l)) (source g m ∷ [])
+  from-snapshot l = (record { registers = refl; memory = inl refl }, tt)
 
   -- after any moments whatever from a clean snapshot an access gets the cacheless walk's answer, if its longs read as they do now in the snapshot and at
   -- each of the moments
@@ -265,19 +279,26 @@ module _ (g : Registers) (m : Memory) (c : Caches) (h : CleanSnapshot g m c) whe
       → ((now : Moment) (at : ℕ) → In now before → In at (cacheless g a n .asked) → fetchOf (memoryAt now) at ≡ fetchOf n at)
       → translate g a n (afterAll g c before) .answer ≡ cacheless g a n .answer
   clean-after before a n first same =
-      after-run g (From m before) before (λ now i. inr (of-all before now i)) c (clean-sound before) a n
+      after-run g (FromEither m before) before (λ now i. inr (of-all before now i)) (source g m ∷ []) c clean-held (from-snapshot before) a n
       (still-from m before n (cacheless g a n .asked) first same)
+
+  snapshot-run : (l : List Moment) → Since g m l → Steady g l → Run g (FromEither m l) l (source g m ∷ []) c
+  snapshot-run l since s =
+      record {
+        held = clean-held;
+        from = from-snapshot l;
+        over = λ now i. inr (of-all l now i);
+        still = λ a n i. still-from m l n (cacheless g a n .asked) (λ at k. since .same a n at i k) (λ now at j k. s .same a n now at i j k);
+      }
 
   -- one run from a clean snapshot: each watched access gets the cacheless walk's address, fault or refusal
   pub clean-run : (l : List Moment) → Since g m l → Steady g l → answersFrom g c l ≡ walksOf g l
-  clean-run l since s =
-      run-answers g (From m l) l (λ now i. inr (of-all l now i))
-      (λ a n i. still-from m l n (cacheless g a n .asked) (λ at k. since .same a n at i k) (λ now at j k. s .same a n now at i j k)) c (clean-sound l)
+  clean-run l since s = run-answers g (FromEither m l) l (source g m ∷ []) c (snapshot-run l since s)
 
 -- the demand, of two runs from clean snapshots, the same or two, in place of the empty caches
 pub clean-independence : (g : Registers) (m m′ : Memory) (c c′ : Caches) → CleanSnapshot g m c → CleanSnapshot g m′ c′ → (l l′ : List Moment)
     → watchedOf l ≡ watchedOf l′ → Since g m l → Since g m′ l′ → Steady g (l ++ l′) → Accepted g (l ++ l′)
     → (answersFrom g c l ≡ answersFrom g c′ l′) × (answersFrom g c l ≡ walksOf g l)
 clean-independence g m m′ c c′ h h′ l l′ e since since′ s t =
-    let one = clean-run g m c h l since (steady-left g l l′ s) in
-    (one ∙ walks-alike g l l′ e s t ∙ sym (clean-run g m′ c′ h′ l′ since′ (steady-right g l l′ s)), one)
+    runs-alike g (FromEither m l) (FromEither m′ l′) l l′ (source g m ∷ []) (source g m′ ∷ []) c c′
+    (snapshot-run g m c h l since (steady-left g l l′ s)) (snapshot-run g m′ c′ h′ l′ since′ (steady-right g l l′ s)) e s t

@@ -1,9 +1,7 @@
 -- No call changes either cache but by the changes of Entries030 and Entries040, with walks under its registers and over its memory: so what those keep
--- the calls keep, and any moment of a replay, and any replay. Assumes nothing.
+-- the calls keep, and any moment of a replay. Assumes nothing.
 use Prim.Native.Nat.{ℕ, _/_, _^_}
 use mathlib.Core.Path.{_≡_, refl}
-use mathlib.Core.List.{List, [], _∷_}
-use mathlib.Core.Logic.{inl, inr}
 use mathlib.Core.Bool.{Bool, true, false, not, _&&_, _||_}
 use lib.Dec.{eqb}
 use Rattle.definition.specs.Words.{agrees}
@@ -19,7 +17,7 @@ use Rattle.definition.specs.Translate.{Caches, emptyCaches, Translated, 
 use Rattle.definition.specs.Load.{Loaded, stopped, loadInOrder, loadChecks, load}
 use Rattle.definition.specs.Flush.{Flushed, flushChecks, flushUnless, flushAll, flushCode, flushPage, flushFrame}
 use Rattle.definition.specs.Calls.{Call, access, loading, testing, probing, flushingAll, flushingCode, flushingPage, flushingFrame, calling}
-use Rattle.definition.proofs.Replay.{Moment, watched, other, memoryAt, after, afterAll, In}
+use Rattle.definition.proofs.Replay.{Moment, watched, other, memoryAt, after}
 use Rattle.definition.specs.declared.Registers.{Registers}
 use Rattle.definition.specs.declared.Access.{Access}
 use Rattle.definition.specs.declared.End040.{End040}
@@ -140,16 +138,11 @@ module _ (I : Cache030 → Type 0) (J : Cache040 → Type 0) (g : Registers) (m 
   calling-keeps c h (flushingPage code mask address) = flush-page-keeps code mask address c h
   calling-keeps c h (flushingFrame frame) = flush-frame-keeps frame c h
 
--- ---- any moment, and any replay
+-- ---- any moment
 module _ (I : Cache030 → Type 0) (J : Cache040 → Type 0) (g : Registers) where
   pub after-keeps : (now : Moment) → Keeps I J g (memoryAt now) → (c : Caches) → Both I J c → Both I J (after g c now)
   after-keeps (watched a m) k c h = translate-keeps I J g m k a c h
   after-keeps (other call m) k c h = calling-keeps I J g m k c h call
-
-  pub run-keeps : (l : List Moment) → ((now : Moment) → In now l → Keeps I J g (memoryAt now)) → (c : Caches) → Both I J c → Both I J (afterAll g c l)
-  unfolding afterAll
-  run-keeps [] k c h = h
-  run-keeps (now ∷ rest) k c h = run-keeps rest (λ n i. k n (inr i)) (after g c now) (after-keeps now (k now (inl refl)) c h)
 
 -- ---- check 4
 -- of an entry nothing is said
@@ -173,3 +166,8 @@ calling-fit g m c h call =
       in030 = sound-keeps Anything anything g m (λ s n code page base wp w. tt);
       in040 = free-040 g m;
     }) c (record { in030 = h; in040 = tt }) call .in030
+
+pub after-fit : (g : Registers) (now : Moment) (c : Caches) → Fit c → Fit (after g c now)
+unfolding calling
+after-fit g (watched a m) c h = calling-fit g m c h (access a)
+after-fit g (other call m) c h = calling-fit g m c h call

@@ -23,7 +23,7 @@ use Rattle.definition.specs.declared.Registers.{Registers}
 use Rattle.definition.specs.declared.Shift.{Shift}
 use Rattle.definition.specs.declared.Shift.the-variants.{Bits, NoPage}
 use Rattle.definition.proofs.Choice.{if-by, if-both, and-right, or-left, or-right}
-use Rattle.definition.proofs.Lists.{All, all-set, all-get, all-replicate, all-index, all-map, first-within, all-pass, Least, least-of}
+use Rattle.definition.proofs.Lists.{All, all-set, all-get, all-by, all-replicate, all-made, all-map, first-within, all-pass, Least, least-of}
 use Rattle.definition.proofs.Page030.{shift-cut}
 
 -- ---- what a call does to the cache
@@ -161,20 +161,23 @@ shift-low c f = ltb-false 31 (c .shift) (or-right (ltb 21 (c .recent)) _ f)
 pub passes-by : (recent shift : ℕ) → recent ≤ 21 → shift ≤ 31 → (ltb 21 recent || ltb 31 shift) ≡ false
 passes-by recent shift l h = rw (le-ltb 21 recent l, le-ltb 31 shift h)
 
-module _ (B : ℕ → Entry → Type 0) (o : OfEntries B) where
-  pub empty-sound : Sound030 B empty030
-  empty-sound = record { size = refl; four = refl; held = all-replicate (B 0) 22 noEntry (o .invalid 0 noEntry refl) }
+-- a flush of all leaves no valid entry
+pub flushed-all-invalid : (c : Cache030) → All (λ (e : Entry). e .valid ≡ false) (flushedAll c .entries)
+unfolding flushedAll
+flushed-all-invalid c = all-made (λ (e : Entry). e .valid ≡ false) dropped (λ e. refl) (c .entries)
 
-  -- a flush of all leaves no valid entry, so it holds whatever the entries were
-  pub flushed-all-sound : (c : Cache030) → length (c .entries) ≡ 22 → badCache c ≡ false → Sound030 B (flushedAll c)
-  unfolding flushedAll
-  flushed-all-sound c size four =
+module _ (B : ℕ → Entry → Type 0) (o : OfEntries B) where
+  -- where no entry is valid, it holds of each
+  pub invalid-sound : (c : Cache030) → length (c .entries) ≡ 22 → badCache c ≡ false → All (λ (e : Entry). e .valid ≡ false) (c .entries) → Sound030 B c
+  invalid-sound c size four none =
       record {
-        size = length-map (c .entries) dropped ∙ size;
+        size = size;
         four = four;
-        held = all-map (λ e. Unit {0}) (B (c .shift)) dropped (λ e k. o .invalid (c .shift) (dropped e) refl) (c .entries)
-            (all-index (λ e. Unit {0}) (c .entries) noEntry (λ i. tt));
+        held = all-by (λ (e : Entry). e .valid ≡ false) (B (c .shift)) (λ e f. o .invalid (c .shift) e f) (c .entries) none;
       }
+
+  pub empty-sound : Sound030 B empty030
+  empty-sound = invalid-sound empty030 refl refl (all-replicate (λ (e : Entry). e .valid ≡ false) 22 noEntry refl)
 
   -- each entry changed in its place
   mapped-sound : (c : Cache030) (f : Entry → Entry) (clock s : ℕ) → s ≤ 31 → ((e : Entry) → B (c .shift) e → B s (f e)) → Sound030 B c

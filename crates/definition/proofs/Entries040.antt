@@ -2,7 +2,7 @@
 -- slot is kept of all. Assumes nothing.
 use Prim.Native.Nat.{ℕ, zero, suc, _/_, _%_, _^_}
 use mathlib.Core.Path.{_≡_, refl}
-use mathlib.Core.List.{List, [], _∷_, map}
+use mathlib.Core.List.{List, [], _∷_}
 use mathlib.Core.Bool.{Bool, true, false, not, _&&_}
 use lib.Dec.{eqb}
 use lib.ListN.{getD, set, replicate}
@@ -12,7 +12,7 @@ use Rattle.definition.specs.Cache040.{Slot, Cache040, noSlot, empty040, 
 use Rattle.definition.specs.declared.End040.the-variants.{Resident}
 use Rattle.definition.specs.declared.Registers.{Registers}
 use Rattle.definition.proofs.Choice.{if-both}
-use Rattle.definition.proofs.Lists.{All, all-get, all-replicate, all-map, all-index}
+use Rattle.definition.proofs.Lists.{All, all-get, all-replicate, all-made}
 
 -- ---- what a call does to the cache
 -- a walk of this frame and privilege under g and over m found the page with this base, W and S
@@ -61,20 +61,18 @@ set-each B (y ∷ l) zero x b h (suc i) = h (suc i)
 set-each B (y ∷ l) (suc v) x b h zero = h 0
 set-each B (y ∷ l) (suc v) x b h (suc i) = set-each (λ (i : ℕ). B (suc i)) l v x b (λ i. h (suc i)) i
 
+-- a flush of all leaves no valid slot
+pub flushed-all-invalid : (c : Cache040) → All (λ (s : Slot). s .valid ≡ false) (flushedAll040 c .slots)
+unfolding flushedAll040
+flushed-all-invalid c = all-made (λ (s : Slot). s .valid ≡ false) emptied (λ s. refl) (c .slots)
+
 module _ (B : ℕ → Slot → Type 0) (o : OfSlots B) where
   -- none is valid
-  each-invalid : (l : List Slot) → All (λ (s : Slot). s .valid ≡ false) l → Each B l
+  pub each-invalid : (l : List Slot) → All (λ (s : Slot). s .valid ≡ false) l → Each B l
   each-invalid l h i = o .invalid i (getD l i noSlot) (all-get (λ (s : Slot). s .valid ≡ false) l i noSlot refl h)
 
   pub empty-sound : Sound040 B empty040
   empty-sound = each-invalid (replicate 64 noSlot) (all-replicate (λ (s : Slot). s .valid ≡ false) 64 noSlot refl)
-
-  -- a flush of all leaves no valid slot
-  pub flushed-all-sound : (c : Cache040) → Sound040 B (flushedAll040 c)
-  unfolding flushedAll040
-  flushed-all-sound c =
-      each-invalid (map emptied (c .slots))
-      (all-map (λ s. Unit {0}) (λ (s : Slot). s .valid ≡ false) emptied (λ s k. refl) (c .slots) (all-index (λ s. Unit {0}) (c .slots) noSlot (λ i. tt)))
 
   drop-frame-sound : (c : Cache040) (frame : ℕ) → Sound040 B c → Sound040 B (flushedFrame c frame)
   unfolding flushedFrame
@@ -87,7 +85,7 @@ module _ (B : ℕ → Slot → Type 0) (o : OfSlots B) where
   unfolding inserted040
   sound-keeps g m new =
       record {
-        dropAll = λ c h. flushed-all-sound c;
+        dropAll = λ c h. each-invalid (flushedAll040 c .slots) (flushed-all-invalid c);
         drop = drop-frame-sound;
         insert = λ c frame supervisor base wp sup w h. set-each B (c .slots) (frame % 64) _ (new frame supervisor base wp sup w) h;
       }

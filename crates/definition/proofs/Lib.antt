@@ -8,6 +8,7 @@ pub mod Lists
 pub mod Replay
 pub mod Marked
 pub mod Agree
+pub mod Turns
 pub mod Asked030
 pub mod Page030
 pub mod Stretches
@@ -21,6 +22,8 @@ pub mod Entries
 pub mod Hits030
 pub mod Hits040
 pub mod Listing
+pub mod OneAccess
+pub mod Epochs
 pub mod Independence
 pub mod Narrow
 pub mod Said

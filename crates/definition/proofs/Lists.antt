@@ -10,6 +10,7 @@ use native.Mathlib.Decide.{decLe}
 use lib.ListN.{length, getD, set, replicate, List·getD-eq-default}
 use Rattle.definition.specs.Words.{if_then_else_, allOf, firstOf}
 use Rattle.definition.proofs.Replay.{In}
+use Rattle.definition.proofs.Choice.{and-left, and-right}
 
 -- ---- one of them
 pub in-left : {X : Type 0} (x : X) (l r : List X) → In x l → In x (l ++ r)
@@ -53,6 +54,14 @@ module _ {X : Type 0} (P : X → Type 0) where
   all-index [] d h = tt
   all-index (x ∷ l) d h = (h 0, all-index l d (λ i. h (suc i)))
 
+  pub all-by : (Q : X → Type 0) → ((x : X) → P x → Q x) → (l : List X) → All P l → All Q l
+  all-by Q h [] a = tt
+  all-by Q h (x ∷ l) a = (h x (a .0), all-by Q h l (a .1))
+
+  pub all-both : (l r : List X) → All P l → All P r → All P (l ++ r)
+  all-both [] r a b = b
+  all-both (x ∷ l) r a b = (a .0, all-both l r (a .1) b)
+
   pub all-at : (l : List X) (x : X) → In x l → All P l → P x
   all-at (y ∷ l) x (inl e) a = rw e (a .0)
   all-at (y ∷ l) x (inr i) a = all-at l x i (a .1)
@@ -62,16 +71,29 @@ pub all-map : {X Y : Type 0} (P : X → Type 0) (Q : Y → Type 0) (f : X → Y)
 all-map P Q f h [] a = tt
 all-map P Q f h (x ∷ l) a = (h x (a .0), all-map P Q f h l (a .1))
 
--- two lists with the same keys in order, where equal keys give equal values, give the same values
-pub map-alike : {X Y Z : Type 0} (key : X → Y) (f : X → Z) (l l′ : List X) → map key l ≡ map key l′
-    → ((x x′ : X) → In x l → In x′ l′ → key x ≡ key x′ → f x ≡ f x′) → map f l ≡ map f l′
-map-alike key f [] [] e h = refl
-map-alike key f [] (x′ ∷ l′) e h = let z : _≡_ {A = ℕ} 0 1 = cc in absurd (omega arith)
-map-alike key f (x ∷ l) [] e h = let z : _≡_ {A = ℕ} 0 1 = cc in absurd (omega arith)
-map-alike key f (x ∷ l) (x′ ∷ l′) e h =
-    let one : key x ≡ key x′ = cc in
-    let more : map key l ≡ map key l′ = cc in
-    rw (h x x′ (inl refl) (inl refl) one, map-alike key f l l′ more (λ y y′ i i′. h y y′ (inr i) (inr i′)))
+-- each of them, made anew, is so whatever it was
+pub all-made : {X Y : Type 0} (Q : Y → Type 0) (f : X → Y) → ((x : X) → Q (f x)) → (l : List X) → All Q (map f l)
+all-made Q f h [] = tt
+all-made Q f h (x ∷ l) = (h x, all-made Q f h l)
+
+-- ---- two lists, one beside the other
+-- as many of the one as of the other, and R holds of the first of each, the second of each, and so on
+abbrev pub Paired : {X Y : Type 0} → (X → Y → Type 0) → List X → List Y → Type 0
+Paired R [] [] = Unit {0}
+Paired R [] (y ∷ l′) = ⊥
+Paired R (x ∷ l) [] = ⊥
+Paired R (x ∷ l) (y ∷ l′) = R x y × Paired R l l′
+
+-- two lists with the same keys in order, where R holds of any two with equal keys
+pub paired-by : {X Y K : Type 0} (R : X → Y → Type 0) (key : X → K) (key′ : Y → K) (l : List X) (l′ : List Y) → map key l ≡ map key′ l′
+    → ((x : X) (y : Y) → In x l → In y l′ → key x ≡ key′ y → R x y) → Paired R l l′
+paired-by R key key′ [] [] e h = tt
+paired-by R key key′ [] (y ∷ l′) e h = let z : _≡_ {A = ℕ} 0 1 = cc in absurd (omega arith)
+paired-by R key key′ (x ∷ l) [] e h = let z : _≡_ {A = ℕ} 0 1 = cc in absurd (omega arith)
+paired-by R key key′ (x ∷ l) (y ∷ l′) e h =
+    let one : key x ≡ key′ y = cc in
+    let more : map key l ≡ map key′ l′ = cc in
+    (h x y (inl refl) (inl refl) one, paired-by R key key′ l l′ more (λ z z′ i i′. h z z′ (inr i) (inr i′)))
 
 -- ---- the first that passes
 module _ {X : Type 0} (p : X → Bool) where
@@ -112,6 +134,11 @@ module _ {X : Type 0} (p : X → Bool) where
       choose : Dec (length l ≤ j) → p (getD l j d) ≡ false
       choose (yes k) = rw (List·getD-eq-default l d k) none
       choose (no k) = first-least l d j (omega arith)
+
+  pub all-passed : (l : List X) → allOf p l ≡ true → All (λ (x : X). p x ≡ true) l
+  unfolding allOf
+  all-passed [] e = tt
+  all-passed (x ∷ l) e = (and-left (p x) (allOf p l) e, all-passed l (and-right (p x) (allOf p l) e))
 
   pub all-pass : (l : List X) → ((x : X) → In x l → p x ≡ true) → allOf p l ≡ true
   unfolding allOf

@@ -5,6 +5,8 @@ use Prim.Native.Nat.{ℕ}
 use mathlib.Core.Path.{_≡_, refl}
 use mathlib.Core.List.{List, [], _∷_, _++_, map}
 use mathlib.Core.Bool.{true, false, false≢true}
+use mathlib.Core.Logic.{inl, inr}
+use native.Mathlib.Omega.{arith}
 use lib.ListN.{set, replicate}
 use Rattle.definition.specs.Words.{anyOf, firstOf}
 use Rattle.definition.specs.Memory.{Memory, memory, fetchOf, touchesOf}
@@ -19,29 +21,45 @@ use Rattle.definition.specs.Load.{loadInOrder, load}
 use Rattle.definition.specs.Flush.{flushFrame}
 use Rattle.definition.specs.Calls.{access, loading, testing, flushingFrame, A, F, L, K, translationLine, calling}
 use Rattle.definition.specs.Trace.{Loads, Calls, Stores, Adds, recordOf, memoryOf, stepOf, firstState, frontOf, recordsAfter, recordsOf, linesFrom}
-use Rattle.definition.proofs.Replay.{Moment, watched, other, memoryAt, afterAll, answersFrom, answers, watchedOf, walksOf, Steady, Accepted, Since}
+use Rattle.definition.proofs.Replay.{Moment, watched, other, memoryAt, afterAll, answersFrom, answers, watchedOf, walksOf, In, Steady, Accepted, Since}
 use Rattle.definition.proofs.Marked.{keptAfter, warmed, Marked, watching, plainly, recordIn, momentsOf, Under, watchedLines, prints}
 use Rattle.definition.specs.declared.Registers.{Registers}
 use Rattle.definition.specs.declared.Access.{Access}
 use Rattle.definition.specs.declared.Override.{Override}
 use Rattle.definition.specs.declared.Translation.the-variants.{Address}
 use Rattle.definition.proofs.Lists.{All, all-at}
-use Rattle.definition.proofs.Independence.{Pair, pairsOf, in-pairs, independence}
+use Rattle.definition.proofs.Independence.{independence}
 use Rattle.definition.proofs.Records.{traces-independent, warmed-is-cacheless}
 use Rattle.definition.proofs.Files.{linesOf, files-independent}
 use Rattle.definition.proofs.AuditKinds.{mapped, guard-audited}
 use Rattle.definition.proofs.AuditKinds as kinds
 
 -- ---- the premises, as what computes on given lists
+-- the watched accesses, each with its memory
+abbrev Pair : Type 0
+Pair = Access × Memory
+
+unfoldable pairsOf : List Moment → List Pair
+pairsOf [] = []
+pairsOf (watched a m ∷ rest) = (a, m) ∷ pairsOf rest
+pairsOf (other call m ∷ rest) = pairsOf rest
+
+in-pairs : (l : List Moment) (a : Access) (m : Memory) → In (watched a m) l → In (a, m) (pairsOf l)
+unfolding pairsOf
+in-pairs (watched b n ∷ rest) a m (inl e) = let p : _≡_ {A = Pair} (a, m) (b, n) = cc in inl p
+in-pairs (watched b n ∷ rest) a m (inr i) = inr (in-pairs rest a m i)
+in-pairs (other call n ∷ rest) a m (inl e) = let z : _≡_ {A = ℕ} 0 1 = cc in absurd (omega arith)
+in-pairs (other call n ∷ rest) a m (inr i) = in-pairs rest a m i
+
 -- each of these longs reads at a moment as in m
-abbrev pub Alike : List ℕ → Memory → Moment → Type 0
+abbrev Alike : List ℕ → Memory → Moment → Type 0
 Alike asked m now = All (λ (at : ℕ). fetchOf (memoryAt now) at ≡ fetchOf m at) asked
 
 -- the longs of a watched access's cacheless walk read so at each of the moments
-abbrev pub Stays : Registers → List Moment → Pair → Type 0
+abbrev Stays : Registers → List Moment → Pair → Type 0
 Stays g l p = All (Alike (cacheless g (p .0) (p .1) .asked) (p .1)) l
 
-pub steady-by : (g : Registers) (l : List Moment) → All (Stays g l) (pairsOf l) → Steady g l
+steady-by : (g : Registers) (l : List Moment) → All (Stays g l) (pairsOf l) → Steady g l
 steady-by g l h =
     record {
       same = λ a m now at i j k.
@@ -50,17 +68,17 @@ steady-by g l h =
     }
 
 -- they read in a snapshot as at the access's own moment
-abbrev pub Reads : Registers → Memory → Pair → Type 0
+abbrev Reads : Registers → Memory → Pair → Type 0
 Reads g m p = All (λ (at : ℕ). fetchOf m at ≡ fetchOf (p .1) at) (cacheless g (p .0) (p .1) .asked)
 
-pub since-by : (g : Registers) (m : Memory) (l : List Moment) → All (Reads g m) (pairsOf l) → Since g m l
+since-by : (g : Registers) (m : Memory) (l : List Moment) → All (Reads g m) (pairsOf l) → Since g m l
 since-by g m l h =
     record {
       same = λ a n at i k.
           all-at (λ (at : ℕ). fetchOf m at ≡ fetchOf n at) (cacheless g a n .asked) at k (all-at (Reads g m) (pairsOf l) (a, n) (in-pairs l a n i) h);
     }
 
-pub accepted-by : (g : Registers) (l : List Moment) → All (λ (p : Pair). refusalOf (translateChecks g (p .0) (p .1) emptyCaches) ≡ 0) (pairsOf l)
+accepted-by : (g : Registers) (l : List Moment) → All (λ (p : Pair). refusalOf (translateChecks g (p .0) (p .1) emptyCaches) ≡ 0) (pairsOf l)
     → Accepted g l
 accepted-by g l h =
     record {
