@@ -134,12 +134,12 @@ module _ {M : Type 1} (𝓤 : URA M) (H : Heap 𝓤) (A : Atoms 𝓤) (W : Given
   said-0 a0 a1 r = exE 𝓤 _ (λ ws. snd∗ 𝓤 (sem 𝓤 H A (lasts c0.ended (κ1, tt) (a0, (a1, tt)) ws)) (fact 𝓤 (r ≡ badBase (memory (now a0) a1 []))))
 
   -- the call of `before.plan_load`: what it is passed, and what it asks
-  abbrev to-1 : (κ3 : Lft) (q3 : Share) (a0 : RefT (List ℕ)) (v0 : Val) (a1 : Bool) (v1 : Val) (a2 : Bool) (v2 : Val) (a3 : Registers) (v3 : Val) (a4 : ℕ) (v4 : Val) (a5 : ℕ) (v5 : Val) → C1 𝓤 H A mem run .Ghost
-  to-1 κ3 q3 a0 v0 a1 v1 a2 v2 a3 v3 a4 v4 a5 v5 = (((κ3, tt), (q3, tt), tt, (a0, (a1, (a2, (a3, (a4, (a5, tt)))))), (v0 ∷ [], (v1 ∷ [], (v2 ∷ [], (v3 ∷ [], (v4 ∷ [], (v5 ∷ [], tt))))))), tt)
+  abbrev to-1 : (κ3 : Lft) (q3 : Share) (a0 : RefT (List ℕ)) (v0 : Val) (a1 : Bool) (v1 : Val) (a2 : Bool) (v2 : Val) (a3 : Registers) (v3 : Val) (a4 : ℕ) (v4 : Val) (a5 : Bool) (v5 : Val) (a6 : ℕ) (v6 : Val) → C1 𝓤 H A mem run .Ghost
+  to-1 κ3 q3 a0 v0 a1 v1 a2 v2 a3 v3 a4 v4 a5 v5 a6 v6 = (((κ3, tt), (q3, tt), tt, (a0, (a1, (a2, (a3, (a4, (a5, (a6, tt))))))), (v0 ∷ [], (v1 ∷ [], (v2 ∷ [], (v3 ∷ [], (v4 ∷ [], (v5 ∷ [], (v6 ∷ [], tt)))))))), tt)
 
-  goes-1 : (κ3 : Lft) (q3 : Share) (a0 : RefT (List ℕ)) (v0 : Val) (a1 : Bool) (v1 : Val) (a2 : Bool) (v2 : Val) (a3 : Registers) (v3 : Val) (a4 : ℕ) (v4 : Val) (a5 : ℕ) (v5 : Val) (i1 : Is Boolean a1 (v1 ∷ [])) (i2 : Is Boolean a2 (v2 ∷ [])) (i3 : Is row-Registers.the-row a3 (v3 ∷ [])) (i4 : Is u32 a4 (v4 ∷ [])) (i5 : Is u32 a5 (v5 ∷ [])) → ent 𝓤 (⋆ 𝓤 H A (‵ (flft κ3 q3) ∷ ‵ ((MutRef (named 0) κ3 (Array u64 69)) .own a0 (v0 ∷ [])) ∷ [])) (C1 𝓤 H A mem run .pre (to-1 κ3 q3 a0 v0 a1 v1 a2 v2 a3 v3 a4 v4 a5 v5))
-  goes-1 κ3 q3 a0 v0 a1 v1 a2 v2 a3 v3 a4 v4 a5 v5 i1 i2 i3 i4 i5 =
-      qed W (‵ (flft κ3 q3) ∷ ‵ ((MutRef (named 0) κ3 (Array u64 69)) .own a0 (v0 ∷ [])) ∷ []) ∵ nothing ! $ owned ! u32 (Is u32) (uint-makes 𝓤 H A W w32) a5 _ i5 $ fjoin ! $ owned ! u32 (Is u32) (uint-makes 𝓤 H A W w32) a4 _ i4 $ fjoin ! $ owned ! row-Registers.the-row (Is row-Registers.the-row) (LL.makes row-Registers.the-type law-Registers.the-plain 𝓤 H A) a3 _ i3 $ fjoin ! $ owned ! Boolean (Is Boolean) (bool-makes 𝓤 H A W) a2 _ i2 $ fjoin ! $ owned ! Boolean (Is Boolean) (bool-makes 𝓤 H A W) a1 _ i1 $ fjoin ! $ move ! (2 ∷ 0 ∷ []) $ fjoin ! $ nothing ! $ move ! (2 ∷ 0 ∷ []) $ join ! $ join ! $ frame ! $ done !
+  goes-1 : (κ3 : Lft) (q3 : Share) (a0 : RefT (List ℕ)) (v0 : Val) (a1 : Bool) (v1 : Val) (a2 : Bool) (v2 : Val) (a3 : Registers) (v3 : Val) (a4 : ℕ) (v4 : Val) (a5 : Bool) (v5 : Val) (a6 : ℕ) (v6 : Val) (i1 : Is Boolean a1 (v1 ∷ [])) (i2 : Is Boolean a2 (v2 ∷ [])) (i3 : Is row-Registers.the-row a3 (v3 ∷ [])) (i4 : Is u32 a4 (v4 ∷ [])) (i5 : Is Boolean a5 (v5 ∷ [])) (i6 : Is u32 a6 (v6 ∷ [])) → ent 𝓤 (⋆ 𝓤 H A (‵ (flft κ3 q3) ∷ ‵ ((MutRef (named 0) κ3 (Array u64 69)) .own a0 (v0 ∷ [])) ∷ [])) (C1 𝓤 H A mem run .pre (to-1 κ3 q3 a0 v0 a1 v1 a2 v2 a3 v3 a4 v4 a5 v5 a6 v6))
+  goes-1 κ3 q3 a0 v0 a1 v1 a2 v2 a3 v3 a4 v4 a5 v5 a6 v6 i1 i2 i3 i4 i5 i6 =
+      qed W (‵ (flft κ3 q3) ∷ ‵ ((MutRef (named 0) κ3 (Array u64 69)) .own a0 (v0 ∷ [])) ∷ []) ∵ nothing ! $ owned ! u32 (Is u32) (uint-makes 𝓤 H A W w32) a6 _ i6 $ fjoin ! $ owned ! Boolean (Is Boolean) (bool-makes 𝓤 H A W) a5 _ i5 $ fjoin ! $ owned ! u32 (Is u32) (uint-makes 𝓤 H A W w32) a4 _ i4 $ fjoin ! $ owned ! row-Registers.the-row (Is row-Registers.the-row) (LL.makes row-Registers.the-type law-Registers.the-plain 𝓤 H A) a3 _ i3 $ fjoin ! $ owned ! Boolean (Is Boolean) (bool-makes 𝓤 H A W) a2 _ i2 $ fjoin ! $ owned ! Boolean (Is Boolean) (bool-makes 𝓤 H A W) a1 _ i1 $ fjoin ! $ move ! (2 ∷ 0 ∷ []) $ fjoin ! $ nothing ! $ move ! (2 ∷ 0 ∷ []) $ join ! $ join ! $ frame ! $ done !
 
   -- the call of `walked`: what it is passed, what it asks, and what is known of its result
   abbrev to-2 : (a0 : RefT (List ℕ)) (v0 : Val) (a1 : ℕ) (v1 : Val) (a2 : RefT (List Range)) (v2 : Val) (a3 : Registers) (v3 : Val) (a4 : ℕ) (v4 : Val) (a5 : Plan) (v5 : Val) → C2 𝓤 H A mem run .Ghost
@@ -190,11 +190,11 @@ module _ {M : Type 1} (𝓤 : URA M) (H : Heap 𝓤) (A : Atoms 𝓤) (W : Given
         feqI ! (List Val) (vptr (x1 .ptr .0) (x1 .ptr .1) ∷ []) (vptr (x1 .ptr .0) (x1 .ptr .1) ∷ []) refl $ fjoin3 ! $ move ! (0 ∷ 5 ∷ []) $
         use2 W (later (some (λ (δ5 : GName). ‵ ((MutRef (named 0) (α3 ∷ []) (Array u64 69)) .own (record { ptr = (x1 .ptr .0, x1 .ptr .1); name = δ5; now = (x1 .now) }) (vptr (x1 .ptr .0) (x1 .ptr .1) ∷ [])) ⊛ ‵ (LentAgain (Array u64 69) κ0 (α3 ∷ []) q0 (x1 .name) (x1 .ptr .0) (x1 .ptr .1) δ5 (x1 .now))))) (lends-again 𝓤 H A W (Array u64 69) (named 0) κ0 (α3 ∷ []) q0 (x1 .name) (x1 .ptr .0) (x1 .ptr .1) (named 0) (x1 .now)) $ await ! tt $ choose ! (λ δ5. split ! $
         move ! (2 ∷ 0 ∷ []) $ group ! 2 $
-        use1 W (raw (C1 𝓤 H A mem run .pre (to-1 (α3 ∷ []) fullShare (record { ptr = (x1 .ptr .0, x1 .ptr .1); name = δ5; now = (x1 .now) }) (vptr (x1 .ptr .0) (x1 .ptr .1)) r2 (vbool r2) x5 (vbool x5) x6 (LL.val row-Registers.the-type law-Registers.the-laws x6) x7 (vint w32 x7) x9 (vint w32 x9)))) (goes-1 (α3 ∷ []) fullShare (record { ptr = (x1 .ptr .0, x1 .ptr .1); name = δ5; now = (x1 .now) }) (vptr (x1 .ptr .0) (x1 .ptr .1)) r2 (vbool r2) x5 (vbool x5) x6 (LL.val row-Registers.the-type law-Registers.the-laws x6) x7 (vint w32 x7) x9 (vint w32 x9) (subst (Is Boolean r2) (bool-tells r2 _ is4) is4) i5 i6 i7 i9) $
-        calls-at ! fm (C1 𝓤 H A mem run) known-1 (to-1 (α3 ∷ []) fullShare (record { ptr = (x1 .ptr .0, x1 .ptr .1); name = δ5; now = (x1 .now) }) (vptr (x1 .ptr .0) (x1 .ptr .1)) r2 (vbool r2) x5 (vbool x5) x6 (LL.val row-Registers.the-type law-Registers.the-laws x6) x7 (vint w32 x7) x9 (vint w32 x9)) (and-then ! (load ! (from ! (stop !)) (look ! 8 refl)) (and-then ! (load ! (from ! (stop !)) (look ! 14 refl)) (and-then ! (load ! (from ! (stop !)) (look ! 24 refl)) (and-then ! (load ! (from ! (stop !)) (look ! 22 refl)) (and-then ! (load ! (from ! (stop !)) (look ! 20 refl)) (and-then ! (load ! (from ! (stop !)) (look ! 16 refl)) (no-more !))))))) (λ val6.
-        use1 W (later (some (λ (r : Plan). ((‵ (flft (α3 ∷ []) fullShare) ⊛ ‵ ftrue) ⊛ ‵ (row-Plan.the-row .own r (val6 ∷ []))) ⊛ raw (ensured 𝓤 H A c1.ended (c1.clauses 𝓤 H A mem run) ((α3 ∷ []), tt) ((record { ptr = (x1 .ptr .0, x1 .ptr .1); name = δ5; now = (x1 .now) }), (r2, (x5, (x6, (x7, (x9, tt)))))) tt r)))) (id⊢ 𝓤 _) $ await ! tt $ choose ! (λ r7. split ! $ move ! (1 ∷ []) $ use1 W (some (λ (ws : Lasts c1.ended ((α3 ∷ []), tt) ((record { ptr = (x1 .ptr .0, x1 .ptr .1); name = δ5; now = (x1 .now) }), (r2, (x5, (x6, (x7, (x9, tt))))))). ‵ (lasts c1.ended ((α3 ∷ []), tt) ((record { ptr = (x1 .ptr .0, x1 .ptr .1); name = δ5; now = (x1 .now) }), (r2, (x5, (x6, (x7, (x9, tt)))))) ws) ⊛ raw (fact 𝓤 (PlannedIn (planLoad x6 x7 x9 r2 x5 (cacheOf (now (record { ptr = (x1 .ptr .0, x1 .ptr .1); name = δ5; now = (x1 .now) })))) r7 ((ws .0)))))) (id⊢ 𝓤 _) $ choose ! (λ ws10. split ! $ move ! (1 ∷ []) $ heard ! (PlannedIn (planLoad x6 x7 x9 r2 x5 (cacheOf (now (record { ptr = (x1 .ptr .0, x1 .ptr .1); name = δ5; now = (x1 .now) })))) r7 ((ws10 .0))) (λ e8.
-        fsplit ! $ move ! (1 ∷ []) $ fsplit ! $ drop ! $ fsplit ! $ drop ! $ fsplit ! $ drop ! $ fsplit ! $ drop ! $ fsplit ! $ drop ! $ drop ! $ move ! (1 ∷ []) $ split ! $
-        split ! $ move ! (1 ∷ []) $ drop ! $ move ! (1 ∷ []) $
+        use1 W (raw (C1 𝓤 H A mem run .pre (to-1 (α3 ∷ []) fullShare (record { ptr = (x1 .ptr .0, x1 .ptr .1); name = δ5; now = (x1 .now) }) (vptr (x1 .ptr .0) (x1 .ptr .1)) r2 (vbool r2) x5 (vbool x5) x6 (LL.val row-Registers.the-type law-Registers.the-laws x6) x7 (vint w32 x7) x8 (vbool x8) x9 (vint w32 x9)))) (goes-1 (α3 ∷ []) fullShare (record { ptr = (x1 .ptr .0, x1 .ptr .1); name = δ5; now = (x1 .now) }) (vptr (x1 .ptr .0) (x1 .ptr .1)) r2 (vbool r2) x5 (vbool x5) x6 (LL.val row-Registers.the-type law-Registers.the-laws x6) x7 (vint w32 x7) x8 (vbool x8) x9 (vint w32 x9) (subst (Is Boolean r2) (bool-tells r2 _ is4) is4) i5 i6 i7 i8 i9) $
+        calls-at ! fm (C1 𝓤 H A mem run) known-1 (to-1 (α3 ∷ []) fullShare (record { ptr = (x1 .ptr .0, x1 .ptr .1); name = δ5; now = (x1 .now) }) (vptr (x1 .ptr .0) (x1 .ptr .1)) r2 (vbool r2) x5 (vbool x5) x6 (LL.val row-Registers.the-type law-Registers.the-laws x6) x7 (vint w32 x7) x8 (vbool x8) x9 (vint w32 x9)) (and-then ! (load ! (from ! (stop !)) (look ! 8 refl)) (and-then ! (load ! (from ! (stop !)) (look ! 14 refl)) (and-then ! (load ! (from ! (stop !)) (look ! 24 refl)) (and-then ! (load ! (from ! (stop !)) (look ! 22 refl)) (and-then ! (load ! (from ! (stop !)) (look ! 20 refl)) (and-then ! (load ! (from ! (stop !)) (look ! 18 refl)) (and-then ! (load ! (from ! (stop !)) (look ! 16 refl)) (no-more !)))))))) (λ val6.
+        use1 W (later (some (λ (r : Plan). ((‵ (flft (α3 ∷ []) fullShare) ⊛ ‵ ftrue) ⊛ ‵ (row-Plan.the-row .own r (val6 ∷ []))) ⊛ raw (ensured 𝓤 H A c1.ended (c1.clauses 𝓤 H A mem run) ((α3 ∷ []), tt) ((record { ptr = (x1 .ptr .0, x1 .ptr .1); name = δ5; now = (x1 .now) }), (r2, (x5, (x6, (x7, (x8, (x9, tt))))))) tt r)))) (id⊢ 𝓤 _) $ await ! tt $ choose ! (λ r7. split ! $ move ! (1 ∷ []) $ use1 W (some (λ (ws : Lasts c1.ended ((α3 ∷ []), tt) ((record { ptr = (x1 .ptr .0, x1 .ptr .1); name = δ5; now = (x1 .now) }), (r2, (x5, (x6, (x7, (x8, (x9, tt)))))))). ‵ (lasts c1.ended ((α3 ∷ []), tt) ((record { ptr = (x1 .ptr .0, x1 .ptr .1); name = δ5; now = (x1 .now) }), (r2, (x5, (x6, (x7, (x8, (x9, tt))))))) ws) ⊛ raw (fact 𝓤 (PlannedIn (planLoad x6 x7 x8 x9 r2 x5 (cacheOf (now (record { ptr = (x1 .ptr .0, x1 .ptr .1); name = δ5; now = (x1 .now) })))) r7 ((ws .0)))))) (id⊢ 𝓤 _) $ choose ! (λ ws10. split ! $ move ! (1 ∷ []) $ heard ! (PlannedIn (planLoad x6 x7 x8 x9 r2 x5 (cacheOf (now (record { ptr = (x1 .ptr .0, x1 .ptr .1); name = δ5; now = (x1 .now) })))) r7 ((ws10 .0))) (λ e8.
+        fsplit ! $ move ! (1 ∷ []) $ fsplit ! $ drop ! $ fsplit ! $ drop ! $ fsplit ! $ drop ! $ fsplit ! $ drop ! $ fsplit ! $ drop ! $ fsplit ! $ drop ! $ drop ! $
+        move ! (1 ∷ []) $ split ! $ split ! $ move ! (1 ∷ []) $ drop ! $ move ! (1 ∷ []) $
         facts ! row-Plan.the-row (Is row-Plan.the-row) (shows 𝓤 H A row-Plan.the-row) r7 (val6 ∷ []) (λ is9. land ! (from ! (stop !)) (init ! 13 refl (EL.lawful row-Plan.the-type law-Plan.the-laws 𝓤 H A W tt .typed r7 _ is9 .0)) $
         rewrite ! 13 (λ (u : Val). ‵ (fat fullShare law-Plan.mir l11 0 u)) (ap only (EL.tells row-Plan.the-type law-Plan.the-laws r7 _ is9)) refl $ lft-end ! tt $
         move ! (0 ∷ 2 ∷ 1 ∷ []) $

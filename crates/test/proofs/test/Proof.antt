@@ -119,15 +119,15 @@ module _ {M : Type 1} (𝓤 : URA M) (H : Heap 𝓤) (A : Atoms 𝓤) (W : Given
   said-0 a0 a1 r = exE 𝓤 _ (λ ws. snd∗ 𝓤 (sem 𝓤 H A (lasts c0.ended (κ0, tt) (a0, (a1, tt)) ws)) (fact 𝓤 (r ≡ badBase (memory (now a0) a1 []))))
 
   -- the call of `before.plan_test`: what it is passed, what it asks, and what is known of its result
-  abbrev to-1 : (a0 : Bool) (v0 : Val) (a1 : Bool) (v1 : Val) (a2 : Registers) (v2 : Val) (a3 : ℕ) (v3 : Val) (a4 : ℕ) (v4 : Val) (a5 : ℕ) (v5 : Val) → C1 𝓤 H A mem run .Ghost
-  to-1 a0 v0 a1 v1 a2 v2 a3 v3 a4 v4 a5 v5 = ((tt, tt, tt, (a0, (a1, (a2, (a3, (a4, (a5, tt)))))), (v0 ∷ [], (v1 ∷ [], (v2 ∷ [], (v3 ∷ [], (v4 ∷ [], (v5 ∷ [], tt))))))), tt)
+  abbrev to-1 : (a0 : Bool) (v0 : Val) (a1 : Bool) (v1 : Val) (a2 : Registers) (v2 : Val) (a3 : ℕ) (v3 : Val) (a4 : Bool) (v4 : Val) (a5 : ℕ) (v5 : Val) (a6 : ℕ) (v6 : Val) → C1 𝓤 H A mem run .Ghost
+  to-1 a0 v0 a1 v1 a2 v2 a3 v3 a4 v4 a5 v5 a6 v6 = ((tt, tt, tt, (a0, (a1, (a2, (a3, (a4, (a5, (a6, tt))))))), (v0 ∷ [], (v1 ∷ [], (v2 ∷ [], (v3 ∷ [], (v4 ∷ [], (v5 ∷ [], (v6 ∷ [], tt)))))))), tt)
 
-  goes-1 : (a0 : Bool) (v0 : Val) (a1 : Bool) (v1 : Val) (a2 : Registers) (v2 : Val) (a3 : ℕ) (v3 : Val) (a4 : ℕ) (v4 : Val) (a5 : ℕ) (v5 : Val) (i0 : Is Boolean a0 (v0 ∷ [])) (i1 : Is Boolean a1 (v1 ∷ [])) (i2 : Is row-Registers.the-row a2 (v2 ∷ [])) (i3 : Is u32 a3 (v3 ∷ [])) (i4 : Is u32 a4 (v4 ∷ [])) (i5 : Is u32 a5 (v5 ∷ [])) → ent 𝓤 (emp 𝓤) (C1 𝓤 H A mem run .pre (to-1 a0 v0 a1 v1 a2 v2 a3 v3 a4 v4 a5 v5))
-  goes-1 a0 v0 a1 v1 a2 v2 a3 v3 a4 v4 a5 v5 i0 i1 i2 i3 i4 i5 =
-      qed W ([]) ∵ nothing ! $ owned ! u32 (Is u32) (uint-makes 𝓤 H A W w32) a5 _ i5 $ fjoin ! $ owned ! u32 (Is u32) (uint-makes 𝓤 H A W w32) a4 _ i4 $ fjoin ! $ owned ! u32 (Is u32) (uint-makes 𝓤 H A W w32) a3 _ i3 $ fjoin ! $ owned ! row-Registers.the-row (Is row-Registers.the-row) (LL.makes row-Registers.the-type law-Registers.the-plain 𝓤 H A) a2 _ i2 $ fjoin ! $ owned ! Boolean (Is Boolean) (bool-makes 𝓤 H A W) a1 _ i1 $ fjoin ! $ owned ! Boolean (Is Boolean) (bool-makes 𝓤 H A W) a0 _ i0 $ fjoin ! $ nothing ! $ join ! $ frame ! $ done !
+  goes-1 : (a0 : Bool) (v0 : Val) (a1 : Bool) (v1 : Val) (a2 : Registers) (v2 : Val) (a3 : ℕ) (v3 : Val) (a4 : Bool) (v4 : Val) (a5 : ℕ) (v5 : Val) (a6 : ℕ) (v6 : Val) (i0 : Is Boolean a0 (v0 ∷ [])) (i1 : Is Boolean a1 (v1 ∷ [])) (i2 : Is row-Registers.the-row a2 (v2 ∷ [])) (i3 : Is u32 a3 (v3 ∷ [])) (i4 : Is Boolean a4 (v4 ∷ [])) (i5 : Is u32 a5 (v5 ∷ [])) (i6 : Is u32 a6 (v6 ∷ [])) → ent 𝓤 (emp 𝓤) (C1 𝓤 H A mem run .pre (to-1 a0 v0 a1 v1 a2 v2 a3 v3 a4 v4 a5 v5 a6 v6))
+  goes-1 a0 v0 a1 v1 a2 v2 a3 v3 a4 v4 a5 v5 a6 v6 i0 i1 i2 i3 i4 i5 i6 =
+      qed W ([]) ∵ nothing ! $ owned ! u32 (Is u32) (uint-makes 𝓤 H A W w32) a6 _ i6 $ fjoin ! $ owned ! u32 (Is u32) (uint-makes 𝓤 H A W w32) a5 _ i5 $ fjoin ! $ owned ! Boolean (Is Boolean) (bool-makes 𝓤 H A W) a4 _ i4 $ fjoin ! $ owned ! u32 (Is u32) (uint-makes 𝓤 H A W w32) a3 _ i3 $ fjoin ! $ owned ! row-Registers.the-row (Is row-Registers.the-row) (LL.makes row-Registers.the-type law-Registers.the-plain 𝓤 H A) a2 _ i2 $ fjoin ! $ owned ! Boolean (Is Boolean) (bool-makes 𝓤 H A W) a1 _ i1 $ fjoin ! $ owned ! Boolean (Is Boolean) (bool-makes 𝓤 H A W) a0 _ i0 $ fjoin ! $ nothing ! $ join ! $ frame ! $ done !
 
-  said-1 : (a0 : Bool) (a1 : Bool) (a2 : Registers) (a3 : ℕ) (a4 : ℕ) (a5 : ℕ) (r : Plan) → ent 𝓤 (ensured 𝓤 H A c1.ended (c1.clauses 𝓤 H A mem run) tt (a0, (a1, (a2, (a3, (a4, (a5, tt)))))) tt r) (fact 𝓤 (r ≡ planTest a2 a3 a4 a5 a0 a1))
-  said-1 a0 a1 a2 a3 a4 a5 r = exE 𝓤 _ (λ ws. snd∗ 𝓤 (sem 𝓤 H A (lasts c1.ended tt (a0, (a1, (a2, (a3, (a4, (a5, tt)))))) ws)) (fact 𝓤 (r ≡ planTest a2 a3 a4 a5 a0 a1)))
+  said-1 : (a0 : Bool) (a1 : Bool) (a2 : Registers) (a3 : ℕ) (a4 : Bool) (a5 : ℕ) (a6 : ℕ) (r : Plan) → ent 𝓤 (ensured 𝓤 H A c1.ended (c1.clauses 𝓤 H A mem run) tt (a0, (a1, (a2, (a3, (a4, (a5, (a6, tt))))))) tt r) (fact 𝓤 (r ≡ planTest a2 a3 a4 a5 a6 a0 a1))
+  said-1 a0 a1 a2 a3 a4 a5 a6 r = exE 𝓤 _ (λ ws. snd∗ 𝓤 (sem 𝓤 H A (lasts c1.ended tt (a0, (a1, (a2, (a3, (a4, (a5, (a6, tt))))))) ws)) (fact 𝓤 (r ≡ planTest a2 a3 a4 a5 a6 a0 a1)))
 
   -- the call of `walked`: what it is passed, what it asks, and what is known of its result
   abbrev to-2 : (a0 : RefT (List ℕ)) (v0 : Val) (a1 : ℕ) (v1 : Val) (a2 : RefT (List Range)) (v2 : Val) (a3 : Registers) (v3 : Val) (a4 : ℕ) (v4 : Val) (a5 : ℕ) (v5 : Val) (a6 : ℕ) (v6 : Val) (a7 : Plan) (v7 : Val) → C2 𝓤 H A mem run .Ghost
@@ -176,9 +176,9 @@ module _ {M : Type 1} (𝓤 : URA M) (H : Heap 𝓤) (A : Atoms 𝓤) (W : Given
         split ! $ move ! (1 ∷ []) $ drop ! $ move ! (1 ∷ []) $
         facts ! Boolean (Is Boolean) (shows 𝓤 H A Boolean) r2 (val1 ∷ []) (λ is4. land ! (from ! (stop !)) (init ! 8 refl (bool-lawful 𝓤 H A W .typed r2 _ is4 .0)) $
         rewrite ! 8 (λ (u : Val). ‵ (fat fullShare tyBool l10 0 u)) (ap only (bool-tells r2 _ is4)) refl $
-        use0 W (raw (C1 𝓤 H A mem run .pre (to-1 r2 (vbool r2) x4 (vbool x4) x5 (LL.val row-Registers.the-type law-Registers.the-laws x5) x6 (vint w32 x6) x8 (vint w32 x8) x9 (vint w32 x9)))) (goes-1 r2 (vbool r2) x4 (vbool x4) x5 (LL.val row-Registers.the-type law-Registers.the-laws x5) x6 (vint w32 x6) x8 (vint w32 x8) x9 (vint w32 x9) (subst (Is Boolean r2) (bool-tells r2 _ is4) is4) i4 i5 i6 i8 i9) $
-        calls-at ! fm (C1 𝓤 H A mem run) known-1 (to-1 r2 (vbool r2) x4 (vbool x4) x5 (LL.val row-Registers.the-type law-Registers.the-laws x5) x6 (vint w32 x6) x8 (vint w32 x8) x9 (vint w32 x9)) (and-then ! (load ! (from ! (stop !)) (look ! 9 refl)) (and-then ! (load ! (from ! (stop !)) (look ! 21 refl)) (and-then ! (load ! (from ! (stop !)) (look ! 19 refl)) (and-then ! (load ! (from ! (stop !)) (look ! 17 refl)) (and-then ! (load ! (from ! (stop !)) (look ! 13 refl)) (and-then ! (load ! (from ! (stop !)) (look ! 11 refl)) (no-more !))))))) (λ val5.
-        use1 W (later (some (λ (r : Plan). (‵ ftrue ⊛ ‵ (row-Plan.the-row .own r (val5 ∷ []))) ⊛ raw (ensured 𝓤 H A c1.ended (c1.clauses 𝓤 H A mem run) tt (r2, (x4, (x5, (x6, (x8, (x9, tt)))))) tt r)))) (id⊢ 𝓤 _) $ await ! tt $ choose ! (λ r6. split ! $ move ! (1 ∷ []) $ use1 W (raw (fact 𝓤 (r6 ≡ planTest x5 x6 x8 x9 r2 x4))) (said-1 r2 x4 x5 x6 x8 x9 r6) $ heard ! (r6 ≡ planTest x5 x6 x8 x9 r2 x4) (λ e7. split ! $
+        use0 W (raw (C1 𝓤 H A mem run .pre (to-1 r2 (vbool r2) x4 (vbool x4) x5 (LL.val row-Registers.the-type law-Registers.the-laws x5) x6 (vint w32 x6) x7 (vbool x7) x8 (vint w32 x8) x9 (vint w32 x9)))) (goes-1 r2 (vbool r2) x4 (vbool x4) x5 (LL.val row-Registers.the-type law-Registers.the-laws x5) x6 (vint w32 x6) x7 (vbool x7) x8 (vint w32 x8) x9 (vint w32 x9) (subst (Is Boolean r2) (bool-tells r2 _ is4) is4) i4 i5 i6 i7 i8 i9) $
+        calls-at ! fm (C1 𝓤 H A mem run) known-1 (to-1 r2 (vbool r2) x4 (vbool x4) x5 (LL.val row-Registers.the-type law-Registers.the-laws x5) x6 (vint w32 x6) x7 (vbool x7) x8 (vint w32 x8) x9 (vint w32 x9)) (and-then ! (load ! (from ! (stop !)) (look ! 9 refl)) (and-then ! (load ! (from ! (stop !)) (look ! 21 refl)) (and-then ! (load ! (from ! (stop !)) (look ! 19 refl)) (and-then ! (load ! (from ! (stop !)) (look ! 17 refl)) (and-then ! (load ! (from ! (stop !)) (look ! 15 refl)) (and-then ! (load ! (from ! (stop !)) (look ! 13 refl)) (and-then ! (load ! (from ! (stop !)) (look ! 11 refl)) (no-more !)))))))) (λ val5.
+        use1 W (later (some (λ (r : Plan). (‵ ftrue ⊛ ‵ (row-Plan.the-row .own r (val5 ∷ []))) ⊛ raw (ensured 𝓤 H A c1.ended (c1.clauses 𝓤 H A mem run) tt (r2, (x4, (x5, (x6, (x7, (x8, (x9, tt))))))) tt r)))) (id⊢ 𝓤 _) $ await ! tt $ choose ! (λ r6. split ! $ move ! (1 ∷ []) $ use1 W (raw (fact 𝓤 (r6 ≡ planTest x5 x6 x7 x8 x9 r2 x4))) (said-1 r2 x4 x5 x6 x7 x8 x9 r6) $ heard ! (r6 ≡ planTest x5 x6 x7 x8 x9 r2 x4) (λ e7. split ! $
         drop ! $
         facts ! row-Plan.the-row (Is row-Plan.the-row) (shows 𝓤 H A row-Plan.the-row) r6 (val5 ∷ []) (λ is8. land ! (from ! (stop !)) (init ! 6 refl (EL.lawful row-Plan.the-type law-Plan.the-laws 𝓤 H A W tt .typed r6 _ is8 .0)) $
         rewrite ! 6 (λ (u : Val). ‵ (fat fullShare law-Plan.mir l11 0 u)) (ap only (EL.tells row-Plan.the-type law-Plan.the-laws r6 _ is8)) refl $ move ! (1 ∷ []) $
