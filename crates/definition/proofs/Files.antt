@@ -10,13 +10,16 @@ use lib.ListN.{length, take, drop}
 use lib.Seq.{length-take-le}
 use Rattle.definition.specs.Words.{if_then_else_, anyOf}
 use Rattle.definition.specs.Refusal.{refusalOf}
-use Rattle.definition.specs.Translate.{inOrder, translate}
+use Rattle.definition.specs.Translate.{inOrder, translate, emptyCaches}
 use Rattle.definition.specs.Calls.{Line, A, K, R, translationLine, calling}
 use Rattle.definition.specs.Trace.{Record, Malformed, recordOf, State, malformedLine, stepOf, hex, decimalIn, text, firstState, isMalformed, Front, Ended, Body, Short, frontOf, recordsAfter, recordsOf, linesFrom, texts, ending, endingOf, playFrom, opening, play}
 use Rattle.definition.proofs.Replay.{watchedOf, walksOf, Steady, Accepted}
-use Rattle.definition.proofs.Marked.{Marked, recordIn, momentsOf, Under, watchedLines}
+use Rattle.definition.proofs.Marked.{Marked, recordIn, momentsOf, turnsFrom, Under, watchedLines, prints}
 use Rattle.definition.specs.declared.Registers.{Registers}
-use Rattle.definition.proofs.Records.{traces-independent}
+use Rattle.definition.proofs.Lists.{All, Paired}
+use Rattle.definition.proofs.Turns.{watchesOf, Same, Allowed, Kept, ChangesFlushed}
+use Rattle.definition.proofs.Epochs.{walksIn}
+use Rattle.definition.proofs.Records.{traces-epochs, traces-change, traces-independent}
 
 -- ---- the records of the bytes
 -- some bytes are no end
@@ -129,6 +132,14 @@ pub file-prints : (b : List ℕ) → play (1 ∷ b) ≡ opening ++ (texts (lines
 unfolding play playFrom
 file-prints b = refl
 
+-- the lines of the watched accesses of two files whose records are those of the traces l and l′, by what the traces print
+by-traces : (b b′ : List ℕ) (l l′ : List Marked) (walks : List Line) → map recordIn l ≡ recordsOf b → map recordIn l′ ≡ recordsOf b′
+    → (prints firstState l ≡ prints firstState l′) × (prints firstState l ≡ walks)
+    → (watchedLines l (linesOf b) ≡ watchedLines l′ (linesOf b′)) × (watchedLines l (linesOf b) ≡ walks)
+by-traces b b′ l l′ walks e e′ d =
+    let one = ap (λ (r : List Record). watchedLines l (linesFrom firstState r)) e in
+    (sym one ∙ d .0 ∙ ap (λ (r : List Record). watchedLines l′ (linesFrom firstState r)) e′, sym one ∙ d .1)
+
 -- the demand, of two files whose records are those of the traces l and l′: what each watched access prints, the count left out, is the same in
 -- both, and is what its cacheless walk gives
 pub files-independent : (g : Registers) (b b′ : List ℕ) (l l′ : List Marked) → map recordIn l ≡ recordsOf b → map recordIn l′ ≡ recordsOf b′
@@ -136,6 +147,24 @@ pub files-independent : (g : Registers) (b b′ : List ℕ) (l l′ : List Marke
     → Steady g (momentsOf firstState l ++ momentsOf firstState l′) → Accepted g (momentsOf firstState l ++ momentsOf firstState l′)
     → (watchedLines l (linesOf b) ≡ watchedLines l′ (linesOf b′)) × (watchedLines l (linesOf b) ≡ map (translationLine 0) (walksOf g (momentsOf firstState l)))
 files-independent g b b′ l l′ e e′ u u′ w s t =
-    let d = traces-independent g l l′ u u′ w s t in
-    let one = ap (λ (r : List Record). watchedLines l (linesFrom firstState r)) e in
-    (sym one ∙ d .0 ∙ ap (λ (r : List Record). watchedLines l′ (linesFrom firstState r)) e′, sym one ∙ d .1)
+    by-traces b b′ l l′ (map (translationLine 0) (walksOf g (momentsOf firstState l))) e e′ (traces-independent g l l′ u u′ w s t)
+
+-- request 14, of two such files: registers (kind 01) are loaded at any place
+pub files-epochs : (b b′ : List ℕ) (l l′ : List Marked) → map recordIn l ≡ recordsOf b → map recordIn l′ ≡ recordsOf b′
+    → Kept (watchesOf (turnsFrom firstState l)) → Kept (watchesOf (turnsFrom firstState l′))
+    → Paired Same (watchesOf (turnsFrom firstState l)) (watchesOf (turnsFrom firstState l′))
+    → (watchedLines l (linesOf b) ≡ watchedLines l′ (linesOf b′))
+    × (watchedLines l (linesOf b) ≡ map (translationLine 0) (walksIn (watchesOf (turnsFrom firstState l))))
+files-epochs b b′ l l′ e e′ k k′ p =
+    by-traces b b′ l l′ (map (translationLine 0) (walksIn (watchesOf (turnsFrom firstState l)))) e e′ (traces-epochs l l′ k k′ p)
+
+-- and in the request's own words: kind 01, 09 and 0A come at any place, and a flush that empties both caches, as kind 05 always is, after each that changes
+-- the registers or a watched long and before the next access, PLOAD or probe
+pub files-change : (b b′ : List ℕ) (l l′ : List Marked) → map recordIn l ≡ recordsOf b → map recordIn l′ ≡ recordsOf b′
+    → ChangesFlushed emptyCaches (turnsFrom firstState l) → ChangesFlushed emptyCaches (turnsFrom firstState l′)
+    → Paired Same (watchesOf (turnsFrom firstState l)) (watchesOf (turnsFrom firstState l′))
+    → All Allowed (watchesOf (turnsFrom firstState l)) → All Allowed (watchesOf (turnsFrom firstState l′))
+    → (watchedLines l (linesOf b) ≡ watchedLines l′ (linesOf b′))
+    × (watchedLines l (linesOf b) ≡ map (translationLine 0) (walksIn (watchesOf (turnsFrom firstState l))))
+files-change b b′ l l′ e e′ h h′ p t t′ =
+    by-traces b b′ l l′ (map (translationLine 0) (walksIn (watchesOf (turnsFrom firstState l)))) e e′ (traces-change l l′ h h′ p t t′)

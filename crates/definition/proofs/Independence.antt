@@ -23,12 +23,12 @@ abbrev pub turnsOf : Registers → List Moment → List Turn
 turnsOf g l = map (under g) l
 
 module _ (g : Registers) where
-  one-after : (c : Caches) (l : List Moment) → afterTurns c (turnsOf g l) ≡ afterAll g c l
+  pub one-after : (c : Caches) (l : List Moment) → afterTurns c (turnsOf g l) ≡ afterAll g c l
   unfolding afterTurns afterAll
   one-after c [] = refl
   one-after c (now ∷ rest) = one-after (after g c now) rest
 
-  one-answers : (c : Caches) (l : List Moment) → answersThrough c (turnsOf g l) ≡ answersFrom g c l
+  pub one-answers : (c : Caches) (l : List Moment) → answersThrough c (turnsOf g l) ≡ answersFrom g c l
   unfolding answersThrough answersFrom
   one-answers c [] = refl
   one-answers c (watched a m ∷ rest) = rw (one-answers (after g c (watched a m)) rest)

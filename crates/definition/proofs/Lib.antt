@@ -6,9 +6,9 @@ pub mod Refusals
 pub mod Choice
 pub mod Lists
 pub mod Replay
-pub mod Marked
 pub mod Agree
 pub mod Turns
+pub mod Marked
 pub mod Asked030
 pub mod Page030
 pub mod Stretches
@@ -24,6 +24,7 @@ pub mod Hits040
 pub mod Listing
 pub mod OneAccess
 pub mod Epochs
+pub mod Flushes
 pub mod Independence
 pub mod Narrow
 pub mod Said

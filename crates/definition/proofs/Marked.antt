@@ -7,6 +7,7 @@ use Rattle.definition.specs.Audit.{audit}
 use Rattle.definition.specs.Calls.{access, Line, A, F, L, T, K, N, R}
 use Rattle.definition.specs.Trace.{Record, Loads, Calls, Stores, Adds, Malformed, State, memoryOf, stepOf, firstState, linesFrom}
 use Rattle.definition.proofs.Replay.{Moment, watched, other}
+use Rattle.definition.proofs.Turns.{Turn, under}
 use Rattle.definition.specs.declared.Registers.{Registers}
 use Rattle.definition.specs.declared.Access.{Access}
 use Rattle.definition.specs.declared.Audit.{Audit}
@@ -46,6 +47,14 @@ momentIn (plainly Malformed) m = []
 unfoldable pub momentsOf : State → List Marked → List Moment
 momentsOf s [] = []
 momentsOf s (k ∷ rest) = momentIn k (memoryOf s) ++ momentsOf (stepOf s (recordIn k) .state) rest
+
+-- the same with the registers as they stand then
+abbrev pub turnIn : Marked → State → List Turn
+turnIn k s = map (under (s .registers)) (momentIn k (memoryOf s))
+
+unfoldable pub turnsFrom : State → List Marked → List Turn
+turnsFrom s [] = []
+turnsFrom s (k ∷ rest) = turnIn k s ++ turnsFrom (stepOf s (recordIn k) .state) rest
 
 abbrev pub isCall : Record → Bool
 isCall (Calls call) = true

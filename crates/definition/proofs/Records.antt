@@ -3,14 +3,14 @@
 use Prim.Native.Nat.{ℕ}
 use mathlib.Core.Path.{_≡_, refl, ap, sym, _∙_}
 use mathlib.Core.List.{List, [], _∷_, _++_, map}
-use mathlib.Core.Bool.{Bool, true, false}
+use mathlib.Core.Bool.{true, false}
 use mathlib.Core.Logic.{inl, inr}
 use native.Mathlib.Omega.{arith}
 use lib.Dec.{eqb}
 use lib.ListN.{length}
 use Rattle.definition.specs.Memory.{Memory}
 use Rattle.definition.specs.Refusal.{Checks, refusalOf, badCache}
-use Rattle.definition.specs.Translate.{Caches, translateChecks, translate}
+use Rattle.definition.specs.Translate.{Caches, emptyCaches, translateChecks, translate}
 use Rattle.definition.specs.Load.{loadChecks, load}
 use Rattle.definition.specs.Test.{testChecks, test}
 use Rattle.definition.specs.Probe.{probeChecks, probe}
@@ -18,8 +18,8 @@ use Rattle.definition.specs.Flush.{Flushed, flushUnless, flushAll, flush
 use Rattle.definition.specs.Audit.{audit}
 use Rattle.definition.specs.Calls.{Call, access, loading, testing, probing, flushingAll, flushingCode, flushingPage, flushingFrame, Line, R, translationLine, flushLine, calling}
 use Rattle.definition.specs.Trace.{Record, Loads, Calls, Stores, Adds, Malformed, State, memoryOf, Played, keeping, stepOf, firstState, linesFrom}
-use Rattle.definition.proofs.Replay.{Moment, after, afterAll, answersFrom, watchedOf, walksOf, In, Steady, Accepted, CleanSnapshot, Since}
-use Rattle.definition.proofs.Marked.{keptAfter, warmed, Marked, watching, plainly, recordIn, momentIn, momentsOf, isCall, Under, uncounted, watchedLines, prints}
+use Rattle.definition.proofs.Replay.{afterAll, answersFrom, watchedOf, walksOf, In, Steady, Accepted, CleanSnapshot, Since}
+use Rattle.definition.proofs.Marked.{keptAfter, warmed, Marked, watching, plainly, recordIn, momentIn, momentsOf, turnIn, turnsFrom, isCall, Under, uncounted, watchedLines, prints}
 use Rattle.definition.specs.declared.Registers.{Registers}
 use Rattle.definition.specs.declared.Access.{Access}
 use Rattle.definition.specs.declared.Audit.{Audit}
@@ -29,7 +29,11 @@ use Rattle.definition.specs.declared.Flush.{Flush}
 use Rattle.definition.proofs.Choice.{if-both}
 use Rattle.definition.proofs.Entries.{Fit, empty-fit, calling-fit}
 use Rattle.definition.proofs.Refusals.{numbers, inTranslation, translate-refuses, translation-refused, inLoad, load-refuses, load-refused, inTest, test-refuses, test-refused, inProbe, probe-refuses, probe-refused, inFlush, flush-refuses, flush-refused, inLine, record-refuses}
-use Rattle.definition.proofs.Independence.{independence}
+use Rattle.definition.proofs.Lists.{All, Paired}
+use Rattle.definition.proofs.Turns.{Turn, under, afterTurn, afterTurns, answersThrough, watchesOf, Same, Allowed, Kept, ChangesFlushed}
+use Rattle.definition.proofs.Epochs.{walksIn, epochs}
+use Rattle.definition.proofs.Flushes.{registers-change}
+use Rattle.definition.proofs.Independence.{turnsOf, one-after, one-answers, independence}
 use Rattle.definition.proofs.Audited.{clean-run, clean-independence}
 
 -- ---- check 4
@@ -115,75 +119,124 @@ lines-not-four s (r ∷ l) h (inr i) = lines-not-four (stepOf s r .state) l (ste
 pub never-four : (l : List Record) → In (R 4) (linesFrom firstState l) → ⊥
 never-four l = lines-not-four firstState l empty-fit
 
--- ---- records as moments
+-- ---- records as turns
+turns-both : (c : Caches) (l l′ : List Turn) → afterTurns c (l ++ l′) ≡ afterTurns (afterTurns c l) l′
+unfolding afterTurns
+turns-both c [] l′ = refl
+turns-both c (t ∷ l) l′ = turns-both (afterTurn c t) l l′
+
+-- a record that is not watched adds no answer
+plain-answers : (c : Caches) (s : State) (r : Record) (l : List Turn)
+    → answersThrough c (turnIn (plainly r) s ++ l) ≡ answersThrough (afterTurns c (turnIn (plainly r) s)) l
+unfolding answersThrough afterTurns
+plain-answers c s (Loads h) l = refl
+plain-answers c s (Calls call) l = refl
+plain-answers c s (Stores address value) l = refl
+plain-answers c s (Adds range) l = refl
+plain-answers c s Malformed l = refl
+
+own-caches : (k : Checks) (s next : State) → next .caches ≡ s .caches → keeping k s next .state .caches ≡ s .caches
+own-caches k s next e = if-both (λ (p : Played). p .state .caches ≡ s .caches) (eqb (refusalOf k) 0) _ _ e refl
+
+-- a record leaves the caches that its turn leaves
+step-caches : (s : State) (k : Marked) → stepOf s (recordIn k) .state .caches ≡ afterTurns (s .caches) (turnIn k s)
+unfolding stepOf afterTurns calling
+step-caches s (watching a) = refl
+step-caches s (plainly (Calls call)) = refl
+step-caches s (plainly (Loads h)) = own-caches _ s _ refl
+step-caches s (plainly (Stores address value)) = own-caches _ s _ refl
+step-caches s (plainly (Adds range)) = own-caches _ s _ refl
+step-caches s (plainly Malformed) = refl
+
+-- the caches that a trace leaves are those of its turns
+pub kept-turns : (s : State) (l : List Marked) → keptAfter s (map recordIn l) .caches ≡ afterTurns (s .caches) (turnsFrom s l)
+unfolding keptAfter turnsFrom afterTurns
+kept-turns s [] = refl
+kept-turns s (k ∷ rest) =
+    let next = stepOf s (recordIn k) .state in
+    kept-turns next rest
+    ∙ ap (λ (c : Caches). afterTurns c (turnsFrom next rest)) (step-caches s k)
+    ∙ sym (turns-both (s .caches) (turnIn k s) (turnsFrom next rest))
+
+uncounted-line : (count : ℕ) (t : Translation) → uncounted (translationLine count t) ≡ translationLine 0 t
+uncounted-line count (Address address) = refl
+uncounted-line count (Fault kind cause address) = refl
+uncounted-line count (Refused n) = refl
+
+access-line : (s : State) (a : Access)
+    → uncounted (stepOf s (Calls (access a)) .line) ≡ translationLine 0 (translate (s .registers) a (memoryOf s) (s .caches) .answer)
+unfolding stepOf calling
+access-line s a = let t = translate (s .registers) a (memoryOf s) (s .caches) in uncounted-line (length (t .asked)) (t .answer)
+
+-- and what the watched accesses print are the answers of its turns
+pub prints-turns : (s : State) (l : List Marked) → prints s l ≡ map (translationLine 0) (answersThrough (s .caches) (turnsFrom s l))
+unfolding linesFrom watchedLines turnsFrom answersThrough afterTurns
+prints-turns s [] = refl
+prints-turns s (watching a ∷ rest) =
+    let next = stepOf s (Calls (access a)) .state in
+    rw (access-line s a, prints-turns next rest, ap (λ (c : Caches). answersThrough c (turnsFrom next rest)) (step-caches s (watching a)))
+prints-turns s (plainly r ∷ rest) =
+    let next = stepOf s r .state in
+    prints-turns next rest
+    ∙ ap (λ (c : Caches). map (translationLine 0) (answersThrough c (turnsFrom next rest))) (step-caches s (plainly r))
+    ∙ ap (map (translationLine 0)) (sym (plain-answers (s .caches) s r (turnsFrom next rest)))
+
+-- what the watched accesses of two traces print, by the answers of their turns
+turns-alike : (s s′ : State) (l l′ : List Marked) (walks : List Translation)
+    → (answersThrough (s .caches) (turnsFrom s l) ≡ answersThrough (s′ .caches) (turnsFrom s′ l′)) × (answersThrough (s .caches) (turnsFrom s l) ≡ walks)
+    → (prints s l ≡ prints s′ l′) × (prints s l ≡ map (translationLine 0) walks)
+turns-alike s s′ l l′ walks d =
+    let one = prints-turns s l in
+    (one ∙ ap (map (translationLine 0)) (d .0) ∙ sym (prints-turns s′ l′), one ∙ ap (map (translationLine 0)) (d .1))
+
+-- request 14, of two traces from the program's first state, whose registers are loaded at any place: what each watched access prints, the count left out,
+-- is the same in both, and is what the cacheless walk gives with the registers and tables of its moment
+pub traces-epochs : (l l′ : List Marked) → Kept (watchesOf (turnsFrom firstState l)) → Kept (watchesOf (turnsFrom firstState l′))
+    → Paired Same (watchesOf (turnsFrom firstState l)) (watchesOf (turnsFrom firstState l′))
+    → (prints firstState l ≡ prints firstState l′) × (prints firstState l ≡ map (translationLine 0) (walksIn (watchesOf (turnsFrom firstState l))))
+traces-epochs l l′ k k′ p =
+    turns-alike firstState firstState l l′ (walksIn (watchesOf (turnsFrom firstState l))) (epochs (turnsFrom firstState l) (turnsFrom firstState l′) k k′ p)
+
+-- and in the request's own words
+pub traces-change : (l l′ : List Marked) → ChangesFlushed emptyCaches (turnsFrom firstState l) → ChangesFlushed emptyCaches (turnsFrom firstState l′)
+    → Paired Same (watchesOf (turnsFrom firstState l)) (watchesOf (turnsFrom firstState l′))
+    → All Allowed (watchesOf (turnsFrom firstState l)) → All Allowed (watchesOf (turnsFrom firstState l′))
+    → (prints firstState l ≡ prints firstState l′) × (prints firstState l ≡ map (translationLine 0) (walksIn (watchesOf (turnsFrom firstState l))))
+traces-change l l′ h h′ p t t′ =
+    turns-alike firstState firstState l l′ (walksIn (watchesOf (turnsFrom firstState l)))
+    (registers-change (turnsFrom firstState l) (turnsFrom firstState l′) h h′ p t t′)
+
+-- ---- records as moments, under one set of registers
+map-both : {X Y : Type 0} (f : X → Y) (l l′ : List X) → map f (l ++ l′) ≡ map f l ++ map f l′
+map-both f [] l′ = refl
+map-both f (x ∷ l) l′ = ap (λ (r : List _). f x ∷ r) (map-both f l l′)
+
 module _ (g : Registers) where
-  after-both : (c : Caches) (l l′ : List Moment) → afterAll g c (l ++ l′) ≡ afterAll g (afterAll g c l) l′
-  unfolding afterAll
-  after-both c [] l′ = refl
-  after-both c (now ∷ l) l′ = after-both (after g c now) l l′
+  under-turn : (s : State) (k : Marked) → (isCall (recordIn k) ≡ true → s .registers ≡ g) → turnIn k s ≡ turnsOf g (momentIn k (memoryOf s))
+  under-turn s (watching a) u = rw (u refl)
+  under-turn s (plainly (Calls call)) u = rw (u refl)
+  under-turn s (plainly (Loads h)) u = refl
+  under-turn s (plainly (Stores address value)) u = refl
+  under-turn s (plainly (Adds range)) u = refl
+  under-turn s (plainly Malformed) u = refl
 
-  -- a record that is not watched adds no answer
-  plain-answers : (c : Caches) (m : Memory) (r : Record) (l : List Moment)
-      → answersFrom g c (momentIn (plainly r) m ++ l) ≡ answersFrom g (afterAll g c (momentIn (plainly r) m)) l
-  unfolding answersFrom afterAll
-  plain-answers c m (Loads h) l = refl
-  plain-answers c m (Calls call) l = refl
-  plain-answers c m (Stores address value) l = refl
-  plain-answers c m (Adds range) l = refl
-  plain-answers c m Malformed l = refl
-
-  own-caches : (k : Checks) (s next : State) → next .caches ≡ s .caches → keeping k s next .state .caches ≡ s .caches
-  own-caches k s next e = if-both (λ (p : Played). p .state .caches ≡ s .caches) (eqb (refusalOf k) 0) _ _ e refl
-
-  -- a record leaves the caches that its moment leaves
-  step-caches : (s : State) (k : Marked) → (isCall (recordIn k) ≡ true → s .registers ≡ g)
-      → stepOf s (recordIn k) .state .caches ≡ afterAll g (s .caches) (momentIn k (memoryOf s))
-  unfolding stepOf afterAll calling
-  step-caches s (watching a) u = ap (λ (r : Registers). translate r a (memoryOf s) (s .caches) .caches) (u refl)
-  step-caches s (plainly (Calls call)) u = ap (λ (r : Registers). calling r (memoryOf s) (s .caches) call .caches) (u refl)
-  step-caches s (plainly (Loads h)) u = own-caches _ s _ refl
-  step-caches s (plainly (Stores address value)) u = own-caches _ s _ refl
-  step-caches s (plainly (Adds range)) u = own-caches _ s _ refl
-  step-caches s (plainly Malformed) u = refl
+  under-turns : (s : State) (l : List Marked) → Under g s l → turnsFrom s l ≡ turnsOf g (momentsOf s l)
+  unfolding turnsFrom momentsOf Under
+  under-turns s [] u = refl
+  under-turns s (k ∷ rest) u =
+      rw (under-turn s k (u .0), under-turns (stepOf s (recordIn k) .state) rest (u .1))
+      (sym (map-both (under g) (momentIn k (memoryOf s)) (momentsOf (stepOf s (recordIn k) .state) rest)))
 
   -- the caches that a trace leaves are those of the replay
   pub kept-caches : (s : State) (l : List Marked) → Under g s l → keptAfter s (map recordIn l) .caches ≡ afterAll g (s .caches) (momentsOf s l)
-  unfolding keptAfter momentsOf Under afterAll
-  kept-caches s [] u = refl
-  kept-caches s (k ∷ rest) u =
-      let next = stepOf s (recordIn k) .state in
-      kept-caches next rest (u .1)
-      ∙ ap (λ (c : Caches). afterAll g c (momentsOf next rest)) (step-caches s k (u .0))
-      ∙ sym (after-both (s .caches) (momentIn k (memoryOf s)) (momentsOf next rest))
-
-  uncounted-line : (count : ℕ) (t : Translation) → uncounted (translationLine count t) ≡ translationLine 0 t
-  uncounted-line count (Address address) = refl
-  uncounted-line count (Fault kind cause address) = refl
-  uncounted-line count (Refused n) = refl
-
-  access-line : (s : State) (a : Access) → s .registers ≡ g → uncounted (stepOf s (Calls (access a)) .line) ≡ translationLine 0 (translate g a (memoryOf s) (s .caches) .answer)
-  unfolding stepOf calling
-  access-line s a e =
-      let t = translate (s .registers) a (memoryOf s) (s .caches) in
-      uncounted-line (length (t .asked)) (t .answer)
-      ∙ ap (λ (r : Registers). translationLine 0 (translate r a (memoryOf s) (s .caches) .answer)) e
+  kept-caches s l u = kept-turns s l ∙ ap (afterTurns (s .caches)) (under-turns s l u) ∙ one-after g (s .caches) (momentsOf s l)
 
   -- and what the watched accesses print are the answers of the replay
   pub prints-answers : (s : State) (l : List Marked) → Under g s l → prints s l ≡ map (translationLine 0) (answersFrom g (s .caches) (momentsOf s l))
-  unfolding linesFrom watchedLines momentsOf Under answersFrom afterAll
-  prints-answers s [] u = refl
-  prints-answers s (watching a ∷ rest) u =
-      let next = stepOf s (Calls (access a)) .state in
-      rw (
-        access-line s a (u .0 refl),
-        prints-answers next rest (u .1),
-        ap (λ (c : Caches). answersFrom g c (momentsOf next rest)) (step-caches s (watching a) (u .0)),
-      )
-  prints-answers s (plainly r ∷ rest) u =
-      let next = stepOf s r .state in
-      prints-answers next rest (u .1)
-      ∙ ap (λ (c : Caches). map (translationLine 0) (answersFrom g c (momentsOf next rest))) (step-caches s (plainly r) (u .0))
-      ∙ ap (map (translationLine 0)) (sym (plain-answers (s .caches) (memoryOf s) r (momentsOf next rest)))
+  prints-answers s l u =
+      prints-turns s l
+      ∙ ap (λ (t : List Turn). map (translationLine 0) (answersThrough (s .caches) t)) (under-turns s l u)
+      ∙ ap (map (translationLine 0)) (one-answers g (s .caches) (momentsOf s l))
 
 -- what the watched accesses of two traces print, by the answers of their replays
 prints-alike : (g : Registers) (s s′ : State) (l l′ : List Marked) → Under g s l → Under g s′ l′

@@ -1,7 +1,8 @@
 -- Request 14's words: a replay whose registers may change from call to call, the epochs that the caches give it, and what is asked of its watched accesses.
 use mathlib.Core.Path.{_≡_}
 use mathlib.Core.List.{List, [], _∷_, _++_}
-use mathlib.Core.Bool.{Bool, not, _&&_}
+use mathlib.Core.Bool.{Bool, true, false, not, _&&_}
+use mathlib.Core.Logic.{_⊎_}
 use Rattle.definition.specs.Words.{if_then_else_, allOf}
 use Rattle.definition.specs.Memory.{Memory}
 use Rattle.definition.specs.Cache030.{Entry}
@@ -9,7 +10,7 @@ use Rattle.definition.specs.Cache040.{Slot}
 use Rattle.definition.specs.Refusal.{refusalOf}
 use Rattle.definition.specs.Translate.{Caches, emptyCaches, Translated, translate, translateChecks, cacheless}
 use Rattle.definition.specs.Calls.{access, loading, testing, probing, flushingAll, flushingCode, flushingPage, flushingFrame}
-use Rattle.definition.proofs.Replay.{Moment, watched, other, after}
+use Rattle.definition.proofs.Replay.{Moment, watched, other, memoryAt, after, In}
 use Rattle.definition.proofs.Lists.{All}
 use Rattle.definition.proofs.Agree.{Agree}
 use Rattle.definition.specs.declared.Registers.{Registers}
@@ -136,3 +137,66 @@ Allowed w = refusalOf (translateChecks (w .made .registers) (w .made .access) (w
 pub record Kept (l : List Watch) : Type 0 where
   pub fresh : All Fresh l
   pub allowed : All Allowed l
+
+-- ---- the request's own words
+abbrev pub registersIn : Turn → Registers
+registersIn (under g now) = g
+
+abbrev pub memoryIn : Turn → Memory
+memoryIn (under g now) = memoryAt now
+
+abbrev pub isFlush : Moment → Bool
+isFlush (watched a m) = false
+isFlush (other (access a) m) = false
+isFlush (other (loading code write address) m) = false
+isFlush (other (testing code write level address) m) = false
+isFlush (other (probing own instruction write address) m) = false
+isFlush (other flushingAll m) = true
+isFlush (other (flushingCode code mask) m) = true
+isFlush (other (flushingPage code mask address) m) = true
+isFlush (other (flushingFrame frame) m) = true
+
+-- 'a flush that empties both caches'
+abbrev pub empties : Caches → Turn → Bool
+empties c (under g now) = isFlush now && vacant (after g c now)
+
+-- 'access, PLOAD or probe'
+abbrev pub isUse : Turn → Bool
+isUse (under g (watched a m)) = true
+isUse (under g (other (access a) m)) = true
+isUse (under g (other (loading code write address) m)) = true
+isUse (under g (other (testing code write level address) m)) = false
+isUse (under g (other (probing own instruction write address) m)) = true
+isUse (under g (other flushingAll m)) = false
+isUse (under g (other (flushingCode code mask) m)) = false
+isUse (under g (other (flushingPage code mask address) m)) = false
+isUse (under g (other (flushingFrame frame) m)) = false
+
+-- such a flush comes 'before the next access, PLOAD or probe'
+unfoldable pub FlushFirst : Caches → List Turn → Type 0
+FlushFirst c [] = Unit {0}
+FlushFirst c (t ∷ rest) = (empties c t ≡ true) ⊎ ((isUse t ≡ false) × FlushFirst (afterTurn c t) rest)
+
+abbrev pub madeIn : Turn → List Made
+madeIn (under g (watched a m)) = made g a m ∷ []
+madeIn (under g (other call m)) = []
+
+-- the watched accesses 'made before the next such flush'
+unfoldable pub untilFlush : Caches → List Turn → List Made
+untilFlush c [] = []
+untilFlush c (t ∷ rest) = if empties c t then [] else madeIn t ++ untilFlush (afterTurn c t) rest
+
+-- from a turn to the next neither the registers change nor a watched long: 'one that the cacheless walk of a watched access made before the next such
+-- flush fetches'
+pub record Unchanged (coming : List Made) (t next : Turn) : Type 0 where
+  pub registers : registersIn t ≡ registersIn next
+  pub reads : (w : Made) → In w coming → Agree (memoryIn t) (memoryIn next) (walkOf w .asked)
+
+-- 'Registers and watched longs may now change between calls, if a flush that empties both caches comes after each such change and before the next access,
+-- PLOAD or probe.'
+unfoldable pub ChangesFlushed : Caches → List Turn → Type 0
+ChangesFlushed c [] = Unit {0}
+ChangesFlushed c (t ∷ []) = Unit {0}
+ChangesFlushed c (t ∷ next ∷ rest) =
+    (Unchanged (untilFlush (afterTurn c t) (next ∷ rest)) t next ⊎ FlushFirst (afterTurn c t) (next ∷ rest))
+    × ChangesFlushed (afterTurn c t) (next ∷ rest)
