@@ -42,14 +42,14 @@ use Rattle.definition.specs.Memory.{memory}
 use Rattle.definition.specs.Walk030.{entryOf, readOf, shortOf}
 use Rattle.memory.specs.Descriptors.{alone, ofTwo, shownRead}
 use Rattle.definition.specs.Memory.{fetchOf}
-use Rattle.memory.specs.declared.descriptor.Descriptor.{Descriptor}
-use Rattle.memory.proofs.descriptor.Descriptor as row-Descriptor
-use Rattle.memory.proofs.descriptor.Descriptor.Laws as law-Descriptor
 use Rattle.definition.specs.declared.Fetched.{Fetched}
 use Rattle.definition.proofs.Fetched as row-Fetched
 use Rattle.definition.proofs.Fetched.Laws as law-Fetched
 use Rattle.definition.specs.declared.Range.{Range}
 use Rattle.definition.proofs.Range as row-Range
+use Rattle.memory.specs.declared.descriptor.Descriptor.{Descriptor}
+use Rattle.memory.proofs.descriptor.Descriptor as row-Descriptor
+use Rattle.memory.proofs.descriptor.Descriptor.Laws as law-Descriptor
 use Rattle.memory.proofs.longs.fetch as c0
 use Rattle.memory.proofs.longs.fetch.Symbol as c0-def
 use Rattle.memory.proofs.longs.fetch.Symbol.{name as #memory·longs·fetch}
