@@ -257,7 +257,7 @@ eqb-some : (w : ℕ) → eqb w 0 ≡ false → 0 < w
 eqb-some w e = let n = eqb-false w 0 e in omega arith
 
 -- each width up to the first zero is some, and where all of them fit an address they fit one after the other
-used-fits : (ws : List ℕ) (c : ℕ) → c + sumOf (used ws) ≤ 32 → Fits (used ws) c
+pub used-fits : (ws : List ℕ) (c : ℕ) → c + sumOf (used ws) ≤ 32 → Fits (used ws) c
 used-fits [] c h = omega arith
 used-fits (w ∷ ws) c h = go (eqb w 0) refl h (λ k. used-fits ws (c + w) k)
   where

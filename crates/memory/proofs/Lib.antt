@@ -1,6 +1,7 @@
 pub mod Tests
 pub mod Widths
 pub mod Reading
+pub mod Shown
 pub mod Shifts
 pub mod Frames
 pub mod Touching

@@ -74,7 +74,7 @@ fn described(first: u32, field: u32, long: bool, asked: u32) -> Descriptor
 }
 
 // Whether the first long settles it: it failed, or the descriptor is short.
-fn is_alone(long: bool, first: Fetched) -> bool
+pub fn is_alone(long: bool, first: Fetched) -> bool
     ensures { λ r. ⌜ r ≡ alone long first ⌝ }
 {
     match first {
@@ -84,7 +84,7 @@ fn is_alone(long: bool, first: Fetched) -> bool
 }
 
 // A short descriptor is one long, which is its address field too.
-fn of_one(at: u32, first: Fetched) -> Descriptor
+pub fn of_one(at: u32, first: Fetched) -> Descriptor
     ensures { λ r. ⌜ r ≡ shownRead (shortOf at first) ⌝ }
 {
     match first {
@@ -94,14 +94,14 @@ fn of_one(at: u32, first: Fetched) -> Descriptor
 }
 
 // Where the second long of a descriptor stands.
-fn second_at(at: u32) -> u32
+pub fn second_at(at: u32) -> u32
     ensures { λ r. ⌜ r ≡ entryOf at 1 false ⌝ }
 {
     entry(at, 1, false)
 }
 
 // A long descriptor is two longs; the address field is the last.
-fn of_two(at: u32, first: Fetched, second: Fetched) -> Descriptor
+pub fn of_two(at: u32, first: Fetched, second: Fetched) -> Descriptor
     ensures { λ r. ⌜ r ≡ ofTwo at first second ⌝ }
 {
     match first {

@@ -19,7 +19,7 @@ pub fn bad_base(count: usize, base: u32) -> bool
 }
 
 // The long at `at`, unless it lies outside the longs or the search hit a range.
-fn long_unless(longs: &[u32], base: u32, at: u32, hit: bool) -> Fetched
+pub fn long_unless(longs: &[u32], base: u32, at: u32, hit: bool) -> Fetched
     ensures { λ r. ⌜ r ≡ fetchWith (now (longs .entry)) base at hit ⌝ }
 {
     if at < base {

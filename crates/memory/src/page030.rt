@@ -23,7 +23,7 @@ pub fn physical(field: u32, consumed: u32, address: u32) -> u32
 }
 
 // IS (19:16) and the widths up to the first zero.
-fn consumed(tc: u32) -> u32
+pub fn consumed(tc: u32) -> u32
     ensures { λ r. ⌜ r ≡ isOf tc + sumOf (used (widthsOf tc)) ⌝ }
 {
     let ws = widths(tc);

@@ -28,7 +28,7 @@ fn touches(first: u32, last: u32, at: u32) -> bool
 }
 
 // The search for a range that has a byte of the long: one range more.
-fn hit_or(hit: bool, first: u32, last: u32, at: u32) -> bool
+pub fn hit_or(hit: bool, first: u32, last: u32, at: u32) -> bool
     ensures { λ r. ⌜ r ≡ (hit || touchesOf first last at) ⌝ }
 {
     let touched = touches(first, last, at);
@@ -51,7 +51,7 @@ pub fn hits(ranges: &[Range], at: u32) -> bool
 }
 
 // The search for a range whose first is above its last: one range more.
-fn crossed_or(found: bool, first: u32, last: u32) -> bool
+pub fn crossed_or(found: bool, first: u32, last: u32) -> bool
     ensures { λ r. ⌜ r ≡ (found || ltb last first) ⌝ }
 {
     found | (last < first)

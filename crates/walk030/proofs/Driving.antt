@@ -30,6 +30,7 @@ use Rattle.walk030.specs.Machine.{noWalk, misconfiguredOf, beginOf, atLi
 use Rattle.walk030.specs.declared.Walked.{Walked}
 use Rattle.walk030.specs.declared.machine.Walking030.{Walking030}
 use Rattle.memory.proofs.Tests.{T-true, T-false, clash}
+use Rattle.memory.proofs.Shown.{lost-is, whole-is}
 use Rattle.memory.proofs.Widths.{used-at, width-small, widths-few}
 use Rattle.walk030.proofs.Aiming as aim
 
@@ -55,20 +56,6 @@ read-few m at false = short-few at (fetchOf m at)
 counted : (d : Descriptor) → askedOf (shownRead d) ≡ length (askedFor d)
 counted (Whole kind field wp sup x) = refl
 counted (Lost at x) = refl
-
--- what the code was given is what was read
-lost-is : (d : Descriptor) {at n : ℕ} → shownRead d ≡ given.Lost at n → d ≡ Lost at (askedFor d)
-lost-is (Whole kind field wp sup x) e = let z : _≡_ {A = ℕ} 0 1 = cc in absurd (omega arith)
-lost-is (Lost at x) {at = at′} e = let same : at ≡ at′ = cc in rw same
-
-whole-is : (d : Descriptor) {kind field n : ℕ} {wp sup : Bool} → shownRead d ≡ given.Whole kind field wp sup n → d ≡ Whole kind field wp sup (askedFor d)
-whole-is (Whole kind field wp sup x) {kind = kind′} {field = field′} {wp = wp′} {sup = sup′} e =
-    let k : kind ≡ kind′ = cc in
-    let f : field ≡ field′ = cc in
-    let w : wp ≡ wp′ = cc in
-    let s : sup ≡ sup′ = cc in
-    rw (k, f, w, s)
-whole-is (Lost at x) e = let z : _≡_ {A = ℕ} 0 1 = cc in absurd (omega arith)
 
 steps-length : (address consumed : ℕ) (ws : List ℕ) → length (steps address consumed ws) ≡ length ws
 steps-length address consumed [] = refl
