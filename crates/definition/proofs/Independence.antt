@@ -15,13 +15,10 @@ use Rattle.definition.specs.declared.Access.{Access}
 use Rattle.definition.proofs.Choice.{if-both}
 use Rattle.definition.proofs.Lists.{All, all-by, all-both, all-at, in-left, in-right, Paired, paired-by}
 use Rattle.definition.proofs.Agree.{Throughout}
-use Rattle.definition.proofs.Turns.{Turn, under, afterTurns, answersThrough, vacant, Source, sourcesIn, sinceAfter, sinceAll, Made, made, Watch, watchesFrom, Suits, Fresh, Same, Allowed, Kept}
+use Rattle.definition.proofs.Turns.{under, turnsOf, afterTurns, answersThrough, vacant, Source, sourcesIn, sinceAfter, sinceAll, Made, made, Watch, watchesFrom, Suits, Fresh, Same, Allowed, Kept}
 use Rattle.definition.proofs.Epochs.{Held, empty-held, held-answer, turns-held, walksIn, turns-answers, held-independent}
 
 -- ---- a replay under one set of registers
-abbrev pub turnsOf : Registers → List Moment → List Turn
-turnsOf g l = map (under g) l
-
 module _ (g : Registers) where
   pub one-after : (c : Caches) (l : List Moment) → afterTurns c (turnsOf g l) ≡ afterAll g c l
   unfolding afterTurns afterAll

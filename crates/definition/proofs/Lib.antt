@@ -35,3 +35,4 @@ pub mod Accepting
 pub mod Records
 pub mod Files
 pub mod Witness
+pub mod Switched

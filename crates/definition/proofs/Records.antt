@@ -30,10 +30,10 @@ use Rattle.definition.proofs.Choice.{if-both}
 use Rattle.definition.proofs.Entries.{Fit, empty-fit, calling-fit}
 use Rattle.definition.proofs.Refusals.{numbers, inTranslation, translate-refuses, translation-refused, inLoad, load-refuses, load-refused, inTest, test-refuses, test-refused, inProbe, probe-refuses, probe-refused, inFlush, flush-refuses, flush-refused, inLine, record-refuses}
 use Rattle.definition.proofs.Lists.{All, Paired}
-use Rattle.definition.proofs.Turns.{Turn, under, afterTurn, afterTurns, answersThrough, watchesOf, Same, Allowed, Kept, ChangesFlushed}
+use Rattle.definition.proofs.Turns.{Turn, under, turnsOf, afterTurn, afterTurns, answersThrough, watchesOf, Same, Allowed, Kept, ChangesFlushed}
 use Rattle.definition.proofs.Epochs.{walksIn, epochs}
 use Rattle.definition.proofs.Flushes.{registers-change}
-use Rattle.definition.proofs.Independence.{turnsOf, one-after, one-answers, independence}
+use Rattle.definition.proofs.Independence.{one-after, one-answers, independence}
 use Rattle.definition.proofs.Audited.{clean-run, clean-independence}
 
 -- ---- check 4

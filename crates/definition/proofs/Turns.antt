@@ -1,6 +1,6 @@
 -- Request 14's words: a replay whose registers may change from call to call, the epochs that the caches give it, and what is asked of its watched accesses.
 use mathlib.Core.Path.{_≡_}
-use mathlib.Core.List.{List, [], _∷_, _++_}
+use mathlib.Core.List.{List, [], _∷_, _++_, map}
 use mathlib.Core.Bool.{Bool, true, false, not, _&&_}
 use mathlib.Core.Logic.{_⊎_}
 use Rattle.definition.specs.Words.{if_then_else_, allOf}
@@ -21,6 +21,10 @@ use Rattle.definition.specs.declared.Translation.{Translation}
 -- 'Registers .. may now change between calls': a moment, and the registers that it is made under
 pub data Turn : Type 0 where
   under : Registers → Moment → Turn
+
+-- under one set of registers
+abbrev pub turnsOf : Registers → List Moment → List Turn
+turnsOf g l = map (under g) l
 
 -- the caches after it
 abbrev pub afterTurn : Caches → Turn → Caches

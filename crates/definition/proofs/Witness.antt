@@ -87,7 +87,7 @@ accepted-by g l h =
 
 -- ---- two replays
 -- IS 15 and one level of one bit: pages of 64 KB, by a table of two short descriptors at 0
-abbrev registers : Registers
+abbrev pub registers : Registers
 registers =
     record {
       family = 30;
@@ -105,7 +105,7 @@ registers =
     }
 
 -- a read of user data
-abbrev reading : ℕ → Access
+abbrev pub reading : ℕ → Access
 reading address =
     record { address = address; write = false; supervisor = false; instruction = false; own = false; code = Override.Plain; recorded = true }
 
@@ -222,7 +222,7 @@ unfolding linesFrom stepOf calling load loadInOrder flushedPage translate inOrde
 printed-among = refl
 
 -- ---- the same of two files, of a 68040 with two watched accesses, the second of which faults
-abbrev registers040 : Registers
+abbrev pub registers040 : Registers
 registers040 =
     record {
       family = 40;
