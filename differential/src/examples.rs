@@ -36,7 +36,8 @@ fn base() -> Registers {
     registers
 }
 
-fn with(change: impl FnOnce(&mut Registers)) -> Record {
+/// The examples' registers, changed.
+pub fn with(change: impl FnOnce(&mut Registers)) -> Record {
     let mut registers = base();
     change(&mut registers);
     Record::Registers(registers)

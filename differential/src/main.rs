@@ -15,6 +15,7 @@ mod original;
 mod pairs;
 mod random;
 mod selftest;
+mod switches;
 mod themes;
 mod trees;
 mod walks;

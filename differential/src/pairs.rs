@@ -9,6 +9,7 @@ use crate::original::Original;
 use crate::random::Random;
 use crate::replay::{Access, Machine};
 use crate::selftest::oracle_lines;
+use crate::switches::switches;
 use crate::trace::{Record, Registers, encode};
 use crate::trees::Shape;
 use std::collections::{BTreeMap, BTreeSet};
@@ -22,13 +23,13 @@ const FAMILIES: [(u8, &str); 3] = [(30, "68030"), (40, "68040"), (60, "68060")];
 const SHOWN: [&str; 6] = ["A", "F 2 2", "F 2 3", "F 2 4", "F 2 5", "F 3 6"];
 
 /// The trees of the watched accesses.
-const WATCHED: Shape = Shape { long: 40, early: 10, indirect: 25, bad_target: 30, invalid: 6, wp: 18, sup: 14 };
+pub const WATCHED: Shape = Shape { long: 40, early: 10, indirect: 25, bad_target: 30, invalid: 6, wp: 18, sup: 14 };
 
 /// Of so many candidates for each pair the one that shows most is kept.
 const CANDIDATES: u64 = 40;
 
 /// What the two replays of a pair share.
-struct Shared {
+pub struct Shared {
     registers: Registers,
     targets: Vec<Target>,
     watched: Vec<Record>,
@@ -41,13 +42,13 @@ struct Shared {
 }
 
 /// One replay, and which of its records are watched.
-struct Replayed {
-    records: Vec<Record>,
-    watched: Vec<usize>,
+pub struct Replayed {
+    pub records: Vec<Record>,
+    pub watched: Vec<usize>,
 }
 
 /// How much is done around the watched accesses.
-struct Around {
+pub struct Around {
     /// Paths of other addresses that are planted before the first call.
     paths: u64,
     /// Whether the long behind each watched one is stored as well.
@@ -59,7 +60,7 @@ struct Around {
 }
 
 /// The first replay of a pair.
-const CALM: Around = Around {
+pub const CALM: Around = Around {
     paths: 2,
     beside: false,
     most: 5,
@@ -68,7 +69,7 @@ const CALM: Around = Around {
 };
 
 /// The second.
-const BUSY: Around = Around {
+pub const BUSY: Around = Around {
     paths: 6,
     beside: true,
     most: 12,
@@ -88,10 +89,14 @@ const BUSY: Around = Around {
     shape: Shape::MIXED,
 };
 
-/// Writes so many pairs, and one that is not steady; says what their watched accesses show.
+/// Writes so many pairs, those that switch (`switches.rs`) and some that are not steady, into
+/// `data`; then `args` with their names and `stdout`, what `crates/independence` must write.
+/// Says what their watched accesses show.
 pub fn pairs(folder: &Path, count: usize, seed: u64) -> std::io::Result<bool> {
-    fs::create_dir_all(folder)?;
+    let data = folder.join("data");
+    fs::create_dir_all(&data)?;
     let mut seeds = Random::new(seed);
+    let mut all = Vec::new();
     let mut shown: BTreeMap<u8, BTreeSet<String>> = BTreeMap::new();
     for n in 0..count {
         let (family, name) = FAMILIES[n % FAMILIES.len()];
@@ -103,14 +108,17 @@ pub fn pairs(folder: &Path, count: usize, seed: u64) -> std::io::Result<bool> {
         let [first, second] = [&CALM, &BUSY].map(|around| shared.replayed(seeds.next(), around));
         shared.check(&first);
         shared.check(&second);
-        let differ = store_pair(folder, &name, &first, &second, "steady")?;
-        assert!(differ.is_empty(), "{name}: the watched accesses {differ:?} are answered differently");
-        println!("{name}: {}", told(&first, &second));
+        let pair = store_pair(&data, &name, first, second, "steady")?;
+        assert!(pair.differ.is_empty(), "{name}: the watched accesses {:?} are answered differently", pair.differ);
+        println!("{name}: {}", told(&pair));
+        all.push(pair);
     }
-    stale(folder)?;
+    all.push(stale(&data)?);
+    all.extend(switches(&data, seeds.next())?);
+    store_report(folder, all)?;
     let missing = |family: &u8| SHOWN.iter().filter(|kind| !shown[family].contains(**kind)).collect::<Vec<_>>();
     let missing: Vec<_> = shown.keys().map(|family| (family, missing(family))).collect();
-    println!("{count} pairs and a stale one written; not shown: {missing:?}");
+    println!("{count} pairs, a stale one and those that switch written; not shown: {missing:?}");
     Ok(missing.iter().all(|(_, kinds)| kinds.is_empty()))
 }
 
@@ -134,22 +142,8 @@ fn shared(family: u8, seed: u64) -> Shared {
     (0..b.random.within(12, 36)).for_each(|_| b.access());
     let watched = b.records.split_off(before);
     let (registers, targets) = b.sets[0].clone();
-    let mut shared = Shared {
-        registers,
-        targets,
-        answers: Vec::new(),
-        longs: BTreeMap::new(),
-        ranges: b.records.iter().filter_map(ranged).collect(),
-        watched,
-    };
-    let mut memory = memory_after(&b.records);
-    for access in &shared.watched {
-        shared.answers.push(cacheless(&shared.registers, access, &mut memory));
-        for address in memory.asked.clone() {
-            shared.longs.insert(address, memory.fetch(address));
-        }
-    }
-    shared
+    let ranges = b.records.iter().filter_map(ranged).collect();
+    Shared::over(&mut memory_after(&b.records), registers, targets, ranges, watched)
 }
 
 fn ranged(record: &Record) -> Option<(u32, u32)> {
@@ -173,14 +167,23 @@ fn any_value(b: &mut Builder, address: u32) {
 }
 
 /// The program's memory after these records.
-fn memory_after(records: &[Record]) -> TableMemory {
+pub fn memory_after(records: &[Record]) -> TableMemory {
     let mut memory = TableMemory::of_program();
     records.iter().for_each(|record| change(&mut memory, record));
     memory
 }
 
+/// The registers after these records.
+pub fn registers_after(records: &[Record]) -> Registers {
+    let loaded = |record: &Record| match record {
+        Record::Registers(registers) if [30, 40, 60].contains(&registers.family) => Some(registers.clone()),
+        _ => None,
+    };
+    records.iter().rev().find_map(loaded).unwrap_or_else(Registers::at_start)
+}
+
 /// What a record does to the memory, or to none where it is refused.
-fn change(memory: &mut TableMemory, record: &Record) {
+pub fn change(memory: &mut TableMemory, record: &Record) {
     match *record {
         Record::Store { address, value } => drop(memory.store(address, value)),
         Record::Range { first, last } if first <= last && memory.ranges.len() < 16 => memory.ranges.push((first, last)),
@@ -189,18 +192,36 @@ fn change(memory: &mut TableMemory, record: &Record) {
 }
 
 /// The access's line, without the count, from empty caches.
-fn cacheless(registers: &Registers, access: &Record, memory: &mut TableMemory) -> String {
+pub fn cacheless(registers: &Registers, access: &Record, memory: &mut TableMemory) -> String {
     let Record::Access { flags, override_code, address } = *access else { panic!("only accesses are watched") };
     let access = Access::of(flags, override_code, address);
     memory.counted(|memory| Original::default().translate(registers, &access, memory)).0.to_string()
 }
 
 /// Whether the record is a call, and no change of memory or registers.
-fn is_call(record: &Record) -> bool {
+pub fn is_call(record: &Record) -> bool {
     !matches!(record, Record::Registers(_) | Record::Store { .. } | Record::Range { .. })
 }
 
 impl Shared {
+    /// The watched accesses over this memory.
+    pub fn over(
+        memory: &mut TableMemory,
+        registers: Registers,
+        targets: Vec<Target>,
+        ranges: Vec<(u32, u32)>,
+        watched: Vec<Record>,
+    ) -> Self {
+        let mut shared = Shared { registers, targets, watched, answers: Vec::new(), longs: BTreeMap::new(), ranges };
+        for access in &shared.watched {
+            shared.answers.push(cacheless(&shared.registers, access, memory));
+            for address in memory.asked.clone() {
+                shared.longs.insert(address, memory.fetch(address));
+            }
+        }
+        shared
+    }
+
     fn kinds(&self) -> BTreeSet<String> {
         self.answers.iter().map(|answer| kind_of(answer)).collect()
     }
@@ -214,7 +235,7 @@ impl Shared {
     }
 
     /// A replay of the watched accesses with other records around them.
-    fn replayed(&self, seed: u64, around: &Around) -> Replayed {
+    pub fn replayed(&self, seed: u64, around: &Around) -> Replayed {
         let mut b = Builder::new(seed, usize::MAX);
         self.prepare(&mut b);
         b.sets.push((self.registers.clone(), self.targets.clone()));
@@ -324,21 +345,43 @@ impl Shared {
 
 impl Replayed {
     /// What the original answers each watched access, with its count.
-    fn lines(&self) -> Vec<String> {
+    pub fn lines(&self) -> Vec<String> {
         let lines = oracle_lines(&encode(&self.records), false);
         // `v1` comes before the first record's line.
         self.watched.iter().map(|&n| lines[n + 1].clone()).collect()
     }
 
     /// The cacheless walk's answer for each watched access at its moment.
-    fn walks(&self) -> Vec<String> {
-        let registers = self.records.iter().find_map(|record| match record {
-            Record::Registers(registers) => Some(registers),
-            _ => None,
-        });
-        let registers = registers.expect("registers are set");
-        let walk = |&n: &usize| cacheless(registers, &self.records[n], &mut memory_after(&self.records[..n]));
+    pub fn walks(&self) -> Vec<String> {
+        let walk = |&n: &usize| {
+            let before = &self.records[..n];
+            cacheless(&registers_after(before), &self.records[n], &mut memory_after(before))
+        };
         self.watched.iter().map(walk).collect()
+    }
+
+    /// The records of the one, then those of the other.
+    pub fn then(mut self, other: Replayed) -> Replayed {
+        let before = self.records.len();
+        self.records.extend(other.records);
+        self.watched.extend(other.watched.iter().map(|&n| n + before));
+        self
+    }
+
+    /// The same with these records before the one at `at`.
+    pub fn with(mut self, at: usize, between: Vec<Record>) -> Replayed {
+        self.watched.iter_mut().filter(|n| **n >= at).for_each(|n| *n += between.len());
+        self.records.splice(at..at, between);
+        self
+    }
+
+    /// The same without the records that are so. None of these is watched.
+    pub fn without(&self, so: impl Fn(&Record) -> bool) -> Replayed {
+        let before = |n: usize| self.records[..n].iter().filter(|record| !so(record)).count();
+        Replayed {
+            records: self.records.iter().filter(|record| !so(record)).cloned().collect(),
+            watched: self.watched.iter().map(|&n| before(n)).collect(),
+        }
     }
 
     fn unwatched_calls(&self) -> usize {
@@ -346,32 +389,43 @@ impl Replayed {
     }
 }
 
+/// A pair that was written.
+pub struct Stored {
+    name: String,
+    heading: String,
+    first: Replayed,
+    pub second: Replayed,
+    /// The cacheless walk's answer for each watched access.
+    pub walks: Vec<String>,
+    /// Which watched accesses are answered differently, or not by the walk.
+    pub differ: Vec<usize>,
+}
+
 /// How the two replays of a pair differ.
-fn told(first: &Replayed, second: &Replayed) -> String {
-    let other_counts = first.lines().iter().zip(second.lines()).filter(|(one, two)| *one != two).count();
+pub fn told(pair: &Stored) -> String {
     format!(
-        "{} watched accesses, {other_counts} with other counts, among {} and {} other calls",
-        first.watched.len(),
-        first.unwatched_calls(),
-        second.unwatched_calls()
+        "{} watched accesses, {} with other counts, among {} and {} other calls",
+        pair.walks.len(),
+        pair.other_counts(),
+        pair.first.unwatched_calls(),
+        pair.second.unwatched_calls()
     )
 }
 
 /// A line without its count.
-fn without_count(line: &str) -> &str {
+pub fn without_count(line: &str) -> &str {
     line.rsplit_once(' ').expect("an access's line ends in its count").0
 }
 
 /// Writes both traces, and a row for each watched access: its record in the first and
-/// in the second, and the cacheless walk's line. Which of them are answered differently,
-/// or not by the walk, is given back.
-fn store_pair(
+/// in the second, and the cacheless walk's line.
+pub fn store_pair(
     folder: &Path,
     name: &str,
-    first: &Replayed,
-    second: &Replayed,
+    first: Replayed,
+    second: Replayed,
     heading: &str,
-) -> std::io::Result<Vec<usize>> {
+) -> std::io::Result<Stored> {
     let walks = first.walks();
     assert_eq!(walks, second.walks(), "{name}: the cacheless walks differ");
     let mut text = format!("{heading}\n");
@@ -385,12 +439,68 @@ fn store_pair(
     fs::write(folder.join(format!("{name}_1.trace")), encode(&first.records))?;
     fs::write(folder.join(format!("{name}_2.trace")), encode(&second.records))?;
     fs::write(folder.join(format!("{name}.watched")), text)?;
-    Ok(differ)
+    Ok(Stored { name: name.to_string(), heading: heading.to_string(), first, second, walks, differ })
+}
+
+impl Stored {
+    /// How many watched accesses are answered alike, but with other counts.
+    fn other_counts(&self) -> usize {
+        let lines = self.first.lines().into_iter().zip(self.second.lines());
+        lines.filter(|(one, two)| one != two && without_count(one) == without_count(two)).count()
+    }
+
+    /// What `crates/independence` must write of it, by the original's lines.
+    fn report(&self) -> String {
+        let [one, two] = [&self.first, &self.second].map(Replayed::lines);
+        let mut text = String::new();
+        let mut alike = 0;
+        for (n, walk) in self.walks.iter().enumerate() {
+            let [a, b] = [&one[n], &two[n]].map(|line| without_count(line));
+            alike += usize::from(a == b);
+            if self.differ.contains(&n) {
+                let [first, second] = [self.first.watched[n], self.second.watched[n]];
+                text +=
+                    &format!("{}: records {first} and {second}: {a} and {b}; the cacheless walk: {walk}\n", self.name);
+            }
+        }
+        text += &format!(
+            "{}: {} watched accesses among {} and {} records, {alike} alike, {} the cacheless walk's, {} with other counts\n",
+            self.name,
+            self.walks.len(),
+            self.first.records.len(),
+            self.second.records.len(),
+            self.walks.len() - self.differ.len(),
+            self.other_counts()
+        );
+        if !self.is_steady() {
+            text += &format!("{}: {}\n", self.name, self.heading);
+        }
+        text
+    }
+
+    fn is_steady(&self) -> bool {
+        self.heading == "steady"
+    }
+}
+
+/// Writes the names of the pairs, and what `crates/independence` must write of them all.
+fn store_report(folder: &Path, mut all: Vec<Stored>) -> std::io::Result<()> {
+    all.sort_by(|one, two| one.name.cmp(&two.name));
+    let sum = |steady: bool| {
+        let pairs: Vec<&Stored> = all.iter().filter(|pair| pair.is_steady() == steady).collect();
+        let watched: usize = pairs.iter().map(|pair| pair.walks.len()).sum();
+        let differ: usize = pairs.iter().map(|pair| pair.differ.len()).sum();
+        format!("steady: {} pairs, {watched} watched accesses, {differ} differ\n", pairs.len())
+    };
+    let names: String = all.iter().map(|pair| format!("{}\n", pair.name)).collect();
+    let reports: String = all.iter().map(Stored::report).collect();
+    fs::write(folder.join("args"), names)?;
+    fs::write(folder.join("stdout"), format!("{reports}{}not {}", sum(true), sum(false)))
 }
 
 /// The pair just outside the conditions: in the second replay a page is read, and then
 /// its descriptor is cleared as the guard planner does, without a flush.
-fn stale(folder: &Path) -> std::io::Result<()> {
+fn stale(folder: &Path) -> std::io::Result<Stored> {
     let beside = LOGICAL + 0x1000;
     let mapped = (0x3008, 0x66001);
     let first = Replayed {
@@ -408,7 +518,7 @@ fn stale(folder: &Path) -> std::io::Result<()> {
     };
     let heading =
         "not steady: in the second replay the long at 00003004 is cleared after a call read it, without a flush";
-    let differ = store_pair(folder, "68030_stale", &first, &second, heading)?;
-    assert_eq!(differ, [1], "the stale pair's second watched access alone is stale");
-    Ok(())
+    let pair = store_pair(folder, "68030_stale", first, second, heading)?;
+    assert_eq!(pair.differ, [1], "the stale pair's second watched access alone is stale");
+    Ok(pair)
 }

@@ -1,6 +1,6 @@
 //! Table trees that walks find, planted path by path.
 
-use crate::builder::{Builder, Target};
+use crate::builder::{Builder, CODES, Target};
 use crate::memory::LONGS;
 use crate::trace::Registers;
 
@@ -56,6 +56,24 @@ impl Builder {
         }
         self.sets.push((registers, targets));
         self.current = self.sets.len() - 1;
+    }
+
+    /// Plants the paths of these addresses under registers that have their roots, and sets them.
+    pub fn tree_for(&mut self, registers: &Registers, shape: &Shape, places: &[(u32, u8)]) {
+        let targets = places.iter().filter_map(|&(address, code)| self.path(registers, address, code, shape)).collect();
+        self.set(registers);
+        self.sets.push((registers.clone(), targets));
+        self.current = self.sets.len() - 1;
+    }
+
+    /// Gives the registers new roots.
+    pub fn root(&mut self, registers: &mut Registers, user: bool, supervisor: bool, home: u32) {
+        if user {
+            registers.crp_address = self.root_for(registers, registers.crp_limit, home, CODES[0]);
+        }
+        if supervisor {
+            registers.srp_address = self.root_for(registers, registers.srp_limit, home, CODES[0]);
+        }
     }
 
     /// Mostly anywhere; the first pages share their number under every page size.
