@@ -1,7 +1,7 @@
 -- What a table and an entry write, from an address on. Assumes nothing.
-use Prim.Native.Nat.{ℕ, _+_, _-_, _*_, _^_, _<_, _≤_}
-use mathlib.Core.Path.{_≡_, refl, sym, subst, _∙_}
-use mathlib.Core.List.{List, [], _∷_}
+use Prim.Native.Nat.{ℕ, _+_, _-_, _^_, _<_}
+use mathlib.Core.Path.{_≡_, sym, subst, _∙_}
+use mathlib.Core.List.{List}
 use mathlib.Core.Bool.{Bool, true, false}
 use borrow.Author.Tests.{lt-ltb, leb-true, leb-false}
 use lib.Dec.{leb}
@@ -9,7 +9,7 @@ use lib.ListN.{getD, drop}
 use Rattle.definition.specs.Memory.{Memory}
 use Rattle.definition.specs.Words.{bitOf}
 use Rattle.definition.specs.Walk030.{widthsOf, used}
-use Rattle.definition.specs.List.{gather, seenOf, entryAt, rangesIn, noneLeft, tableRanges, entryRanges, rootTable, codeEntry, treeRanges, endOf, rangesFrom}
+use Rattle.definition.specs.List.{seenOf, entryAt, noneLeft, tableRanges, entryRanges, rootTable, codeEntry, treeRanges, endOf, rangesFrom}
 use Rattle.definition.specs.declared.Root.{Root}
 use Rattle.definition.specs.declared.Mapped.{Mapped}
 use Rattle.definition.specs.declared.Node.{Node}

@@ -26,18 +26,6 @@ holds a e = rw e tt
 pub fails : (a : Bool) → a ≡ false → T (not a)
 fails a e = rw e tt
 
--- a target by what the code was given of its descriptor
-pub target-lost : (e : Node) (d : Read) (r : Mapped) {at asked : ℕ} → d ≡ given.Lost at asked → r ≡ lostAt e → One r ≡ targetBy e d
-target-lost e d r h q = rw (h, q)
-
-pub target-page : (e : Node) (d : Read) (r : Mapped) {kind field asked : ℕ} {wp sup : Bool} → d ≡ given.Whole kind field wp sup asked → kind ≡ 1
-    → r ≡ pageAt e field wp sup → One r ≡ targetBy e d
-target-page e d r h k q = rw (h, k, q)
-
-pub target-nothing : (e : Node) (d : Read) {kind field asked : ℕ} {wp sup : Bool} → d ≡ given.Whole kind field wp sup asked → (kind ≡ 1 → ⊥)
-    → Nothing ≡ targetBy e d
-target-nothing e d {kind} h n = rw (h, ne-eqb kind 1 n)
-
 -- a target is what its descriptor says
 target-is : (e : Node) (d : Descriptor) → targetBy e (shownRead d) ≡ seenTarget e d
 target-is e (Lost at asked) = refl

@@ -1,20 +1,17 @@
 -- Writing ranges one by one, in a row, from an address on, and up to the room there is. Assumes nothing.
-use Prim.Native.Nat.{ℕ, zero, suc, _+_, _-_, _*_, _/_, _%_, _^_, _<_, _≤_}
+use Prim.Native.Nat.{ℕ, zero, suc, _+_, _-_, _<_, _≤_}
 use mathlib.Core.Path.{_≡_, refl, sym, ap, _∙_}
 use mathlib.Core.List.{List, [], _∷_, _++_, map, append-nil}
 use mathlib.Core.Bool.{Bool, true, false}
 use native.Mathlib.Omega.{arith}
 use native.Mathlib.Numerals.{add-one}
-use native.Mathlib.Nat.{le-of-lt}
-use native.Mathlib.Decide.{decLe}
 use borrow.Author.Tests.{lt-ltb, le-ltb}
 use lib.Dec.{ltb}
-use lib.ListN.{length, getD, set, take, drop, length-drop, length-set, length-map, take-append-drop, drop-of-length-le}
-use lib.Seq.{drop-cons, length-take-le, take-suc-set, drop-set-lt, append-snoc, take-all, drop-length}
+use lib.ListN.{length, set, take, drop, length-drop, length-set, length-map, take-append-drop}
+use lib.Seq.{length-take-le, take-suc-set, drop-set-lt, append-snoc, drop-length}
 use Rattle.definition.specs.Words.{if_then_else_}
-use Rattle.definition.specs.List.{gather, endOf, rangesFrom, stopping, roomFor}
+use Rattle.definition.specs.List.{gather, endOf, rangesFrom, roomFor}
 use Rattle.definition.specs.declared.Mapped.{Mapped}
-use Rattle.definition.specs.declared.Listed.{Listed}
 use Rattle.list.specs.Numbers.{numberOf, ListedTo}
 use Rattle.list.specs.Writing.{Written, written, begun, put, puts, answerOf}
 use Rattle.list.specs.declared.writing.Progress.{Progress}

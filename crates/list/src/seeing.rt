@@ -63,7 +63,7 @@ fn table_at(e: Node, kind: u32, field: u32, wp: bool, sup: bool) -> Node
 }
 
 // The target of an indirect descriptor must be a page.
-fn target(e: Node, d: Descriptor) -> Seen
+fn at_target(e: Node, d: Descriptor) -> Seen
     ensures { λ r. ⌜ r ≡ targetBy e d ⌝ }
 {
     match d {
@@ -102,7 +102,7 @@ pub fn look(longs: &[u32], base: u32, ranges: &[u32], last: bool, e: Node) -> Se
                 if last {
                     let to = target_of(field);
                     let d = read(longs, base, ranges, to, kind == 3);
-                    return target(e, d);
+                    return at_target(e, d);
                 }
                 Seen::Opens(table_at(e, kind, field, wp, sup))
             }

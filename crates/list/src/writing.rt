@@ -66,7 +66,8 @@ pub fn put(out: &mut [u64], s: Progress, x: Mapped) -> Progress
 pub fn answer(s: Progress) -> Listed
     ensures { λ r. ⌜ r ≡ answerOf s ⌝ }
 {
-    if s.full {
+    let full = s.full;
+    if full {
         return Listed::More {
             count: s.count,
             next: s.next,

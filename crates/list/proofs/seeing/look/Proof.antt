@@ -25,11 +25,11 @@ target-of-requires c κs = search needs
 read-requires-2 : tie.Need-read-requires-2
 read-requires-2 c κs = search needs
 
-target-requires : tie.Need-target-requires
-target-requires c κs = search needs
+at-target-requires : tie.Need-at-target-requires
+at-target-requires c κs = search needs
 
 returns : tie.Need-returns
-returns c = law.target _ _ _ _ (c .before .before .before .before .before .before .before .before .read .ensures) _ _ _ _ _ (c .before .before .before .before .before .before .kind .given .1) (c .before .before .before .before .match2 .rest .0 .1) (c .before .before .before .before .match2 .rest .1) _ _ _ (c .before .before .before .if1 .taken) (c .before .before .target-of .ensures) (c .before .read2 .ensures) (c .target .ensures)
+returns c = law.target _ _ _ _ (c .before .before .before .before .before .before .before .before .read .ensures) _ _ _ _ _ (c .before .before .before .before .before .before .kind .given .1) (c .before .before .before .before .match2 .rest .0 .1) (c .before .before .before .before .match2 .rest .1) _ _ _ (c .before .before .before .if1 .taken) (c .before .before .target-of .ensures) (c .before .read2 .ensures) (c .at-target .ensures)
 
 table-at-requires : tie.Need-table-at-requires
 table-at-requires c κs = search needs
@@ -47,4 +47,4 @@ returns-5 : tie.Need-returns-5
 returns-5 c = law.table _ _ _ _ (c .before .before .before .before .before .before .read .ensures) _ _ _ _ _ (c .before .before .before .before .kind .given .1) (c .before .before .match2 .rest .0 .1) (c .before .before .match2 .rest .1) _ (c .before .if1 .left) (c .table-at .ensures)
 
 pub look-spec : {M : Type 1} → statement M
-look-spec = tie.close (tie.spec read-requires enum-told lost-at-requires enum-known-kind page-at-requires target-of-requires read-requires-2 target-requires returns table-at-requires returns-2 returns-3 returns-4 returns-5)
+look-spec = tie.close (tie.spec read-requires enum-told lost-at-requires enum-known-kind page-at-requires target-of-requires read-requires-2 at-target-requires returns table-at-requires returns-2 returns-3 returns-4 returns-5)
