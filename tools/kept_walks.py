@@ -41,7 +41,13 @@ def walked_040(facts, firsts):
     return f'{facts("walk")} ∙ ap (λ (l : List Range). shown040 (walk040 (memory (now x1) x2 l) x5 x6 x7)) ({firsts})'
 
 
+# of the ranges alone
+def searched(facts, firsts):
+    return f'{facts("any_crossed")} ∙ ap (λ (l : List Range). anyOf crossed l) ({firsts})'
+
+
 FUNCTIONS = {
+    'any_crossed': kept(1, 2, searched),
     'translate': kept(5, 6, translated),
     'load': kept(4, 5, loaded),
     'test': kept(3, 4, tested),

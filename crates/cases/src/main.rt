@@ -197,7 +197,6 @@ fn every_record(
             &mut c040,
             &mut longs,
             kept,
-            false,
             &records[at..],
             &mut line,
         );

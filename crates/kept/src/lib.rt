@@ -6,13 +6,16 @@ use definition::Access;
 use definition::Range;
 use definition::Registers;
 use load::LoadOutcome;
+use memory::ranges;
 use test::TestOutcome;
 use translate::Outcome;
 use walk030::Walked;
 use walk040::Walked040;
 ghost use mathlib.Core.Path.{_≡_};
 ghost use lib.ListN.{take};
+ghost use Rattle.definition.specs.Words.{anyOf};
 ghost use Rattle.definition.specs.Memory.{memory};
+ghost use Rattle.definition.specs.Refusal.{crossed};
 ghost use Rattle.definition.specs.Cache040.{Cache040};
 ghost use Rattle.definition.specs.Walk030.{walk030};
 ghost use Rattle.definition.specs.Walk040.{walk040};
@@ -34,6 +37,14 @@ pub fn of_sixteen(n: usize) -> usize
         return n;
     }
     16
+}
+
+// Whether one of the first `n` of the kept ranges is crossed: check 3.
+pub fn any_crossed(list: [Range; 16], n: usize) -> bool
+    ensures { λ r. ⌜ r ≡ anyOf crossed (take n list) ⌝ }
+{
+    let m = of_sixteen(n);
+    ranges::any_crossed(&list[..m])
 }
 
 // Translate with the first `n` of the kept ranges.

@@ -16,6 +16,9 @@ use Rattle.definition.specs.declared.Registers.{Registers}
 use Rattle.trace.specs.Lines.{lineIn, Wrote}
 use Rattle.trace.specs.declared.Line.{Line}
 use Rattle.cache.specs.Pair.{cachesOf}
+use Rattle.translate.specs.Stages.{translateGiven}
+use Rattle.load.specs.Loaded.{loadGiven}
+use Rattle.test.specs.Tested.{testGiven}
 use Rattle.replay.specs.declared.Kept.{Kept}
 use Rattle.replay.specs.declared.run.Whole.{Whole}
 use Rattle.replay.specs.declared.run.Whole.the-variants as whole
@@ -35,10 +38,21 @@ pub record CalledIn (c : calls.Called) (l : Line) (c030 c040 : List ℕ) : Type 
   pub prints : lineIn l ≡ c .line
   pub leaves : cachesOf c030 c040 ≡ c .caches
 
+-- a call with what the caller says of check 3, that a range is crossed; with the true word it is the call (`given-calling`)
+unfoldable pub callingGiven : Bool → Registers → Memory → Caches → calls.Call → calls.Called
+callingGiven crossed g m c (calls.access a) = calls.ofTranslated (translateGiven crossed g a m c)
+callingGiven crossed g m c (calls.loading code write address) = calls.ofLoaded (loadGiven crossed g code write address m c)
+callingGiven crossed g m c (calls.testing code write level address) = calls.ofTested c (testGiven crossed g code write level address m)
+callingGiven crossed g m c (calls.probing own instruction write address) = calls.calling g m c (calls.probing own instruction write address)
+callingGiven crossed g m c calls.flushingAll = calls.calling g m c calls.flushingAll
+callingGiven crossed g m c (calls.flushingCode code mask) = calls.calling g m c (calls.flushingCode code mask)
+callingGiven crossed g m c (calls.flushingPage code mask address) = calls.calling g m c (calls.flushingPage code mask address)
+callingGiven crossed g m c (calls.flushingFrame frame) = calls.calling g m c (calls.flushingFrame frame)
+
 -- a PTEST's line, whatever the caches are, which stay
-pub record Tests (g : Registers) (m : Memory) (code : ℕ) (write : Bool) (level address : ℕ) (l : Line) : Type 0 where
-  pub prints : (c : Caches) → lineIn l ≡ calls.calling g m c (calls.testing code write level address) .line
-  pub leaves : (c : Caches) → c ≡ calls.calling g m c (calls.testing code write level address) .caches
+pub record Tests (crossed : Bool) (g : Registers) (m : Memory) (code : ℕ) (write : Bool) (level address : ℕ) (l : Line) : Type 0 where
+  pub prints : (c : Caches) → lineIn l ≡ callingGiven crossed g m c (calls.testing code write level address) .line
+  pub leaves : (c : Caches) → c ≡ callingGiven crossed g m c (calls.testing code write level address) .caches
 
 -- a store's line, with the longs after it
 pub record StoredIn (longs : List ℕ) (address value : ℕ) (l : Line) (longs′ : List ℕ) : Type 0 where

@@ -14,14 +14,12 @@ use trace::Call;
 use trace::Line;
 ghost use mathlib.Core.Path.{_≡_};
 ghost use lib.ListN.{take};
-ghost use Rattle.definition.specs.Words.{anyOf};
 ghost use Rattle.definition.specs.Memory.{memory};
-ghost use Rattle.definition.specs.Refusal.{crossed};
-ghost use Rattle.definition.specs.Calls.{access, loading, testing, probing, flushingAll, flushingCode, flushingPage, flushingFrame, translationLine, loadLine, testLine, probeLine, flushLine, calling};
+ghost use Rattle.definition.specs.Calls.{access, loading, testing, probing, flushingAll, flushingCode, flushingPage, flushingFrame, translationLine, loadLine, testLine, probeLine, flushLine};
 ghost use Rattle.trace.specs.Lines.{lineIn};
 ghost use Rattle.trace.specs.Records.{callIn};
 ghost use Rattle.cache.specs.Pair.{cachesOf};
-ghost use Rattle.replay.specs.Playing.{rangesOf, CalledIn, Tests};
+ghost use Rattle.replay.specs.Playing.{rangesOf, callingGiven, CalledIn, Tests};
 
 // A address count, or F kind cause address count.
 fn translation_line(answer: Translation, count: u32) -> Line
@@ -88,20 +86,20 @@ fn flush_line(answer: Flush) -> Line
     }
 }
 
-// An access. `three` says whether one of the ranges is crossed.
-fn access_line(
+// An access. `crossed` is what the caller says of check 3: whether one of the ranges is crossed.
+pub fn access_line(
     c030: &mut Atc030,
     c040: &mut Atc040,
     longs: &[u32],
     list: [Range; 16],
     n: usize,
-    three: bool,
+    crossed: bool,
     g: Registers,
     a: Access,
 ) -> Line
-    ensures { λ r. ⌜ (three ≡ anyOf crossed (take n list) → CalledIn (calling g (memory (now (longs .entry)) 0 (take n list)) (cachesOf (now (c030 .entry)) (now (c040 .entry))) (access a)) r (now (c030 .exit)) (now (c040 .exit))) ⌝ }
+    ensures { λ r. ⌜ CalledIn (callingGiven crossed g (memory (now (longs .entry)) 0 (take n list)) (cachesOf (now (c030 .entry)) (now (c040 .entry))) (access a)) r (now (c030 .exit)) (now (c040 .exit)) ⌝ }
 {
-    let o = kept::translate(c030, c040, longs, 0, list, n, three, g, a);
+    let o = kept::translate(c030, c040, longs, 0, list, n, crossed, g, a);
     let answer = o.answer;
     translation_line(answer, o.count)
 }
@@ -113,15 +111,15 @@ fn load_call(
     longs: &[u32],
     list: [Range; 16],
     n: usize,
-    three: bool,
+    crossed: bool,
     g: Registers,
     code: u32,
     write: bool,
     address: u32,
 ) -> Line
-    ensures { λ r. ⌜ (three ≡ anyOf crossed (take n list) → CalledIn (calling g (memory (now (longs .entry)) 0 (take n list)) (cachesOf (now (c030 .entry)) (now (c040 .entry))) (loading code write address)) r (now (c030 .exit)) (now (c040 .entry))) ⌝ }
+    ensures { λ r. ⌜ CalledIn (callingGiven crossed g (memory (now (longs .entry)) 0 (take n list)) (cachesOf (now (c030 .entry)) (now (c040 .entry))) (loading code write address)) r (now (c030 .exit)) (now (c040 .entry)) ⌝ }
 {
-    let o = kept::load(c030, longs, 0, list, n, three, g, code, write, address);
+    let o = kept::load(c030, longs, 0, list, n, crossed, g, code, write, address);
     let answer = o.answer;
     load_line(answer, o.count)
 }
@@ -131,47 +129,46 @@ fn test_call(
     longs: &[u32],
     list: [Range; 16],
     n: usize,
-    three: bool,
+    crossed: bool,
     g: Registers,
     code: u32,
     write: bool,
     level: u32,
     address: u32,
 ) -> Line
-    ensures { λ r. ⌜ (three ≡ anyOf crossed (take n list) → Tests g (memory (now (longs .entry)) 0 (take n list)) code write level address r) ⌝ }
+    ensures { λ r. ⌜ Tests crossed g (memory (now (longs .entry)) 0 (take n list)) code write level address r ⌝ }
 {
-    let o = kept::test(longs, 0, list, n, three, g, code, write, level, address);
+    let o = kept::test(longs, 0, list, n, crossed, g, code, write, level, address);
     let answer = o.answer;
     test_line(answer, o.count)
 }
 
-// Makes a call: its line. `three` says whether one of the ranges is crossed.
+// Makes a call that is no access: its line. `crossed` is what the caller says of check 3.
 pub fn make(
     c030: &mut Atc030,
     c040: &mut Atc040,
     longs: &[u32],
     kept: Kept,
-    three: bool,
+    crossed: bool,
     call: Call,
 ) -> Line
-    ensures { λ r. ⌜ (three ≡ anyOf crossed (rangesOf kept) → CalledIn (calling (kept .registers) (memory (now (longs .entry)) 0 (rangesOf kept)) (cachesOf (now (c030 .entry)) (now (c040 .entry))) (callIn call)) r (now (c030 .exit)) (now (c040 .exit))) ⌝ }
+    ensures { λ r. ⌜ CalledIn (callingGiven crossed (kept .registers) (memory (now (longs .entry)) 0 (rangesOf kept)) (cachesOf (now (c030 .entry)) (now (c040 .entry))) (callIn call)) r (now (c030 .exit)) (now (c040 .exit)) ⌝ }
 {
     let g = kept.registers;
     let list = kept.list;
     let n = kept.n;
     match call {
-        Call::Access(a) => access_line(c030, c040, longs, list, n, three, g, a),
         Call::Load {
             code,
             write,
             address,
-        } => load_call(c030, c040, longs, list, n, three, g, code, write, address),
+        } => load_call(c030, c040, longs, list, n, crossed, g, code, write, address),
         Call::Test {
             code,
             write,
             level,
             address,
-        } => test_call(longs, list, n, three, g, code, write, level, address),
+        } => test_call(longs, list, n, crossed, g, code, write, level, address),
         Call::FlushAll => {
             let answer = flush::flush_all_in(c030, c040);
             flush_line(answer)

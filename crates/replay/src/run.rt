@@ -5,6 +5,7 @@ use crate::settings;
 use cache::atc030::Atc030;
 use cache::atc040::Atc040;
 use trace::Record;
+use trace::Seen;
 ghost use mathlib.Core.Path.{_≡_};
 ghost use Prim.Native.Nat.{_≤_};
 ghost use lib.ListN.{length};
@@ -53,19 +54,20 @@ fn front(input: &[u8], at: usize) -> Whole
     }
 }
 
-// Plays the whole records of `input` from its start on, with a line of `out` for each. `three` says whether one of the ranges
-// is crossed; no record changes that.
+// Plays the whole records of `input` from its start on, with a line of `out` for each. Whether one of the ranges is crossed is asked once:
+// no record changes that.
 pub fn run(
     c030: &mut Atc030,
     c040: &mut Atc040,
     longs: &mut [u32],
     kept: Kept,
-    three: bool,
     input: &[u8],
     out: &mut [u8],
 ) -> Ran
-    ensures { λ r. ⌜ (three ≡ anyOf crossed (rangesOf kept) → RanIn (stateOf kept (now (longs .entry)) (now (c030 .entry)) (now (c040 .entry))) (now (input .entry)) (now (out .entry)) (stateOf (r .kept) (now (longs .exit)) (now (c030 .exit)) (now (c040 .exit))) (r .read) (now (out .exit)) (r .wrote) (r .why)) × (anyOf crossed (rangesOf (r .kept)) ≡ anyOf crossed (rangesOf kept)) ⌝ }
+    ensures { λ r. ⌜ (RanIn (stateOf kept (now (longs .entry)) (now (c030 .entry)) (now (c040 .entry))) (now (input .entry)) (now (out .entry)) (stateOf (r .kept) (now (longs .exit)) (now (c030 .exit)) (now (c040 .exit))) (r .read) (now (out .exit)) (r .wrote) (r .why)) × (anyOf crossed (rangesOf (r .kept)) ≡ anyOf crossed (rangesOf kept)) ⌝ }
 {
+    let list = kept.list;
+    let crossed = kept::any_crossed(list, kept.n);
     let mut now = kept;
     let mut read: usize = 0;
     let mut wrote: usize = 0;
@@ -88,24 +90,43 @@ pub fn run(
                 };
             }
             Whole::Body { start, end } => {
-                match trace::decode(&input[start..end]) {
-                    Record::Malformed => {
-                        return Ran {
-                            kept: now,
-                            read,
-                            wrote,
-                            why: Why::Malformed,
-                        };
-                    }
-                    Record::Set(setting) => {
-                        let s = settings::set(longs, now, setting);
-                        now = s.kept;
-                        let line = s.line;
+                match trace::look(&input[start..end]) {
+                    Seen::Access(a) => {
+                        let g = now.registers;
+                        let list = now.list;
+                        let line = calls::access_line(
+                            c030,
+                            c040,
+                            longs,
+                            list,
+                            now.n,
+                            crossed,
+                            g,
+                            a,
+                        );
                         wrote = trace::put_line(out, wrote, line);
                     }
-                    Record::Call(call) => {
-                        let line = calls::make(c030, c040, longs, now, three, call);
-                        wrote = trace::put_line(out, wrote, line);
+                    Seen::Other => {
+                        match trace::decode(&input[start..end]) {
+                            Record::Malformed => {
+                                return Ran {
+                                    kept: now,
+                                    read,
+                                    wrote,
+                                    why: Why::Malformed,
+                                };
+                            }
+                            Record::Set(setting) => {
+                                let s = settings::set(longs, now, setting);
+                                now = s.kept;
+                                let line = s.line;
+                                wrote = trace::put_line(out, wrote, line);
+                            }
+                            Record::Call(call) => {
+                                let line = calls::make(c030, c040, longs, now, crossed, call);
+                                wrote = trace::put_line(out, wrote, line);
+                            }
+                        }
                     }
                 }
                 read = end;

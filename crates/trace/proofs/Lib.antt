@@ -2,3 +2,4 @@ pub mod Shapes
 pub mod Writes
 pub mod Digits
 pub mod Texts
+pub mod Seeing

@@ -1,6 +1,8 @@
 -- What the code's record means: the definition's record, case by case.
 use Rattle.definition.specs.Calls as calls
 use Rattle.definition.specs.Trace as trace
+use Rattle.trace.specs.declared.Seen.{Seen}
+use Rattle.trace.specs.declared.Seen.the-variants as seen
 use Rattle.trace.specs.declared.Call.{Call}
 use Rattle.trace.specs.declared.Call.the-variants as call
 use Rattle.trace.specs.declared.Setting.{Setting}
@@ -8,9 +10,34 @@ use Rattle.trace.specs.declared.Setting.the-variants as setting
 use Rattle.trace.specs.declared.Record.{Record}
 use Rattle.trace.specs.declared.Record.the-variants as record′
 
--- what a call is
+-- the access that a record is, if it is one
+abbrev pub seenCall : calls.Call → Seen
+seenCall (calls.access a) = Seen.Access a
+seenCall (calls.loading code write address) = Seen.Other
+seenCall (calls.testing code write level address) = Seen.Other
+seenCall (calls.probing own instruction write address) = Seen.Other
+seenCall calls.flushingAll = Seen.Other
+seenCall (calls.flushingCode code mask) = Seen.Other
+seenCall (calls.flushingPage code mask address) = Seen.Other
+seenCall (calls.flushingFrame frame) = Seen.Other
+
+abbrev pub seenOf : trace.Record → Seen
+seenOf (trace.Calls c) = seenCall c
+seenOf (trace.Loads g) = Seen.Other
+seenOf (trace.Stores address value) = Seen.Other
+seenOf (trace.Adds range) = Seen.Other
+seenOf trace.Malformed = Seen.Other
+
+-- a record that is no access; an access is malformed
+abbrev pub otherBy : Seen → trace.Record → trace.Record
+otherBy (seen.Access a) x = trace.Malformed
+otherBy seen.Other x = x
+
+abbrev pub otherOf : trace.Record → trace.Record
+otherOf x = otherBy (seenOf x) x
+
+-- what a call is that is no access
 abbrev pub callIn : Call → calls.Call
-callIn (call.Access a) = calls.access a
 callIn (call.Load code write address) = calls.loading code write address
 callIn (call.Test code write level address) = calls.testing code write level address
 callIn call.FlushAll = calls.flushingAll

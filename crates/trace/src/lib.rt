@@ -11,12 +11,17 @@ ghost use lib.Dec.{ltb};
 ghost use lib.ListN.{length, getD};
 ghost use Rattle.definition.specs.Words.{bitOf};
 ghost use Rattle.definition.specs.Trace.{be, overrideOf, kind01, kind02, kind03, kind04, kind05, kind06, kind07, kind08, kind0B, byTraceKind, recordOf, hexDigit, hex, digit, decimal, spaced, newline, text, ending, opening};
-ghost use Rattle.trace.specs.Records.{recordIn};
+ghost use Rattle.trace.specs.Records.{seenOf, otherOf, recordIn};
 ghost use Rattle.trace.specs.Lines.{lineIn, Wrote, RoomFor, Put};
 
-// A call that a record makes.
-pub enum Call {
+// An access, or another record.
+pub enum Seen {
     Access(Access),
+    Other,
+}
+
+// A call that a record makes which is no access.
+pub enum Call {
     Load {
         code: u32,
         write: bool,
@@ -158,17 +163,17 @@ fn override_of(n: u32) -> Override
 }
 
 // 02: flags (0 write, 1 supervisor, 2 instruction, 3 CPU state, 4 record), override or FF, address.
-fn access_of(b: &[u8]) -> Record
-    ensures { λ r. ⌜ recordIn r ≡ kind02 (now (b .entry)) ⌝ }
+fn access_of(b: &[u8]) -> Seen
+    ensures { λ r. ⌜ r ≡ seenOf (kind02 (now (b .entry))) ⌝ }
 {
     if b.len() != 6 {
-        return Record::Malformed;
+        return Seen::Other;
     }
     let flags = byte_at(b, 0);
     if flags >= 32 {
-        return Record::Malformed;
+        return Seen::Other;
     }
-    Record::Call(Call::Access(Access {
+    Seen::Access(Access {
         address: long_at(b, 2),
         write: flag(flags, 0),
         supervisor: flag(flags, 1),
@@ -176,7 +181,7 @@ fn access_of(b: &[u8]) -> Record
         own: flag(flags, 3),
         code: override_of(byte_at(b, 1)),
         recorded: flag(flags, 4),
-    }))
+    })
 }
 
 // Whether a write byte is 0 or 1.
@@ -337,9 +342,23 @@ fn probe_of(b: &[u8]) -> Record
     })
 }
 
-// One record's body, kind first.
+// The access that a body is, kind first, if it is one. Most records are: it is asked before all else, and an access is never a part of a `Record`,
+// whose variants share their bytes.
+pub fn look(body: &[u8]) -> Seen
+    ensures { λ r. ⌜ r ≡ seenOf (recordOf (now (body .entry))) ⌝ }
+{
+    if body.len() == 0 {
+        return Seen::Other;
+    }
+    if byte_at(body, 0) == 2 {
+        return access_of(&body[1..]);
+    }
+    Seen::Other
+}
+
+// One record's body that is no access; an access is malformed here.
 pub fn decode(body: &[u8]) -> Record
-    ensures { λ r. ⌜ recordIn r ≡ recordOf (now (body .entry)) ⌝ }
+    ensures { λ r. ⌜ recordIn r ≡ otherOf (recordOf (now (body .entry))) ⌝ }
 {
     if body.len() == 0 {
         return Record::Malformed;
@@ -348,7 +367,7 @@ pub fn decode(body: &[u8]) -> Record
     let b = &body[1..];
     match kind {
         1 => registers_of(b),
-        2 => access_of(b),
+        2 => Record::Malformed,
         3..=4 => search_of(kind, b),
         5..=8 => flush_of(kind, b),
         9..=10 => longs_of(kind, b),
@@ -413,6 +432,9 @@ fn put_number(out: &mut [u8], at: usize, n: u32) -> usize
     ensures { λ r. ⌜ Wrote 11 (now (out .entry)) at (spaced (decimal n)) (now (out .exit)) r ⌝ }
 {
     let from = put_byte(out, at, b' ');
+    if n < 10 {
+        return put_byte(out, from, decimal_digit(n));
+    }
     put_decimal(out, from, n)
 }
 

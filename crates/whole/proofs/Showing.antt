@@ -10,8 +10,6 @@ use native.Mathlib.Nat.{min-eq-right}
 use borrow.Author.Tests.{ne-eqb, eq-eqb}
 use lib.ListN.{length, getD, take, drop, replicate, length-append, length-take, length-drop}
 use lib.Seq.{length-take-le, take-append-le, take-append-add, take-all}
-use Rattle.definition.specs.Words.{anyOf}
-use Rattle.definition.specs.Refusal.{crossed}
 use Rattle.definition.specs.Trace.{State, Short, Ended, frontOf, firstRegisters, firstState, playFrom, opening, play}
 use Rattle.definition.proofs.Files.{not-ended, plays-bad, plays-short, plays-ended}
 use Rattle.trace.specs.Lines.{Wrote, Put}
@@ -19,7 +17,7 @@ use Rattle.trace.proofs.Writes.{next-near, same-length, front}
 use Rattle.cache.specs.Packed.{part}
 use Rattle.cache.specs.Atc030.{entriesOf, cacheOf}
 use Rattle.cache.specs.Atc040.{slotsOf, cache040Of}
-use Rattle.replay.specs.Playing.{rangesOf, stateOf, Bad, RanIn}
+use Rattle.replay.specs.Playing.{stateOf, Bad, RanIn}
 use Rattle.replay.specs.declared.Kept.{Kept}
 use Rattle.replay.proofs.Running.{runs-play}
 use Rattle.replay.specs.declared.run.Why.{Why}
@@ -78,11 +76,10 @@ unfolding part entriesOf cacheOf slotsOf cache040Of
 started k e f = rw (e, f)
 
 pub from-start : (k : Kept) → (k .registers ≡ firstRegisters) × (k .n ≡ 0) → {b out out′ : List ℕ} {s′ : State} {read wrote : ℕ} {w : Why}
-    → (false ≡ anyOf crossed (rangesOf k) → RanIn (stateOf k (replicate 8192 0) (replicate 69 0) (replicate 128 0)) b out s′ read out′ wrote w)
+    → RanIn (stateOf k (replicate 8192 0) (replicate 69 0) (replicate 128 0)) b out s′ read out′ wrote w
     → RanIn firstState b out s′ read out′ wrote w
-unfolding anyOf
 from-start k (e, f) {b} {out} {out′} {s′} {read} {wrote} {w} h =
-    subst (λ (s : State). RanIn s b out s′ read out′ wrote w) (started k e f) (h (rw f))
+    subst (λ (s : State). RanIn s b out s′ read out′ wrote w) (started k e f) h
 
 -- ---- the version
 pub play-empty : (b : List ℕ) → length b ≡ 0 → play b ≡ refused

@@ -58,7 +58,6 @@ fn play_records(bytes: &[u8], out: &mut [u8]) -> Played
         &mut c040,
         &mut longs,
         replay::first(),
-        false,
         bytes,
         out,
     );

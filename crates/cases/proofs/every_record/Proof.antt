@@ -55,7 +55,7 @@ run-requires c κs = search needs
 add-at : tie.Need-add-at Inv-loop μ-loop
 add-at c =
     let l = c .before .before .before .before .before .before .before .before .before .before .loop in
-    let ran = c .before .before .before .run .ensures .0 (sym (l .inv .1)) in
+    let ran = c .before .before .before .run .ensures .0 in
     omega (arith, within (c .before .before .before .before .before .before .before .before .before .before .before .before .before .before .before .args .records .now) (l .at) (c .before .before .before .run .result .read) (l .inv .0) (ran .going .reads), c .before .before .before .before .before .before .before .before .before .before .before .before .before .before .before .good .1 .1 .0 .0)
 
 enum-told : tie.Need-enum-told Inv-loop μ-loop
@@ -73,7 +73,7 @@ enum-told-2 c = search needs
 sub-finished : tie.Need-sub-finished Inv-loop μ-loop
 sub-finished c =
     let l = c .before .before .before .before .before .before .before .before .before .before .before .before .loop in
-    within (c .before .before .before .before .before .before .before .before .before .before .before .before .before .before .before .before .before .args .records .now) (l .at) (c .before .before .before .before .before .run .result .read) (l .inv .0) (c .before .before .before .before .before .run .ensures .0 (sym (l .inv .1)) .going .reads)
+    within (c .before .before .before .before .before .before .before .before .before .before .before .before .before .before .before .before .before .args .records .now) (l .at) (c .before .before .before .before .before .run .result .read) (l .inv .0) (c .before .before .before .before .before .run .ensures .0 .going .reads)
 
 finished-requires : tie.Need-finished-requires Inv-loop μ-loop
 finished-requires c κs = search needs

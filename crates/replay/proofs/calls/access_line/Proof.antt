@@ -10,7 +10,7 @@ translation-line-requires : tie.Need-translation-line-requires
 translation-line-requires c κs = search needs
 
 returns : tie.Need-returns
-returns c = λ h. law.of-translate _ _ _ _ (law.true-translate _ _ _ _ h (c .before .translate .ensures)) (c .translation-line .ensures)
+returns c = law.of-translate _ _ _ _ _ (c .before .translate .ensures) (c .translation-line .ensures)
 
 pub access-line-spec : {M : Type 1} → statement M
 access-line-spec = tie.close (tie.spec translate-requires translation-line-requires returns)

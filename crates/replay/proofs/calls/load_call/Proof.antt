@@ -11,7 +11,7 @@ load-line-requires : tie.Need-load-line-requires
 load-line-requires c κs = search needs
 
 returns : tie.Need-returns
-returns c = λ h. law.of-load _ _ _ _ _ _ _ refl (law.true-load _ _ _ _ _ _ h (c .before .load .ensures _)) (c .load-line .ensures)
+returns c = law.of-load _ _ _ _ _ _ _ _ refl (c .before .load .ensures _) (c .load-line .ensures)
 
 pub load-call-spec : {M : Type 1} → statement M
 load-call-spec = tie.close (tie.spec load-requires load-line-requires returns)

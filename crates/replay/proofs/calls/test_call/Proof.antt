@@ -10,7 +10,7 @@ test-line-requires : tie.Need-test-line-requires
 test-line-requires c κs = search needs
 
 returns : tie.Need-returns
-returns c = λ h. law.of-test _ _ _ _ _ _ (law.true-test _ _ _ _ _ _ h (c .before .test .ensures)) (c .test-line .ensures)
+returns c = law.of-test _ _ _ _ _ _ _ (c .before .test .ensures) (c .test-line .ensures)
 
 pub test-call-spec : {M : Type 1} → statement M
 test-call-spec = tie.close (tie.spec test-requires test-line-requires returns)
