@@ -23,6 +23,11 @@ pub fn longs(pages: u32) -> impl Iterator<Item = (u32, u32)> {
     root.into_iter().chain(pointers).chain(pages)
 }
 
+/// First and last address of each bus-error range: no table lies in one.
+pub fn ranges(count: u32) -> impl Iterator<Item = (u32, u32)> {
+    (0..count).map(|range| (0x0010_0000 + 0x100 * range, 0x0010_007F + 0x100 * range))
+}
+
 /// Address of each access, and whether it writes: any page, any offset, one write in four.
 pub fn accesses(pages: u32, count: u32) -> impl Iterator<Item = (u32, bool)> {
     let mut x: u64 = 12_345;

@@ -1,5 +1,5 @@
-//! Writes the four benchmark traces into a folder: a million recorded accesses over
-//! 16 and over 4,000 pages, for families 30 and 40. `traces FOLDER`
+//! Writes the benchmark traces into a folder: a million recorded accesses over 16 and over
+//! 4,000 pages, for families 30 and 40, without a range and with 16. `traces FOLDER`
 
 #[path = "../pages.rs"]
 mod pages;
@@ -29,19 +29,22 @@ fn all(folder: &Path) -> io::Result<()> {
     fs::create_dir_all(folder)?;
     for family in [30, 40] {
         for pages in [16, 4000] {
-            let file = File::create(folder.join(format!("family{family}_{pages}_pages.trace")))?;
-            let mut out = BufWriter::new(file);
-            write_trace(&mut out, family, pages)?;
-            out.flush()?;
+            for (ranges, name) in [(0, ""), (16, "_16_ranges")] {
+                let file = File::create(folder.join(format!("family{family}_{pages}_pages{name}.trace")))?;
+                let mut out = BufWriter::new(file);
+                write_trace(&mut out, family, pages, ranges)?;
+                out.flush()?;
+            }
         }
     }
     Ok(())
 }
 
-fn write_trace(out: &mut impl Write, family: u8, pages: u32) -> io::Result<()> {
+fn write_trace(out: &mut impl Write, family: u8, pages: u32, ranges: u32) -> io::Result<()> {
     out.write_all(&[1])?;
     registers(out, family)?;
     tables(out, pages)?;
+    pages::ranges(ranges).try_for_each(|(first, last)| record(out, &[0x0A], &[first, last]))?;
     accesses(out, pages)
 }
 
