@@ -4,10 +4,9 @@
 use mathlib.Core.Path.{_≡_, refl, ap, sym, subst, _∙_}
 use mathlib.Core.List.{List, [], _∷_, _++_, map}
 use mathlib.Core.Bool.{true, false, not}
-use Rattle.definition.specs.Words.{allOf}
 use Rattle.definition.specs.Memory.{Memory}
-use Rattle.definition.specs.Cache030.{Entry, Cache030, flushedAll}
-use Rattle.definition.specs.Cache040.{Slot, Cache040, flushedAll040}
+use Rattle.definition.specs.Cache030.{Entry, flushedAll}
+use Rattle.definition.specs.Cache040.{Slot, flushedAll040}
 use Rattle.definition.specs.Refusal.{refusalOf}
 use Rattle.definition.specs.Flush.{flushAll}
 use Rattle.definition.specs.Translate.{Caches, emptyCaches, translate}
@@ -17,7 +16,7 @@ use Rattle.definition.specs.declared.Registers.{Registers}
 use Rattle.definition.specs.declared.Translation.{Translation}
 use Rattle.definition.proofs.Choice.{if-by}
 use Rattle.definition.proofs.Lists.{All, all-at, all-pass, Paired}
-use Rattle.definition.proofs.Turns.{Turn, under, afterTurn, afterTurns, answersThrough, vacant, Source, source, sourcesIn, sinceAfter, sinceAll, Made, made, walkAnswer, Watch, watchesFrom, answersOf, watchesOf, ReadsAlike, Suits, Fresh, Same, Allowed, Kept}
+use Rattle.definition.proofs.Turns.{Turn, under, afterTurn, afterTurns, answersThrough, vacant, Source, source, sourcesIn, startsAfter, sinceAfter, sinceAll, Made, made, walkAnswer, Watch, watchesFrom, answersOf, watchesOf, ReadsAlike, Suits, Fresh, Same, Allowed, Kept}
 use Rattle.definition.proofs.Entries.{Fit, empty-fit, after-fit, after-keeps, calling-keeps}
 use Rattle.definition.proofs.Entries030.{Sound030}
 use Rattle.definition.proofs.Entries030 as entries
@@ -81,7 +80,7 @@ pub turn-held : (since : List Source) (c : Caches) (t : Turn) → Held since c �
 unfolding sinceAfter
 turn-held since c t h =
     let fit = turn-fit c t (h .fit) in
-    if-by (λ (l : List Source). Held l (afterTurn c t)) (vacant (afterTurn c t)) [] (sourcesIn t ++ since)
+    if-by (λ (l : List Source). Held l (afterTurn c t)) (startsAfter c t) [] (sourcesIn t ++ since)
     (λ v. record { fit = fit; sound = λ w s. vacant-sound (w .registers) (ReadsAlike w) (afterTurn c t) fit v })
     (λ f. record { fit = fit; sound = grown-sound since c h t })
 
@@ -140,21 +139,22 @@ pub epochs : (l l′ : List Turn) → Kept (watchesOf l) → Kept (watchesOf l�
 epochs l l′ k k′ p = held-independent [] [] emptyCaches emptyCaches empty-held empty-held l l′ k k′ p
 
 -- ---- where an epoch starts
-none-valid : (c : Cache030) → All (λ (e : Entry). e .valid ≡ false) (c .entries) → allOf (λ (e : Entry). not (e .valid)) (c .entries) ≡ true
-none-valid c h = all-pass (λ (e : Entry). not (e .valid)) (c .entries) (λ e i. ap not (all-at (λ (e : Entry). e .valid ≡ false) (c .entries) e i h))
-
-none-valid-040 : (c : Cache040) → All (λ (s : Slot). s .valid ≡ false) (c .slots) → allOf (λ (s : Slot). not (s .valid)) (c .slots) ≡ true
-none-valid-040 c h = all-pass (λ (s : Slot). not (s .valid)) (c .slots) (λ s i. ap not (all-at (λ (s : Slot). s .valid ≡ false) (c .slots) s i h))
+-- none is valid in either
+vacant-by : (c : Caches) → All (λ (e : Entry). e .valid ≡ false) (c .c030 .entries) → All (λ (s : Slot). s .valid ≡ false) (c .c040 .slots) → vacant c ≡ true
+unfolding vacant
+vacant-by c h k =
+    rw (
+      all-pass (λ (e : Entry). not (e .valid)) (c .c030 .entries) (λ e i. ap not (all-at (λ (e : Entry). e .valid ≡ false) (c .c030 .entries) e i h)),
+      all-pass (λ (s : Slot). not (s .valid)) (c .c040 .slots) (λ s i. ap not (all-at (λ (s : Slot). s .valid ≡ false) (c .c040 .slots) s i k)),
+    )
 
 -- a flush of all is refused by check 4 alone, and leaves no valid entry
 pub flush-all-vacant : (c : Caches) → Fit c → vacant (flushAll c .caches) ≡ true
-unfolding flushAll vacant refusalOf
+unfolding flushAll refusalOf
 flush-all-vacant c h =
-    rw (
-      h .four,
-      none-valid (flushedAll (c .c030)) (entries.flushed-all-invalid (c .c030)),
-      none-valid-040 (flushedAll040 (c .c040)) (slots.flushed-all-invalid (c .c040)),
-    )
+    rw (h .four)
+    (vacant-by (record { c030 = flushedAll (c .c030); c040 = flushedAll040 (c .c040) }) (entries.flushed-all-invalid (c .c030))
+    (slots.flushed-all-invalid (c .c040)))
 
 -- so an epoch starts behind it, whatever came before
 pub flush-all-starts : (g : Registers) (m : Memory) (since : List Source) (c : Caches) → Fit c → sinceAfter since c (under g (other flushingAll m)) ≡ []

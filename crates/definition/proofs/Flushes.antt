@@ -2,15 +2,15 @@
 -- next access, PLOAD or probe. It is the theorem over epochs (Epochs.antt), whose premise follows. Assumes nothing but what the statements say.
 use mathlib.Core.Path.{_≡_, refl, ap, sym, _∙_}
 use mathlib.Core.List.{List, [], _∷_, _++_}
-use mathlib.Core.Bool.{Bool, true, false, _&&_, true≢false}
+use mathlib.Core.Bool.{Bool, true, false, true≢false}
 use mathlib.Core.Logic.{_⊎_, inl, inr, ⊎-elim}
 use Rattle.definition.specs.Words.{if_then_else_}
 use Rattle.definition.specs.Translate.{Caches, emptyCaches}
 use Rattle.definition.specs.Calls.{access, loading, testing, probing, flushingAll, flushingCode, flushingPage, flushingFrame}
-use Rattle.definition.proofs.Replay.{watched, other, In}
-use Rattle.definition.proofs.Choice.{if-by}
+use Rattle.definition.proofs.Replay.{watched, other, after, In}
+use Rattle.definition.proofs.Choice.{if-by, and-no}
 use Rattle.definition.proofs.Lists.{All, all-both, in-right, in-either, Paired}
-use Rattle.definition.proofs.Turns.{Turn, under, afterTurn, vacant, Source, source, sourcesIn, sinceAfter, Made, made, watchesFrom, answersOf, watchesOf, Suits, Fresh, Same, Allowed, registersIn, memoryIn, empties, isFlush, isUse, FlushFirst, madeIn, untilFlush, Unchanged, ChangesFlushed}
+use Rattle.definition.proofs.Turns.{Turn, under, afterTurn, vacant, Source, source, sourcesIn, startsAfter, sinceAfter, Made, made, watchesFrom, answersOf, watchesOf, Suits, Fresh, Same, Allowed, registersIn, memoryIn, empties, isFlush, isUse, FlushFirst, madeIn, untilFlush, Unchanged, ChangesFlushed}
 use Rattle.definition.proofs.Epochs.{walksIn, epochs}
 
 -- ---- up to the next flush that empties both
@@ -78,20 +78,16 @@ source-suits (under g (other (flushingFrame frame) m)) w s = tt
 abbrev Coming : List Source → Caches → List Turn → Type 0
 Coming since c l = (w : Made) → In w (untilFlush c l) → All (Suits w) since
 
-empties-vacant : (c : Caches) (t : Turn) → vacant (afterTurn c t) ≡ false → empties c t ≡ false
-empties-vacant c (under g now) f = rw f (go (isFlush now))
-  where
-    go : (b : Bool) → (b && false) ≡ false
-    go true = refl
-    go false = refl
+empties-starts : (c : Caches) (t : Turn) → startsAfter c t ≡ false → empties c t ≡ false
+empties-starts c (under g now) f = and-no (isFlush now) (vacant (after g c now)) f
 
 coming-next : (since : List Source) (c : Caches) (t : Turn) (rest : List Turn) → ChangesFlushed c (t ∷ rest) → Coming since c (t ∷ rest)
     → Coming (sinceAfter since c t) (afterTurn c t) rest
 unfolding sinceAfter
 coming-next since c t rest h k w i =
-    if-by (All (Suits w)) (vacant (afterTurn c t)) [] (sourcesIn t ++ since) (λ v. tt)
+    if-by (All (Suits w)) (startsAfter c t) [] (sourcesIn t ++ since) (λ v. tt)
     (λ f.
-    all-both (Suits w) (sourcesIn t) since (source-suits t w (stays c t rest h w i)) (k w (until-later c t rest w (empties-vacant c t f) i)))
+    all-both (Suits w) (sourcesIn t) since (source-suits t w (stays c t rest h w i)) (k w (until-later c t rest w (empties-starts c t f) i)))
 
 changes-later : (c : Caches) (t : Turn) (rest : List Turn) → ChangesFlushed c (t ∷ rest) → ChangesFlushed (afterTurn c t) rest
 unfolding ChangesFlushed

@@ -15,7 +15,7 @@ use Rattle.definition.specs.declared.Access.{Access}
 use Rattle.definition.proofs.Choice.{if-both}
 use Rattle.definition.proofs.Lists.{All, all-by, all-both, all-at, in-left, in-right, Paired, paired-by}
 use Rattle.definition.proofs.Agree.{Throughout}
-use Rattle.definition.proofs.Turns.{under, turnsOf, afterTurns, answersThrough, vacant, Source, sourcesIn, sinceAfter, sinceAll, Made, made, Watch, watchesFrom, Suits, Fresh, Same, Allowed, Kept}
+use Rattle.definition.proofs.Turns.{under, turnsOf, afterTurns, answersThrough, Source, sourcesIn, startsAfter, sinceAfter, sinceAll, Made, made, Watch, watchesFrom, Suits, Fresh, Same, Allowed, Kept}
 use Rattle.definition.proofs.Epochs.{Held, empty-held, held-answer, turns-held, walksIn, turns-answers, held-independent}
 
 -- ---- a replay under one set of registers
@@ -71,7 +71,7 @@ module _ (g : Registers) (P : Memory → Type 0) where
   from-since : (since : List Source) (c : Caches) (now : Moment) → P (memoryAt now) → All (From g P) since → All (From g P) (sinceAfter since c (under g now))
   unfolding sinceAfter
   from-since since c now p h =
-      if-both (All (From g P)) (vacant (after g c now)) [] (sourcesIn (under g now) ++ since) tt
+      if-both (All (From g P)) (startsAfter c (under g now)) [] (sourcesIn (under g now) ++ since) tt
       (all-both (From g P) (sourcesIn (under g now)) since (from-turn now p) h)
 
   from-all : (since : List Source) (c : Caches) (l : List Moment) → ((now : Moment) → In now l → P (memoryAt now)) → All (From g P) since

@@ -41,6 +41,18 @@ answersThrough c (under g (watched a m) ∷ rest) = translate g a m c .answer �
 answersThrough c (under g (other call m) ∷ rest) = answersThrough (after g c (other call m)) rest
 
 -- ---- epochs
+-- one of the flushes
+abbrev pub isFlush : Moment → Bool
+isFlush (watched a m) = false
+isFlush (other (access a) m) = false
+isFlush (other (loading code write address) m) = false
+isFlush (other (testing code write level address) m) = false
+isFlush (other (probing own instruction write address) m) = false
+isFlush (other flushingAll m) = true
+isFlush (other (flushingCode code mask) m) = true
+isFlush (other (flushingPage code mask address) m) = true
+isFlush (other (flushingFrame frame) m) = true
+
 -- 'leaves no valid entry in either cache'
 unfoldable pub vacant : Caches → Bool
 vacant c =
@@ -66,9 +78,13 @@ sourcesIn (under g (other (flushingCode code mask) m)) = []
 sourcesIn (under g (other (flushingPage code mask address) m)) = []
 sourcesIn (under g (other (flushingFrame frame) m)) = []
 
--- the accesses and PLOADs of the epoch so far. 'An epoch starts .. after each call that leaves no valid entry in either cache'
+-- 'An epoch starts .. after each call that leaves no valid entry in either cache'
+abbrev pub startsAfter : Caches → Turn → Bool
+startsAfter c t = vacant (afterTurn c t)
+
+-- the accesses and PLOADs of the epoch so far
 unfoldable pub sinceAfter : List Source → Caches → Turn → List Source
-sinceAfter since c t = if vacant (afterTurn c t) then [] else sourcesIn t ++ since
+sinceAfter since c t = if startsAfter c t then [] else sourcesIn t ++ since
 
 unfoldable pub sinceAll : List Source → Caches → List Turn → List Source
 sinceAll since c [] = since
@@ -148,17 +164,6 @@ registersIn (under g now) = g
 
 abbrev pub memoryIn : Turn → Memory
 memoryIn (under g now) = memoryAt now
-
-abbrev pub isFlush : Moment → Bool
-isFlush (watched a m) = false
-isFlush (other (access a) m) = false
-isFlush (other (loading code write address) m) = false
-isFlush (other (testing code write level address) m) = false
-isFlush (other (probing own instruction write address) m) = false
-isFlush (other flushingAll m) = true
-isFlush (other (flushingCode code mask) m) = true
-isFlush (other (flushingPage code mask address) m) = true
-isFlush (other (flushingFrame frame) m) = true
 
 -- 'a flush that empties both caches'
 abbrev pub empties : Caches → Turn → Bool
