@@ -1,4 +1,4 @@
--- Demand 3 of the calls in place: whatever was called before on the arrays that a caller keeps, from empty caches or from caches that are audited clean, a
+-- Demand 3 and request 14 of the calls in place: whatever was called before on the arrays that a caller keeps, from empty caches or from caches that are audited clean, a
 -- watched access gets the cacheless walk's answer. Assumes nothing but what the statements say; what a link of a chain says is the contract of its call.
 use Prim.Native.Nat.{ℕ}
 use mathlib.Core.Path.{_≡_, refl, ap, sym, _∙_}
@@ -14,11 +14,15 @@ use Rattle.definition.specs.declared.Registers.{Registers}
 use Rattle.definition.specs.declared.Access.{Access}
 use Rattle.definition.specs.declared.Audit.{Audit}
 use Rattle.definition.specs.declared.Translation.{Translation}
-use Rattle.definition.proofs.Independence.{after-anything, independence}
+use Rattle.definition.proofs.Lists.{All, Paired}
+use Rattle.definition.proofs.Turns.{Turn, afterTurns, answersThrough, answersOf, watchesOf, Same, Allowed, Kept, ChangesFlushed}
+use Rattle.definition.proofs.Epochs.{walksIn, epochs}
+use Rattle.definition.proofs.Flushes.{registers-change}
+use Rattle.definition.proofs.Independence.{one-after, one-answers, after-anything, independence}
 use Rattle.definition.proofs.Audited.{clean-after, clean-run, clean-independence}
 use Rattle.cache.specs.Atc030.{cacheOf}
 use Rattle.cache.proofs.Laws030.{entries-22}
-use Rattle.chain.specs.Chain.{Arrays, cachesIn, Translates, Passes, translates, loads, tests, probes, flushesAll, flushesCode, flushesPage, flushesFrame, Chain, none, watch, pass}
+use Rattle.chain.specs.Chain.{Arrays, cachesIn, Translates, Passes, translates, loads, tests, probes, flushesAll, flushesCode, flushesPage, flushesFrame, Links, none, watch, pass, Chain}
 use Rattle.checks.proofs.Pairs.{beside}
 use Rattle.load.proofs.Loading.{load-beside}
 
@@ -38,17 +42,24 @@ passed g m (flushesFrame frame k) = k .leaves
 
 -- ---- calls one after the other
 -- the arrays are the caches that the definition's run leaves, and the watched calls answered as it does
+links-leave : {x y : Arrays} {l : List Turn} {answers : List Translation} → Links x l answers y → cachesIn y ≡ afterTurns (cachesIn x) l
+unfolding afterTurns
+links-leave none = refl
+links-leave (watch {rest = rest} g a m k more) = links-leave more ∙ ap (λ (c : Caches). afterTurns c rest) (k .leaves)
+links-leave (pass {rest = rest} g call m k more) = links-leave more ∙ ap (λ (c : Caches). afterTurns c rest) (passed g m k)
+
+links-answer : {x y : Arrays} {l : List Turn} {answers : List Translation} → Links x l answers y → answers ≡ answersThrough (cachesIn x) l
+unfolding answersThrough
+links-answer none = refl
+links-answer (watch {rest = rest} g a m k more) = rw (k .answers, links-answer more, k .leaves) refl
+links-answer (pass {rest = rest} g call m k more) = links-answer more ∙ ap (λ (c : Caches). answersThrough c rest) (passed g m k)
+
+-- under one set of registers
 chain-leaves : (g : Registers) {x y : Arrays} {l : List Moment} {answers : List Translation} → Chain g x l answers y → cachesIn y ≡ afterAll g (cachesIn x) l
-unfolding afterAll
-chain-leaves g none = refl
-chain-leaves g (watch {rest = rest} a m k more) = chain-leaves g more ∙ ap (λ (c : Caches). afterAll g c rest) (k .leaves)
-chain-leaves g (pass {rest = rest} call m k more) = chain-leaves g more ∙ ap (λ (c : Caches). afterAll g c rest) (passed g m k)
+chain-leaves g {x} {l = l} chain = links-leave (chain .links) ∙ one-after g (cachesIn x) l
 
 chain-answers : (g : Registers) {x y : Arrays} {l : List Moment} {answers : List Translation} → Chain g x l answers y → answers ≡ answersFrom g (cachesIn x) l
-unfolding answersFrom
-chain-answers g none = refl
-chain-answers g (watch {rest = rest} a m k more) = rw (k .answers, chain-answers g more, k .leaves) refl
-chain-answers g (pass {rest = rest} call m k more) = chain-answers g more ∙ ap (λ (c : Caches). answersFrom g c rest) (passed g m k)
+chain-answers g {x} {l = l} chain = links-answer (chain .links) ∙ one-answers g (cachesIn x) l
 
 -- an access after a chain, and two chains, by what the definition's runs give
 after-chain : (g : Registers) {x y z : Arrays} {before : List Moment} {answers : List Translation} {answer : Translation} {count : ℕ} (a : Access) (m : Memory)
@@ -73,6 +84,26 @@ pub independence-in-place : (g : Registers) {x x′ y y′ : Arrays} (l l′ : L
     → cachesIn x ≡ emptyCaches → cachesIn x′ ≡ emptyCaches → Chain g x l answers y → Chain g x′ l′ answers′ y′
     → watchedOf l ≡ watchedOf l′ → Steady g (l ++ l′) → Accepted g (l ++ l′) → (answers ≡ answers′) × (answers ≡ walksOf g l)
 independence-in-place g l l′ e e′ chain chain′ w s t = chains-alike g chain chain′ (rw (e, e′) (independence g l l′ w s t))
+
+-- ---- registers that change from link to link
+links-alike : {x x′ y y′ : Arrays} {l l′ : List Turn} {answers answers′ walks : List Translation} → cachesIn x ≡ emptyCaches → cachesIn x′ ≡ emptyCaches
+    → Links x l answers y → Links x′ l′ answers′ y′ → (answersOf l ≡ answersOf l′) × (answersOf l ≡ walks) → (answers ≡ answers′) × (answers ≡ walks)
+links-alike {l = l} {l′ = l′} e e′ links links′ d =
+    let one = links-answer links ∙ ap (λ (c : Caches). answersThrough c l) e in
+    (one ∙ d .0 ∙ sym (links-answer links′ ∙ ap (λ (c : Caches). answersThrough c l′) e′), one ∙ d .1)
+
+-- request 14, of two chains of calls in place from empty caches
+pub epochs-in-place : {x x′ y y′ : Arrays} (l l′ : List Turn) {answers answers′ : List Translation}
+    → cachesIn x ≡ emptyCaches → cachesIn x′ ≡ emptyCaches → Links x l answers y → Links x′ l′ answers′ y′
+    → Kept (watchesOf l) → Kept (watchesOf l′) → Paired Same (watchesOf l) (watchesOf l′) → (answers ≡ answers′) × (answers ≡ walksIn (watchesOf l))
+epochs-in-place l l′ e e′ links links′ k k′ p = links-alike e e′ links links′ (epochs l l′ k k′ p)
+
+-- and in its own words: a flush that empties both caches comes after each change and before the next access, PLOAD or probe
+pub registers-change-in-place : {x x′ y y′ : Arrays} (l l′ : List Turn) {answers answers′ : List Translation}
+    → cachesIn x ≡ emptyCaches → cachesIn x′ ≡ emptyCaches → Links x l answers y → Links x′ l′ answers′ y′
+    → ChangesFlushed emptyCaches l → ChangesFlushed emptyCaches l′ → Paired Same (watchesOf l) (watchesOf l′)
+    → All Allowed (watchesOf l) → All Allowed (watchesOf l′) → (answers ≡ answers′) × (answers ≡ walksIn (watchesOf l))
+registers-change-in-place l l′ e e′ links links′ h h′ p t t′ = links-alike e e′ links links′ (registers-change l l′ h h′ p t t′)
 
 -- ---- from arrays that are audited clean, over the memory m as it stood then
 -- the array of the 68030 cache has its 69 numbers, so the cache has its 22 entries

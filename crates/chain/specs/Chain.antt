@@ -1,7 +1,6 @@
 -- Calls in place, one after the other: each link is what one call's contract promises of the two arrays at its entry and at its exit.
 -- `translate`, `load` and `test` promise it with the true word of check 3 (`given-true` of each), so a chain speaks of callers that say it rightly.
 use Prim.Native.Nat.{ℕ}
-use mathlib.Core.Path.{_≡_}
 use mathlib.Core.Bool.{Bool}
 use mathlib.Core.List.{List, [], _∷_}
 use Rattle.definition.specs.Memory.{Memory}
@@ -11,6 +10,7 @@ use Rattle.definition.specs.Flush.{flushAll, flushCode, flushPage, flushFrame}
 use Rattle.definition.specs.Calls as calls
 use Rattle.definition.specs.Calls.{Call}
 use Rattle.definition.proofs.Replay.{Moment, watched, other}
+use Rattle.definition.proofs.Turns.{Turn, under, turnsOf}
 use Rattle.definition.specs.declared.Registers.{Registers}
 use Rattle.definition.specs.declared.Access.{Access}
 use Rattle.definition.specs.declared.Translation.{Translation}
@@ -58,10 +58,14 @@ pub data Passes (g : Registers) (m : Memory) (x : Arrays) : Call → Arrays → 
       → FlushedIn040 (flushFrame frame (cachesIn x)) (cacheOf (x .c030)) answer c040
       → Passes g m x (calls.flushingFrame frame) (record { c030 = x .c030; c040 = c040 })
 
--- calls in place at these moments, from arrays x to arrays y: the answers that the watched ones gave, in order
-pub data Chain (g : Registers) : Arrays → List Moment → List Translation → Arrays → Type 0 where
-  none : {x : Arrays} → Chain g x [] [] x
-  watch : {x y z : Arrays} {answer : Translation} {count : ℕ} {rest : List Moment} {answers : List Translation} (a : Access) (m : Memory)
-      → Translates g a m x answer count y → Chain g y rest answers z → Chain g x (watched a m ∷ rest) (answer ∷ answers) z
-  pass : {x y z : Arrays} {rest : List Moment} {answers : List Translation} (call : Call) (m : Memory)
-      → Passes g m x call y → Chain g y rest answers z → Chain g x (other call m ∷ rest) answers z
+-- calls in place at these turns, from arrays x to arrays y, each under its own registers: the answers that the watched ones gave, in order
+pub data Links : Arrays → List Turn → List Translation → Arrays → Type 0 where
+  none : {x : Arrays} → Links x [] [] x
+  watch : {x y z : Arrays} {answer : Translation} {count : ℕ} {rest : List Turn} {answers : List Translation} (g : Registers) (a : Access) (m : Memory)
+      → Translates g a m x answer count y → Links y rest answers z → Links x (under g (watched a m) ∷ rest) (answer ∷ answers) z
+  pass : {x y z : Arrays} {rest : List Turn} {answers : List Translation} (g : Registers) (call : Call) (m : Memory)
+      → Passes g m x call y → Links y rest answers z → Links x (under g (other call m) ∷ rest) answers z
+
+-- the same at these moments under one set of registers
+pub record Chain (g : Registers) (x : Arrays) (l : List Moment) (answers : List Translation) (y : Arrays) : Type 0 where
+  pub links : Links x (turnsOf g l) answers y
