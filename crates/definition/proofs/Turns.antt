@@ -22,11 +22,11 @@ use Rattle.definition.specs.declared.Translation.{Translation}
 pub data Turn : Type 0 where
   under : Registers → Moment → Turn
 
--- under one set of registers
+-- moments under one set of registers
 abbrev pub turnsOf : Registers → List Moment → List Turn
 turnsOf g l = map (under g) l
 
--- the caches after it
+-- the caches after a turn, and after turns
 abbrev pub afterTurn : Caches → Turn → Caches
 afterTurn c (under g now) = after g c now
 
@@ -130,9 +130,13 @@ abbrev pub watchesOf : List Turn → List Watch
 watchesOf l = watchesFrom emptyCaches [] l
 
 -- ---- the premises
--- a memory reads alike along the list of the access's cacheless walk
+-- two memories read alike along the list of an access's cacheless walk: the one relation that all of this speaks through
+abbrev pub AlikeFor : Made → Memory → Memory → Type 0
+AlikeFor w m m′ = Agree m m′ (walkOf w .asked)
+
+-- a memory reads as the access's own
 abbrev pub ReadsAlike : Made → Memory → Type 0
-ReadsAlike w m = Agree (w .memory) m (walkOf w .asked)
+ReadsAlike w m = AlikeFor w (w .memory) m
 
 -- it was made under the access's registers, and its memory reads alike along that list
 pub record Suits (w : Made) (s : Source) : Type 0 where
@@ -199,7 +203,7 @@ untilFlush c (t ∷ rest) = if empties c t then [] else madeIn t ++ untilFlush (
 -- flush fetches'
 pub record Unchanged (coming : List Made) (t next : Turn) : Type 0 where
   pub registers : registersIn t ≡ registersIn next
-  pub reads : (w : Made) → In w coming → Agree (memoryIn t) (memoryIn next) (walkOf w .asked)
+  pub reads : (w : Made) → In w coming → AlikeFor w (memoryIn t) (memoryIn next)
 
 -- 'Registers and watched longs may now change between calls, if a flush that empties both caches comes after each such change and before the next access,
 -- PLOAD or probe.'
