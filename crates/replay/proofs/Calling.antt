@@ -68,7 +68,7 @@ given-beside : (crossed : Bool) (g : Registers) (code : ℕ) (write : Bool) (add
 unfolding loadGiven loadInOrder
 given-beside crossed g code write address m c =
     stays (eqb (refusalOf (withThird crossed (loadChecks g code m c))) 0) _ _
-    (stays (not (on g)) _ _ refl (stays (stopped (shiftOf (g .tc)) (transparent030 g address code)) _ _ refl refl)) refl
+    (stays (not (on g)) _ _ refl (stays (stopped (shiftOf (g .tc)) (transparent030 g address code write)) _ _ refl refl)) refl
   where
     stays : (b : Bool) (x y : Loaded) → x .caches .c040 ≡ c .c040 → y .caches .c040 ≡ c .c040 → (if b then x else y) .caches .c040 ≡ c .c040
     stays true x y h k = h
