@@ -100,7 +100,7 @@ loop-again : tie.Need-loop-again Inv-loop μ-loop
 loop-again c =
     let l = c .before .before .before .before .before .before .before .before .before .before .before .before .before .before .before .before .before .loop in
     let r = c .before .before .before .before .before .before .before .before .before .before .run in
-    (within (c .before .before .before .before .before .before .before .before .before .before .before .before .before .before .before .before .before .before .before .before .before .before .args .records .now) (l .at) (r .result .read) (l .inv .0) (r .ensures .0 (sym (l .inv .1)) .going .reads), r .ensures .1 ∙ l .inv .1, l .inv .2 ∙ sym (r .kept .1 .1 .0), l .inv .3 ∙ sym (r .kept .1 .1 .1 .1 .1 .1 .0))
+    (within (c .before .before .before .before .before .before .before .before .before .before .before .before .before .before .before .before .before .before .before .before .before .before .args .records .now) (l .at) (r .result .read) (l .inv .0) (r .ensures .0 .going .reads), r .ensures .1 ∙ l .inv .1, l .inv .2 ∙ sym (r .kept .1 .1 .0), l .inv .3 ∙ sym (r .kept .1 .1 .1 .1 .1 .0))
 
 returns-3 : tie.Need-returns-3 Inv-loop μ-loop
 returns-3 c = search needs
