@@ -11,6 +11,7 @@ use Rattle.definition.specs.declared.Hit.{Hit}
 use Rattle.definition.specs.declared.Hit.the-variants as hit
 use borrow.Author.Tests.{eq-eqb, ne-eqb}
 use Rattle.definition.specs.Answers.{kindNumber, causeNumber}
+use Rattle.definition.specs.Trace.{overrideOf}
 use Rattle.definition.specs.declared.Override.{Override}
 use Rattle.definition.specs.declared.FaultKind.{FaultKind}
 use Rattle.definition.specs.declared.FaultCause.{FaultCause}
@@ -22,7 +23,7 @@ use Rattle.definition.specs.declared.Test.{Test}
 use Rattle.definition.specs.declared.Test.the-variants as test′
 use Rattle.numbers.specs.declared.Held.{Held}
 use Rattle.numbers.specs.declared.Walked.{Walked}
-use Rattle.numbers.specs.Numbers.{heldOf, walkedOf, findingOfParts, findingNumbers, registersWith, registersOf, overrideOf, accessWith, accessOf, translationNumbers, loadNumbers, testNumbers}
+use Rattle.numbers.specs.Numbers.{heldOf, walkedOf, findingOfParts, findingNumbers, registersWith, registersOf, accessWith, accessOf, translationNumbers, loadNumbers, testNumbers}
 
 module _ (code : ℕ) where
   pub none : code ≡ 255 → Override.Plain ≡ overrideOf code

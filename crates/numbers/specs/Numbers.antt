@@ -3,10 +3,10 @@ use Prim.Native.Nat.{ℕ, _/_, _%_}
 use mathlib.Core.Path.{_≡_}
 use mathlib.Core.List.{List, [], _∷_}
 use mathlib.Core.Bool.{Bool}
-use lib.Dec.{eqb}
 use lib.ListN.{length, getD}
-use Rattle.definition.specs.Words.{if_then_else_, bitOf}
+use Rattle.definition.specs.Words.{bitOf}
 use Rattle.definition.specs.Answers.{kindNumber, causeNumber}
+use Rattle.definition.specs.Trace.{overrideOf}
 use Rattle.definition.specs.Cache030.{Cache030}
 use Rattle.definition.specs.Translate.{Caches, Translated}
 use Rattle.definition.specs.Load.{Loaded}
@@ -54,10 +54,6 @@ registersWith ns present enabled =
 
 abbrev pub registersOf : List ℕ → Registers
 registersOf ns = registersWith ns (bitOf (getD ns 1 0) 0) (bitOf (getD ns 1 0) 1)
-
--- 'override or FF'
-abbrev pub overrideOf : ℕ → Override
-overrideOf code = if eqb code 255 then Override.Plain else Override.Code code
 
 -- 'flags (0 write, 1 supervisor, 2 instruction, 3 CPU state, 4 record)'
 abbrev pub accessWith : ℕ → Bool → Bool → Bool → Bool → Override → Bool → Access

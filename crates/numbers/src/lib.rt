@@ -16,7 +16,8 @@ use test::TestOutcome;
 use translate::Outcome;
 ghost use mathlib.Core.Path.{_≡_};
 ghost use mathlib.Core.List.{[], _∷_};
-ghost use Rattle.numbers.specs.Numbers.{registersOf, overrideOf, accessOf, translationNumbers, loadNumbers, testNumbers, probeNumbers, auditNumbers, heldOf, walkedOf, findingNumbers, flushNumber};
+ghost use Rattle.definition.specs.Trace.{overrideOf};
+ghost use Rattle.numbers.specs.Numbers.{registersOf, accessOf, translationNumbers, loadNumbers, testNumbers, probeNumbers, auditNumbers, heldOf, walkedOf, findingNumbers, flushNumber};
 
 // ---- What the host's numbers are.
 
