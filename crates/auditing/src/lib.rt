@@ -28,12 +28,13 @@ struct Waiting {
 }
 
 // What is written: each record's line, or both caches after it too; or what an audit says of the caches, at the end or after
-// each record.
+// each record; or what the table tree maps, at the end.
 pub enum How {
     Lines,
     States,
     AtEnd,
     AfterEach,
+    List,
 }
 
 // Whether the lines are written.
@@ -43,6 +44,7 @@ fn has_lines(how: How) -> bool {
         How::States => true,
         How::AtEnd => false,
         How::AfterEach => false,
+        How::List => false,
     }
 }
 
@@ -53,6 +55,7 @@ fn is_stepped(how: How) -> bool {
         How::States => true,
         How::AtEnd => false,
         How::AfterEach => true,
+        How::List => false,
     }
 }
 
@@ -61,7 +64,14 @@ fn malformed() {
     written(b"R 7\n");
 }
 
-// At the end of the input: `end` or what the audit says, or refusal 7 where a part of a record is left.
+// What the table tree of what is kept maps.
+fn mapped(line: &mut [u8], longs: &[u32], kept: Kept) -> bool {
+    let g = kept.registers;
+    let list = kept.list;
+    listing::listed(line, longs, g, list, kept.n)
+}
+
+// At the end of the input: `end`, what the audit says or the list, or refusal 7 where a part of a record is left.
 fn finish(
     line: &mut [u8],
     c030: &Atc030,
@@ -81,6 +91,7 @@ fn finish(
         How::States => written(b"end\n"),
         How::AtEnd => audits::at_end(line, c030, c040, longs, kept),
         How::AfterEach => audits::all_clean(line, records),
+        How::List => mapped(line, longs, kept),
     }
     ;
 }
@@ -163,6 +174,7 @@ fn stepped(
         }
         How::AtEnd => true,
         How::AfterEach => audits::after_record(line, c030, c040, longs, kept, records[0]),
+        How::List => true,
     }
 }
 
