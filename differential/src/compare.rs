@@ -146,14 +146,7 @@ impl Comparer {
 
     /// What the player writes; a note follows it where the player did not end by itself.
     fn play(&self, bytes: &[u8]) -> String {
-        let trace = self.folder.join(format!("{}.trace", self.mode()));
-        let spawned = fs::write(&trace, bytes)
-            .and_then(|()| File::open(&trace))
-            .and_then(|input| Command::new(&self.player).stdin(input).stdout(Stdio::piped()).spawn());
-        match spawned {
-            Ok(child) => finished(child),
-            Err(error) => format!("(the player could not be run: {error})"),
-        }
+        written(&self.player, &[], bytes, &self.folder.join(format!("{}.trace", self.mode())))
     }
 
     /// The same, with the trace in small pieces.
@@ -250,6 +243,18 @@ fn joined(bytes: &[u8], records: &[&[u8]]) -> Vec<u8> {
     let mut trace = bytes[..bytes.len().min(1)].to_vec();
     records.iter().for_each(|record| trace.extend(*record));
     trace
+}
+
+/// What a program writes for a trace, which is put into `file` for it; a note follows where the
+/// program did not end by itself.
+pub fn written(program: &Path, arguments: &[String], bytes: &[u8], file: &Path) -> String {
+    let spawned = fs::write(file, bytes)
+        .and_then(|()| File::open(file))
+        .and_then(|input| Command::new(program).args(arguments).stdin(input).stdout(Stdio::piped()).spawn());
+    match spawned {
+        Ok(child) => finished(child),
+        Err(error) => format!("(it could not be run: {error})"),
+    }
 }
 
 /// What the child writes, until it ends or patience does.

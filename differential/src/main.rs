@@ -10,6 +10,7 @@ mod cases;
 mod compare;
 mod examples;
 mod generate;
+mod lists;
 mod malformed;
 mod original;
 mod pairs;
@@ -20,7 +21,7 @@ mod themes;
 mod trees;
 mod walks;
 
-use differential::{memory, paper, replay, slips, state, stored, trace};
+use differential::{dump, listing, memory, paper, replay, slips, state, stored, trace};
 use std::io::{self, BufWriter, Read, Write};
 use std::path::Path;
 use std::process::ExitCode;
@@ -38,6 +39,9 @@ const USAGE: &str = "usage:
   differential pairs FOLDER COUNT SEED         write pairs of replays with the same watched accesses
   differential cacheops SEED COUNT             operations on the original's caches
   differential walks SEED COUNT                walks of the original
+  differential list CODE [FROM]                what the dump on standard input maps, by the original's walks
+  differential lists LISTER|- SEED TREES FOLDER
+                                               compare the lists of random trees
   differential slips COUNT                     how many of so many traces show each slip";
 
 fn main() -> ExitCode {
@@ -103,6 +107,15 @@ fn run(words: &[&str]) -> Result<bool, String> {
             let mut out = BufWriter::new(io::stdout().lock());
             walks::walks(&mut out, number(seed)?, number(count)?).and_then(|()| out.flush()).map_err(told)?;
         }
+        ["list", code] => print_list(code, "0")?,
+        ["list", code, from] => print_list(code, from)?,
+        ["lists", lister, seed, trees, folder] => {
+            let lister = (lister != "-").then_some(Path::new(lister));
+            let tally = lists::lists(lister, number(seed)?, number(trees)? as usize, Path::new(folder)).map_err(told)?;
+            println!("lists: {} ranges compared in {} trees", tally.records, tally.passed + tally.failed);
+            println!("{} passed, {} failed", tally.passed, tally.failed);
+            return Ok(tally.failed == 0);
+        }
         ["slips", count] => selftest::slips(number(count)?),
         _ => return Err(USAGE.into()),
     }
@@ -111,6 +124,13 @@ fn run(words: &[&str]) -> Result<bool, String> {
 
 fn number(word: &str) -> Result<u64, String> {
     word.parse().map_err(|_| format!("not a number: {word}"))
+}
+
+/// The list of the dump on standard input.
+fn print_list(code: &str, from: &str) -> Result<(), String> {
+    let code = code.parse().map_err(|_| format!("no code: {code}"))?;
+    let from = u32::from_str_radix(from, 16).map_err(|_| format!("no address: {from}"))?;
+    print((lists::list(&input()?, code, from)?.join("\n") + "\n").as_bytes())
 }
 
 fn states(options: &[&str]) -> Result<bool, String> {

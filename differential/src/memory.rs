@@ -34,11 +34,16 @@ impl TableMemory {
         self.ranges.iter().any(|&(first, last)| u64::from(first) <= last_byte && first_byte <= u64::from(last))
     }
 
+    /// The long at this address, unless it fails.
+    pub fn read(&self, address: u32) -> Option<u32> {
+        let place = self.place(address)?;
+        (!self.in_range(address)).then(|| self.longs[place])
+    }
+
     /// Asks for one long.
     pub fn fetch(&mut self, address: u32) -> Option<u32> {
         self.asked.push(address);
-        let place = self.place(address)?;
-        (!self.in_range(address)).then(|| self.longs[place])
+        self.read(address)
     }
 
     /// Stores one long, if it lies in the longs.
