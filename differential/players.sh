@@ -3,3 +3,5 @@
 # other programs.
 player=${PLAYER:-$root/target/bin/player}
 player_states=${PLAYER_STATES:-$root/target/bin/player_states}
+# The lister of ./list stands beside them; LISTER names another program.
+lister=${LISTER:-$root/target/bin/lister}

@@ -1,5 +1,5 @@
-# shellcheck shell=bash disable=SC2154
-# For ./trace, ./play, ./play-all and what else takes a trace: the converter and the player, built where they aren't, and the bytes
+# shellcheck shell=bash disable=SC2034,SC2154
+# For ./trace, ./play, ./play-all, ./list and what else takes a trace: the converter and the player, built where they aren't, and the bytes
 # of a trace, whether it is kept as text or binary. Sourced with `root` set to the project's folder. What can't be read is told on
 # standard error, by its name.
 
@@ -94,4 +94,22 @@ opened() {
     elif [ $# -gt 0 ]; then
         exec < "$1"
     fi
+}
+
+# passed_on COMMAND..: the command's lines pass as they come. Then `last` is the last of them, and `ended` has two statuses: the
+# command's, and that of what wrote its lines.
+passed_on() {
+    local heard line
+    last='' ended=''
+    exec 3>&1
+    heard=$({
+        "$@" | tee --output-error=exit >(tail -n 1 >&4) >&3
+        printf '\nended %s\n' "${PIPESTATUS[*]}" >&4
+    } 4>&1)
+    while IFS= read -r line; do
+        case $line in
+            'ended '*) ended=${line#ended } ;;
+            ?*) last=$line ;;
+        esac
+    done <<< "$heard"
 }

@@ -32,18 +32,18 @@ fn listed(code: u8, from: u32) -> io::Result<()> {
     io::stdin().read_to_end(&mut trace)?;
     let mut out = BufWriter::new(io::stdout().lock());
     let (mut ranges, mut bytes) = (0, 0);
-    let mut written = Ok(());
     let ended = dump::kept(&trace).and_then(|(registers, memory)| {
         let fetch = |at| memory.read(at);
         listing::list(&registers, code, from, fetch, |range| {
             ranges += 1;
             bytes += range.bytes();
-            if written.is_ok() {
-                written = writeln!(out, "{range}");
+            if let Err(error) = writeln!(out, "{range}") {
+                // The list may go on for long: nobody reads it.
+                eprintln!("{error}");
+                std::process::exit(1);
             }
         })
     });
-    written?;
     match ended {
         Ok(()) => writeln!(out, "{}", listing::sum(ranges, bytes))?,
         Err(number) => writeln!(out, "R {number}")?,
