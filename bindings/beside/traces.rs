@@ -11,8 +11,20 @@ include!(concat!(env!("OUT_DIR"), "/original.rs"));
 #[path = "../../differential/src/builder.rs"]
 mod builder;
 #[allow(dead_code)]
+#[path = "../../differential/src/compare.rs"]
+mod compare;
+#[allow(dead_code)]
+#[path = "../../differential/src/dump.rs"]
+mod dump;
+#[allow(dead_code)]
 #[path = "../../differential/src/generate.rs"]
 mod generate;
+#[allow(dead_code)]
+#[path = "../../differential/src/listing.rs"]
+mod listing;
+#[allow(dead_code)]
+#[path = "../../differential/src/lists.rs"]
+mod lists;
 #[allow(dead_code)]
 #[path = "../../differential/src/malformed.rs"]
 mod malformed;
@@ -45,6 +57,7 @@ mod trace;
 mod trees;
 
 mod audits;
+mod listed;
 
 use memory::TableMemory;
 use original::Original;

@@ -157,6 +157,24 @@ static bool audits(host *h) {
     return right && audited(h, 0, a) == MMU_DONE;
 }
 
+/* ---- What there is to guard: the list, three ranges at a time */
+
+static bool lists(const host *h) {
+    const uint32_t none[1] = {0}; /* lent with length 0 */
+    uint64_t ranges[3], a[MMU_LIST] = {MMU_MORE, 0, 0};
+    uint32_t page = 0;
+    while (a[MMU_LIST_WHAT] == MMU_MORE) {
+        mmu_list(h->longs, 8192, 0, none, 0, registers, USER_DATA, (uint32_t)a[MMU_LIST_NEXT], ranges, 3, a);
+        for (size_t n = 0; a[MMU_LIST_WHAT] != MMU_REFUSED && n < a[MMU_LIST_COUNT]; n++, page++)
+            if (mmu_listed_first(ranges[n]) != address_of(page) || mmu_listed_last(ranges[n]) != address_of(page) + PAGE - 1 ||
+                mmu_listed_physical(ranges[n]) != 0x00400000 + page * PAGE || mmu_listed_kind(ranges[n]) != 0)
+                return false;
+    }
+    bool right = a[MMU_LIST_WHAT] == MMU_DONE && page == PAGES;
+    mmu_list(h->longs, 8192, 0, none, 0, registers, 3, 0, ranges, 3, a);
+    return right && a[MMU_LIST_WHAT] == MMU_REFUSED && a[MMU_LIST_COUNT] == 9;
+}
+
 /* Forks a process for each worker: whether each meets its guard. */
 static bool workers(host *h) {
     pid_t started[WORKERS];
@@ -202,6 +220,7 @@ int main(void) {
     mmu_empty(h.caches.c030, h.caches.c040);
     sample(&h);
     bool right = said("sixteen pages are warm", warm(&h));
+    right &= said("the list has each page once", lists(&h));
     right &= said("the audit names a guard without its flush", audits(&h));
     right &= said("each worker meets its own guard", workers(&h));
     bool kept = true;

@@ -151,6 +151,28 @@ void mmu_finding(const uint64_t c030[MMU_030], const uint64_t c040[MMU_040], con
                  const mmu_range *ranges, size_t ranges_len, const uint32_t registers[MMU_REGISTERS], uint32_t index, bool write,
                  uint32_t said[MMU_SAID]);
 
+/* A listed range is one number: its first address in bits 63:32, its physical start in 31:8 (the low eight bits are 0), and in 7:0
+ * 33 times its kind and the bits consumed, 0 to 32. It has 2^(32 - consumed) addresses. */
+enum { MMU_LISTED_WP = 1, MMU_LISTED_S = 2, MMU_LISTED_UNFETCHABLE = 4 }; /* kinds; 0 is neither WP nor S, 3 both */
+static inline uint32_t mmu_listed_first(uint64_t range) { return (uint32_t)(range >> 32); }
+static inline uint32_t mmu_listed_last(uint64_t range) {
+    return mmu_listed_first(range) | (uint32_t)(UINT64_C(0xFFFFFFFF) >> (range & 255) % 33);
+}
+static inline uint32_t mmu_listed_physical(uint64_t range) { return (uint32_t)range & 0xFFFFFF00u; }
+static inline uint32_t mmu_listed_kind(uint64_t range) { return (uint32_t)(range & 255) / 33; }
+
+/* The places of a list's three numbers: what it is (MMU_DONE: that is all; MMU_MORE; MMU_REFUSED), how many ranges were written or
+ * the refusal's number, and the address to go on from where there are more. */
+enum { MMU_LIST_WHAT, MMU_LIST_COUNT, MMU_LIST_NEXT, MMU_LIST };
+enum { MMU_MORE = 1 };
+
+/* Lists what the 68030 tree of a function code (1, 2, 5 or 6) maps: the ranges whose last address is `from` or above, in ascending
+ * order, as many as `out` has room for. The bus-error ranges are lent as numbers, first and last of each: `ranges_len` is twice
+ * as many. Neither the transparent registers nor whether the PMMU is on means anything. Refusals: 1, 5, 2, 3, 9. */
+void mmu_list(const uint32_t *longs, size_t longs_len, uint32_t base, const uint32_t *ranges, size_t ranges_len,
+              const uint32_t registers[MMU_REGISTERS], uint32_t code, uint32_t from, uint64_t *out, size_t out_len,
+              uint64_t answer[MMU_LIST]);
+
 /* The flushes give 0, or the number of a refusal. */
 
 /* Empties both caches. Refusal: 4. */

@@ -205,8 +205,7 @@ impl<F: FnMut(u32) -> Option<u32>, O: FnMut(Range)> Lister<'_, F, O> {
     /// The descriptor at an address; nothing where a long of it fails.
     fn descriptor(&mut self, at: u32, long: bool) -> Option<Descriptor> {
         let first = (self.fetch)(at)?;
-        let (sup, field) =
-            if long { (first & 0x100 != 0, (self.fetch)(at.wrapping_add(4))?) } else { (false, first) };
+        let (sup, field) = if long { (first & 0x100 != 0, (self.fetch)(at.wrapping_add(4))?) } else { (false, first) };
         Some(Descriptor { kind: first & 3, wp: first & 4 != 0, sup, field })
     }
 }

@@ -77,8 +77,7 @@ struct Walker<'m> {
 
 impl<'m> Walker<'m> {
     fn new(registers: &Registers, code: u8, memory: &'m mut TableMemory) -> Self {
-        let registers =
-            Registers { has_pmmu: true, enabled: true, tt0: 0, tt1: 0, ..registers.clone() };
+        let registers = Registers { has_pmmu: true, enabled: true, tt0: 0, tt1: 0, ..registers.clone() };
         let widths = listing::widths(registers.tc).collect();
         Walker { registers, code, widths, memory }
     }
@@ -147,7 +146,10 @@ fn translated(registers: &Registers, memory: &mut TableMemory, code: u8, address
 
 /// Whether a fault has this cause of an access level violation, which it must have.
 fn is_fault(answer: &Answer, wanted: u8) -> bool {
-    assert!(matches!(*answer, Answer::Fault { kind: 2, cause, .. } if cause == wanted), "{answer} where 2 {wanted} is due");
+    assert!(
+        matches!(*answer, Answer::Fault { kind: 2, cause, .. } if cause == wanted),
+        "{answer} where 2 {wanted} is due"
+    );
     true
 }
 
@@ -227,11 +229,11 @@ pub fn list(trace: &[u8], code: u8, from: u32) -> Result<Vec<String>, String> {
 
 // Random trees.
 
-/// A tree as a trace, and what is asked of it.
-struct Case {
-    trace: Vec<u8>,
-    code: u8,
-    list: Result<Vec<Range>, u8>,
+/// A tree as a trace, a code, and its list by the original's walks.
+pub struct Case {
+    pub trace: Vec<u8>,
+    pub code: u8,
+    pub list: Result<Vec<Range>, u8>,
 }
 
 /// Compares the lists of so many random trees: by the original's walks, by plain Rust, and, where
@@ -261,7 +263,7 @@ pub fn lists(lister: Option<&Path>, seed: u64, trees: usize, folder: &Path) -> i
 
 impl Case {
     /// The tree of a seed; nothing where it has too many leaves.
-    fn of(seed: u64) -> Option<Self> {
+    pub fn of(seed: u64) -> Option<Self> {
         let mut b = Builder::new(seed, 400);
         let tc = tc(&mut b);
         let registers = b.registers_of(30, tc);

@@ -111,7 +111,8 @@ fn run(words: &[&str]) -> Result<bool, String> {
         ["list", code, from] => print_list(code, from)?,
         ["lists", lister, seed, trees, folder] => {
             let lister = (lister != "-").then_some(Path::new(lister));
-            let tally = lists::lists(lister, number(seed)?, number(trees)? as usize, Path::new(folder)).map_err(told)?;
+            let tally =
+                lists::lists(lister, number(seed)?, number(trees)? as usize, Path::new(folder)).map_err(told)?;
             println!("lists: {} ranges compared in {} trees", tally.records, tally.passed + tally.failed);
             println!("{} passed, {} failed", tally.passed, tally.failed);
             return Ok(tally.failed == 0);

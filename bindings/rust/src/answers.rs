@@ -69,7 +69,7 @@ pub struct Status {
     pub count: u32,
 }
 
-/// Why a call was refused. The first that applies is given, in the order 1, 6, 5, 2, 3, 4;
+/// Why a call was refused. The first that applies is given, in the order 1, 6, 5, 2, 3, 4, 9;
 /// the caches are then as they were.
 #[derive(Clone, Copy, Debug, PartialEq, Eq)]
 pub enum Refusal {
@@ -85,6 +85,9 @@ pub enum Refusal {
     Code,
     /// 6: PLOAD or PTEST on family 40 or 60.
     Only030,
+    /// 9: a tree that is not listed: family 40 or 60, a function code other than 1, 2, 5 and 6, IS not 0,
+    /// a sum of levels of 0 or above 32, or a root of type 0 or 1.
+    Tree,
 }
 
 impl Refusal {
@@ -98,6 +101,7 @@ impl Refusal {
             Refusal::Cache => 4,
             Refusal::Code => 5,
             Refusal::Only030 => 6,
+            Refusal::Tree => 9,
         }
     }
 
@@ -109,6 +113,7 @@ impl Refusal {
             4 => Refusal::Cache,
             5 => Refusal::Code,
             6 => Refusal::Only030,
+            9 => Refusal::Tree,
             other => unreachable!("the library gives no refusal {other}"),
         }
     }
@@ -123,6 +128,7 @@ impl fmt::Display for Refusal {
             Refusal::Cache => "the 68030 cache's most recent index is above 21 or its shift above 31",
             Refusal::Code => "an override, function code, mask or level is above 7, or a frame is 2^20 or more",
             Refusal::Only030 => "PLOAD and PTEST are of the 68030 alone",
+            Refusal::Tree => "a tree or a function code that is not listed",
         })
     }
 }

@@ -5,6 +5,7 @@ use crate::audits::{self, Stale};
 use crate::caches::{Caches, NUMBERS_030, NUMBERS_040};
 use crate::door;
 use crate::given::{Access, Registers, Tables};
+use crate::lists::Mappings;
 
 /// A pair of translation caches, and the calls on it. A clone is a warm copy: give one to
 /// each worker.
@@ -107,6 +108,50 @@ impl Pmmu {
     /// A refusal (1, 2, 3 or 4): then nothing is said of the caches.
     pub fn audit(&self, registers: &Registers, tables: Tables<'_>) -> Result<Vec<Stale>, Refusal> {
         audits::every(&self.caches, registers, tables)
+    }
+
+    /// What the 68030 tree of a function code (1, 2, 5 or 6) maps: each range once, in ascending
+    /// order. It agrees with the walk without caches of every address: in a listed range, with its
+    /// protection, and in none, which is a fault as invalid. It asks neither the transparent
+    /// registers nor whether the PMMU is on, and touches no cache, so it takes none. Trees that
+    /// point back at themselves end too, and a list may be long: up to 2^32 ranges.
+    ///
+    /// ```
+    /// # use pmmu::{Family, Pmmu, Registers, Tables};
+    /// let registers = Registers {
+    ///     family: Family::M68030,
+    ///     tc: 0x80C0_7760,
+    ///     crp_limit: 0x8000_0002,
+    ///     crp_address: 0x1000,
+    ///     ..Registers::default()
+    /// };
+    /// let mut longs = vec![0; 0x800];
+    /// longs[0x1004 / 4] = 0x0040_0005; // the root table's second entry: an early page, write-protected
+    /// let tables = Tables { longs: &longs, base: 0, ranges: &[] };
+    ///
+    /// let lines: Vec<String> = Pmmu::list(&registers, 1, tables)?.map(|range| range.to_string()).collect();
+    /// assert_eq!(lines, ["02000000-03FFFFFF 00400000 W"]);
+    /// # Ok::<(), pmmu::Refusal>(())
+    /// ```
+    ///
+    /// # Errors
+    /// A refusal (1, 5, 2, 3 or 9).
+    pub fn list<'t>(registers: &Registers, code: u8, tables: Tables<'t>) -> Result<Mappings<'t>, Refusal> {
+        Pmmu::list_from(registers, code, 0, tables)
+    }
+
+    /// The same from an address on: the ranges whose last address is `from` or above. So the one
+    /// that it lies in comes whole.
+    ///
+    /// # Errors
+    /// A refusal (1, 5, 2, 3 or 9).
+    pub fn list_from<'t>(
+        registers: &Registers,
+        code: u8,
+        from: u32,
+        tables: Tables<'t>,
+    ) -> Result<Mappings<'t>, Refusal> {
+        Mappings::start(registers, code, from, tables)
     }
 
     /// The address from a transparent match or an unrecorded hit, else nothing. The CPU's

@@ -23,8 +23,16 @@ pub(crate) type Answer = [u32; 5];
 /// its address, and the fault's kind and cause.
 pub(crate) type Said = [u32; 10];
 
+/// Ranges that a list is given room for at a time, and their numbers.
+pub(crate) const ROOM: usize = 64;
+pub(crate) type Numbers = [u64; ROOM];
+
+/// The three numbers of a list's answer: what it is (0 all, 1 more, 2 a refusal), how many were
+/// written or the refusal's number, and the address to go on from.
+pub(crate) type Listed = [u64; 3];
+
 mod library {
-    use super::{Answer, Range, Said, NUMBERS_030, NUMBERS_040};
+    use super::{Answer, Listed, Range, Said, NUMBERS_030, NUMBERS_040};
 
     extern "C" {
         pub fn mmu_empty(c030: &mut [u64; NUMBERS_030], c040: &mut [u64; NUMBERS_040]);
@@ -92,6 +100,19 @@ mod library {
             index: u32,
             write: bool,
             out: &mut Said,
+        );
+        pub fn mmu_list(
+            longs: *const u32,
+            longs_len: usize,
+            base: u32,
+            ranges: *const u32,
+            ranges_len: usize,
+            registers: &[u32; 13],
+            code: u32,
+            from: u32,
+            out: *mut u64,
+            out_len: usize,
+            answer: &mut Listed,
         );
         pub fn mmu_probe(
             c030: &[u64; NUMBERS_030],
@@ -227,6 +248,28 @@ pub(crate) fn finding(c: &Caches, m: Tables<'_>, registers: &Registers, index: u
         );
     }
     out
+}
+
+pub(crate) fn list(m: Tables<'_>, registers: &Registers, code: u8, from: u32, out: &mut Numbers) -> Listed {
+    let mut answer = [0; 3];
+    // SAFETY: as for `test`; a range is two numbers and nothing between them, so the ranges are twice as many numbers;
+    // `out` and `answer` are lent once, each with its own length.
+    unsafe {
+        library::mmu_list(
+            m.longs.as_ptr(),
+            m.longs.len(),
+            m.base,
+            m.ranges.as_ptr().cast(),
+            2 * m.ranges.len(),
+            &registers.numbers(),
+            code.into(),
+            from,
+            out.as_mut_ptr(),
+            out.len(),
+            &mut answer,
+        );
+    }
+    answer
 }
 
 #[inline]

@@ -43,6 +43,7 @@ mod caches;
 mod calls;
 mod door;
 mod given;
+mod lists;
 pub mod trace;
 
 pub use answers::{Error, Fault, FaultCause, FaultKind, Refusal, Status, Translated};
@@ -50,3 +51,4 @@ pub use audits::{Cache, Finding, Stale};
 pub use caches::{Caches, Entry, Slot, ENTRIES, NUMBERS_030, NUMBERS_040, SLOTS};
 pub use calls::Pmmu;
 pub use given::{Access, Family, Range, Registers, Tables};
+pub use lists::{Mapping, Mappings, Page};
