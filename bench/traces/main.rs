@@ -1,5 +1,6 @@
 //! Writes the benchmark traces into a folder: a million recorded accesses over 16 and over
-//! 4,000 pages, for families 30 and 40, without a range and with 16. `traces FOLDER`
+//! 4,000 pages, for families 30 and 40, without a range and with 16. `traces FOLDER`. With
+//! `traces dump FILE` the tables of 4,000 pages alone, for family 30.
 
 #[path = "../pages.rs"]
 mod pages;
@@ -12,17 +13,28 @@ use std::process::ExitCode;
 const ACCESSES: u32 = 1_000_000;
 
 fn main() -> ExitCode {
-    let Some(folder) = std::env::args().nth(1) else {
-        eprintln!("usage: traces FOLDER");
-        return ExitCode::from(2);
+    let words: Vec<String> = std::env::args().skip(1).collect();
+    let (written, name) = match &words[..] {
+        [folder] => (all(Path::new(folder)), folder),
+        [word, file] if word == "dump" => (dump(Path::new(file)), file),
+        _ => {
+            eprintln!("usage: traces FOLDER, or traces dump FILE");
+            return ExitCode::from(2);
+        }
     };
-    match all(Path::new(&folder)) {
+    match written {
         Ok(()) => ExitCode::SUCCESS,
         Err(error) => {
-            eprintln!("{folder}: {error}");
+            eprintln!("{name}: {error}");
             ExitCode::FAILURE
         }
     }
+}
+
+fn dump(file: &Path) -> io::Result<()> {
+    let mut out = BufWriter::new(File::create(file)?);
+    write_tables(&mut out, 30, 4000)?;
+    out.flush()
 }
 
 fn all(folder: &Path) -> io::Result<()> {
@@ -41,11 +53,16 @@ fn all(folder: &Path) -> io::Result<()> {
 }
 
 fn write_trace(out: &mut impl Write, family: u8, pages: u32, ranges: u32) -> io::Result<()> {
-    out.write_all(&[1])?;
-    registers(out, family)?;
-    tables(out, pages)?;
+    write_tables(out, family, pages)?;
     pages::ranges(ranges).try_for_each(|(first, last)| record(out, &[0x0A], &[first, last]))?;
     accesses(out, pages)
+}
+
+/// A trace that has registers and tables.
+fn write_tables(out: &mut impl Write, family: u8, pages: u32) -> io::Result<()> {
+    out.write_all(&[1])?;
+    registers(out, family)?;
+    tables(out, pages)
 }
 
 /// A record: its length, its kind and bytes, its longs.
