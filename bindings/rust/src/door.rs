@@ -24,7 +24,7 @@ pub(crate) type Answer = [u32; 5];
 pub(crate) type Said = [u32; 10];
 
 /// Ranges that a list is given room for at a time, and their numbers.
-pub(crate) const ROOM: usize = 256;
+pub(crate) const ROOM: usize = 512;
 pub(crate) type Numbers = [u64; ROOM];
 
 /// The three numbers of a list's answer: what it is (0 all, 1 more, 2 a refusal), how many were

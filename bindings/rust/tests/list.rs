@@ -70,17 +70,17 @@ fn every_kind_is_told() {
 
 #[test]
 fn a_list_goes_on_where_it_stopped() {
-    // 512 pages in eight tables, behind each other; a start in each of them
+    // 1,536 pages in 24 tables, behind each other; a start in each of them
     let mut longs = common::longs(&[(0x3004, 0)]);
-    for page in 0..512 {
+    for page in 0..1536 {
         longs[0x2000 / 4 + page / 64] = 0x3002 + 0x100 * (page as u32 / 64);
         longs[0x3000 / 4 + page] = 0x0010_0001 + (page as u32) * 0x1000;
     }
-    for page in 0..512_u32 {
+    for page in 0..1536_u32 {
         let from = 0x0200_0000 + page * 0x1000 + page;
         let list = Pmmu::list_from(&common::registers(), 1, from, tables(&longs)).expect("no refusal");
         let firsts: Vec<u32> = list.map(|range| range.first).collect();
-        let wanted: Vec<u32> = (page..512).map(|page| 0x0200_0000 + page * 0x1000).collect();
+        let wanted: Vec<u32> = (page..1536).map(|page| 0x0200_0000 + page * 0x1000).collect();
         assert_eq!(firsts, wanted, "from {from:08X}");
     }
 }
