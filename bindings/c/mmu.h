@@ -1,6 +1,6 @@
-/* Address translation of the 68030 and 68040, proved: the functions of the static libraries libhost.a and libhost_audit.a (mmu_audit and
- * mmu_finding), which `rt staticlib host` and `rt staticlib host_audit` prove and write for x86-64 Linux. Link them with this header:
- * cc program.c libhost.a libhost_audit.a; a program that asks for no audit needs the first alone.
+/* Address translation of the 68030 and 68040, proved: the functions of the static libraries libhost.a, libhost_audit.a (mmu_audit and
+ * mmu_finding) and libhost_list.a (mmu_list), which `bindings/libraries` proves and writes for x86-64 Linux. Link them with this header:
+ * cc program.c libhost.a libhost_audit.a libhost_list.a; a program that asks for no audit and no list needs the first alone.
  *
  * What each call answers, how many longs it asks for and which caches it leaves is that of crates/definition/specs/, for every
  * input; crates/numbers/specs/Numbers.antt says what each number means. No call has a condition on the numbers that it is given:

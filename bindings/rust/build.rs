@@ -1,12 +1,12 @@
-//! Links `libhost.a` and `libhost_audit.a`, which `rt staticlib host` and `rt staticlib
-//! host_audit` write. They are looked for in the folder that `PMMU_LIB` names, else in
-//! `target/staticlib` of the project; where one isn't there, `rt staticlib` is run for it.
+//! Links `libhost.a`, `libhost_audit.a` and `libhost_list.a`, which `rt staticlib` writes. They are looked for
+//! in the folder that `PMMU_LIB` names, else in `target/staticlib` of the project; where one isn't there,
+//! `rt staticlib` is run for it.
 
 use std::path::{Path, PathBuf};
 use std::process::Command;
 use std::{env, fs};
 
-const LIBRARIES: [&str; 2] = ["host", "host_audit"];
+const LIBRARIES: [&str; 3] = ["host", "host_audit", "host_list"];
 
 fn main() {
     println!("cargo::rerun-if-env-changed=PMMU_LIB");
