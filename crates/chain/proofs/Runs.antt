@@ -7,7 +7,7 @@ use mathlib.Core.List.{List, [], _∷_, _++_, map}
 use Rattle.definition.specs.Memory.{Memory, fetchOf}
 use Rattle.definition.specs.Translate.{Caches, emptyCaches, translate, cacheless}
 use Rattle.definition.specs.Calls.{Call, calling}
-use Rattle.definition.proofs.Replay.{Moment, watched, other, memoryAt, afterAll, answersFrom, watchedOf, walksOf, In, Steady, Accepted, CleanSnapshot, Since}
+use Rattle.definition.proofs.Replay.{Moment, watched, other, memoryAt, afterAll, answersFrom, answers, watchedOf, walksOf, In, Steady, Accepted, CleanSnapshot, Since}
 use Rattle.definition.specs.declared.Registers.{Registers}
 use Rattle.definition.specs.declared.Access.{Access}
 use Rattle.definition.specs.declared.Translation.{Translation}
@@ -66,6 +66,11 @@ module _ {T : Type 0} {tell : Translation → T} where
       ap (λ (k : Caches). translate g a m k .answer) (r .leaves ∙ one-after g c before) ∙ same
 
   -- ---- from the empty caches
+  -- what the watched calls of a chain under one set of registers were told
+  pub chain-tells : (g : Registers) {c d : Caches} (l : List Moment) {told : List T} → c ≡ emptyCaches → Ran tell c (turnsOf g l) told d
+      → told ≡ map tell (answers g l)
+  chain-tells g {c} l e r = r .tells ∙ ap (map tell) (one-answers g c l ∙ ap (λ (k : Caches). answersFrom g k l) e)
+
   -- an access after a chain
   pub after-chain : (g : Registers) {c d : Caches} (before : List Moment) {told : List T} (a : Access) (m : Memory)
       → c ≡ emptyCaches → Ran tell c (turnsOf g before) told d
