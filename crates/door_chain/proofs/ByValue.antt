@@ -3,7 +3,7 @@
 use Prim.Native.Nat.{ℕ}
 use mathlib.Core.Bool.{Bool}
 use mathlib.Core.Path.{_≡_, refl, _∙_}
-use mathlib.Core.List.{List, [], _∷_, _++_}
+use mathlib.Core.List.{List, _∷_, _++_}
 use Rattle.definition.specs.Memory.{Memory, fetchOf}
 use Rattle.definition.specs.Translate.{emptyCaches, translate, cacheless}
 use Rattle.definition.specs.Load.{load}
