@@ -142,6 +142,7 @@ fn the_first_that_applies() {
             Refusal::Base => wrong.base,
             Refusal::Range => wrong.range,
             Refusal::Cache => wrong.cache,
+            Refusal::Tree => false, // the lister's alone
         };
         let first = TAKES.map(|checks| checks.iter().copied().find(applies));
         assert_eq!(wrong.refused(), first, "mistakes {bits:06b}");
