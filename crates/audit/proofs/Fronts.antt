@@ -3,10 +3,10 @@ use Prim.Native.Nat.{ℕ, ◌*◌, ◌^◌, ◌<◌}
 use mathlib.Core.Path.{◌≡◌}
 use mathlib.Core.List.{List}
 use lib.ListN.{length, take}
-use Rattle.kept.specs.Front.{ofSixteen}
+use Rattle.kept.specs.Front.{of_sixteen}
 use Rattle.kept.proofs.Fronts as fronts
 
-module _ {X : Type 0} (n : ℕ) (xs : List X) (l : length xs ≡ 16) {k : ℕ} (e : k ≡ ofSixteen n) where
+module _ {X : Type 0} (n : ℕ) (xs : List X) (l : length xs ≡ 16) {k : ℕ} (e : k ≡ of_sixteen n) where
   pub count : k ≡ length (take k xs)
   count = fronts.count n xs l e
 

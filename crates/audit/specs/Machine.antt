@@ -3,19 +3,19 @@
 use Rattle.std.specs.Prelude.{ℕ, ◌+◌, ◌*◌, ◌/◌, ◌%◌, ◌^◌, ◌≡◌, Bool, true, false, not, ◌&&◌, ◌||◌, List, eqb, ltb, get_or}
 use Rattle.definition.specs.Words.{if◌then◌else◌}
 use Rattle.definition.specs.Walk030.{shift_of}
-use Rattle.definition.specs.Walk040.{pageBits}
+use Rattle.definition.specs.Walk040.{page_bits}
 use Rattle.definition.specs.Cache030.{Cache030}
-use Rattle.definition.specs.Refusal.{noFamily, badCache, refusalOf}
-use Rattle.definition.specs.Audit.{isAccessCode, isEnd030, isEnd040}
+use Rattle.definition.specs.Refusal.{no_family, bad_cache, refusal_of}
+use Rattle.definition.specs.Audit.{is_access_code, is_end030, is_end040}
 use Rattle.definition.specs.declared.Registers.{Registers}
 use Rattle.definition.specs.declared.Shift.{Shift}
 use Rattle.definition.specs.declared.Shift.TheVariants.{Bits, NoPage}
 use Rattle.definition.specs.declared.Audit.{Audit}
 use Rattle.cache.specs.Packed.{odd}
-use Rattle.cache.specs.Atc030.{entry_of, tagsOf, pagesOf, shiftIn}
-use Rattle.cache.specs.Atc040.{slot_of, keys_of, basesOf}
+use Rattle.cache.specs.Atc030.{entry_of, tags_of, pages_of, shift_in}
+use Rattle.cache.specs.Atc040.{slot_of, keys_of, bases_of}
 use Rattle.cache.specs.Pair.{SizedAll}
-use Rattle.checks.specs.Given.{checksOf}
+use Rattle.checks.specs.Given.{checks_of}
 use Rattle.audit.specs.declared.Auditing.{Auditing}
 use Rattle.audit.specs.declared.Cached.{Cached}
 use Rattle.audit.specs.declared.walking.Way.{Way}
@@ -24,84 +24,84 @@ use Rattle.audit.specs.declared.walking.Walks.TheVariants as walks
 
 -- ---- states
 -- entry i is next
-abbrev pub goingTo : ℕ → Auditing
-goingTo i = record { over = false; answer = Audit.Clean; i = i }
+abbrev pub going_to : ℕ → Auditing
+going_to i = record { over = false; answer = Audit.Clean; i = i }
 
-abbrev pub doneBy : Audit → Auditing
-doneBy a = record { over = true; answer = a; i = 0 }
+abbrev pub done_by : Audit → Auditing
+done_by a = record { over = true; answer = a; i = 0 }
 
 -- entry `from` is next, if there is one
-abbrev pub goingFrom : ℕ → ℕ → Auditing
-goingFrom from size = if ltb from size then goingTo from else doneBy Audit.Clean
+abbrev pub going_from : ℕ → ℕ → Auditing
+going_from from size = if ltb from size then going_to from else done_by Audit.Clean
 
 -- ---- where it begins
 -- TC has the cache's shift
-abbrev pub atShift : ℕ → Shift → Bool
-atShift s NoPage = false
-atShift s (Bits shift) = eqb s shift
+abbrev pub at_shift : ℕ → Shift → Bool
+at_shift s NoPage = false
+at_shift s (Bits shift) = eqb s shift
 
-unfoldable pub auditRefusal : Registers → Bool → Bool → Cache030 → ℕ
-auditRefusal g two three c = refusalOf (checksOf (noFamily g.family) false false two three (badCache c))
+unfoldable pub audit_refusal : Registers → Bool → Bool → Cache030 → ℕ
+audit_refusal g two three c = refusal_of (checks_of (no_family g.family) false false two three (bad_cache c))
 
 -- the 68030 at another shift has nothing to look at
-abbrev pub beginFamily : Registers → Cache030 → ℕ → Auditing
-beginFamily g c from =
+abbrev pub begin_family : Registers → Cache030 → ℕ → Auditing
+begin_family g c from =
     if eqb g.family 30
-    then (if atShift c.shift (shift_of g.tc) then goingFrom from 22 else doneBy Audit.Clean)
-    else goingFrom from 64
+    then (if at_shift c.shift (shift_of g.tc) then going_from from 22 else done_by Audit.Clean)
+    else going_from from 64
 
-unfoldable pub auditBegin : Registers → Bool → Bool → Cache030 → ℕ → Auditing
-auditBegin g two three c from =
-    if eqb (auditRefusal g two three c) 0 then beginFamily g c from else doneBy (Audit.Refused (auditRefusal g two three c))
+unfoldable pub audit_begin : Registers → Bool → Bool → Cache030 → ℕ → Auditing
+audit_begin g two three c from =
+    if eqb (audit_refusal g two three c) 0 then begin_family g c from else done_by (Audit.Refused (audit_refusal g two three c))
 
 pub record Begun (s r : Auditing) (c3 c4 : List ℕ) : Type 0 where
   pub begins : r ≡ s
   pub sized : SizedAll c3 c4
 
 -- ---- entry i: its two numbers and its page's shift
-unfoldable pub cachedAt : Registers → List ℕ → List ℕ → ℕ → Cached
-cachedAt g c3 c4 i =
+unfoldable pub cached_at : Registers → List ℕ → List ℕ → ℕ → Cached
+cached_at g c3 c4 i =
     if eqb g.family 30
-    then record { key = get_or (tagsOf c3) i 0; page = get_or (pagesOf c3) i 0; shift = shiftIn c3 }
-    else record { key = get_or (keys_of c4) i 0; page = get_or (basesOf c4) i 0; shift = pageBits g.tc }
+    then record { key = get_or (tags_of c3) i 0; page = get_or (pages_of c3) i 0; shift = shift_in c3 }
+    else record { key = get_or (keys_of c4) i 0; page = get_or (bases_of c4) i 0; shift = page_bits g.tc }
 
 pub record LooksAt (g : Registers) (c3 c4 : List ℕ) (i : ℕ) (r : Cached) : Type 0 where
-  pub looks : r ≡ cachedAt g c3 c4 i
+  pub looks : r ≡ cached_at g c3 c4 i
   pub sized : SizedAll c3 c4
 
 -- the walk that it wants, if it wants one
 abbrev pub way030 : ℕ → Way
-way030 t = if odd t && isAccessCode (t / 2 % 8) then Way.By030 (t / 2 % 8) else Way.Idle
+way030 t = if odd t && is_access_code (t / 2 % 8) then Way.By030 (t / 2 % 8) else Way.Idle
 
 abbrev pub way040 : ℕ → Way
 way040 k = if odd k then Way.By040 (odd (k / 2)) else Way.Idle
 
-unfoldable pub wayFor : Registers → Cached → Way
-wayFor g x = if eqb g.family 30 then way030 x.key else way040 x.key
+unfoldable pub way_for : Registers → Cached → Way
+way_for g x = if eqb g.family 30 then way030 x.key else way040 x.key
 
 -- the first address of its page, in 32 bits
-abbrev pub wrappedOf : ℕ → ℕ → ℕ
-wrappedOf page shift = page * 2 ^ shift % 2 ^ 32
+abbrev pub wrapped_of : ℕ → ℕ → ℕ
+wrapped_of page shift = page * 2 ^ shift % 2 ^ 32
 
-unfoldable pub addressFor : Registers → Cached → ℕ
-addressFor g x = if eqb g.family 30 then wrappedOf (x.key / 16) x.shift else wrappedOf (x.key / 4) x.shift
+unfoldable pub address_for : Registers → Cached → ℕ
+address_for g x = if eqb g.family 30 then wrapped_of (x.key / 16) x.shift else wrapped_of (x.key / 4) x.shift
 
 -- ---- what its walk says
-abbrev pub staleBy030 : ℕ → ℕ → ℕ → Walks → Bool
-staleBy030 t p address walks.Idle = false
-staleBy030 t p address (walks.By030 w) = not (isEnd030 (entry_of t p 0) address w.wp w.sup w.end)
-staleBy030 t p address (walks.By040 w) = false
+abbrev pub stale_by030 : ℕ → ℕ → ℕ → Walks → Bool
+stale_by030 t p address walks.Idle = false
+stale_by030 t p address (walks.By030 w) = not (is_end030 (entry_of t p 0) address w.wp w.sup w.end)
+stale_by030 t p address (walks.By040 w) = false
 
-abbrev pub staleBy040 : ℕ → ℕ → ℕ → Walks → Bool
-staleBy040 tc k b walks.Idle = false
-staleBy040 tc k b (walks.By030 w) = false
-staleBy040 tc k b (walks.By040 w) = not (isEnd040 tc (slot_of k b) w.end)
+abbrev pub stale_by040 : ℕ → ℕ → ℕ → Walks → Bool
+stale_by040 tc k b walks.Idle = false
+stale_by040 tc k b (walks.By030 w) = false
+stale_by040 tc k b (walks.By040 w) = not (is_end040 tc (slot_of k b) w.end)
 
-abbrev pub turnedOf : Bool → ℕ → ℕ → Audit → Auditing
-turnedOf stale i last named = if stale then doneBy named else if ltb i last then goingTo (i + 1) else doneBy Audit.Clean
+abbrev pub turned_of : Bool → ℕ → ℕ → Audit → Auditing
+turned_of stale i last named = if stale then done_by named else if ltb i last then going_to (i + 1) else done_by Audit.Clean
 
-unfoldable pub auditTook : Registers → ℕ → Cached → ℕ → Walks → Auditing
-auditTook g i x address w =
+unfoldable pub audit_took : Registers → ℕ → Cached → ℕ → Walks → Auditing
+audit_took g i x address w =
     if eqb g.family 30
-    then turnedOf (staleBy030 x.key x.page address w) i 21 (Audit.Stale030 i)
-    else turnedOf (staleBy040 g.tc x.key x.page w) i 63 (Audit.Stale040 i)
+    then turned_of (stale_by030 x.key x.page address w) i 21 (Audit.Stale030 i)
+    else turned_of (stale_by040 g.tc x.key x.page w) i 63 (Audit.Stale040 i)

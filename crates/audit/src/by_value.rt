@@ -1,10 +1,10 @@
 // The audit and the finding over a pair of caches by value.
 ghost use Rattle.std.specs.Prelude.{◌≡◌};
 ghost use Rattle.definition.specs.Memory.{memory};
-ghost use Rattle.definition.specs.Audit.{auditFrom, finding as findingOf};
-ghost use Rattle.cache.specs.Atc030.{cacheOf};
+ghost use Rattle.definition.specs.Audit.{audit_from, finding as findingOf};
+ghost use Rattle.cache.specs.Atc030.{cache_of};
 ghost use Rattle.cache.specs.Pair.{pair_of};
-ghost use Rattle.audit.specs.Machine.{auditRefusal, auditBegin, Begun, cachedAt, LooksAt};
+ghost use Rattle.audit.specs.Machine.{audit_refusal, audit_begin, Begun, cached_at, LooksAt};
 
 use crate::telling::{access_for, bare, no_caches, told};
 use crate::walking::walk_for;
@@ -18,7 +18,7 @@ use mmu::by_value;
 
 // Where an audit of this pair begins.
 fn begin_in(caches: CachePair, two: bool, three: bool, g: Registers, from: u32) -> Auditing
-    ensures { Begun (auditBegin g two three (cacheOf caches.c030) from) result caches.c030 caches.c040 }
+    ensures { Begun (audit_begin g two three (cache_of caches.c030) from) result caches.c030 caches.c040 }
 {
     let c030 = caches.c030;
     let c040 = caches.c040;
@@ -36,7 +36,7 @@ fn looked_in(caches: CachePair, g: Registers, i: u32) -> Cached
 
 // The same of the entry that is next.
 fn next_in(caches: CachePair, g: Registers, s: Auditing) -> Cached
-    ensures { result ≡ cachedAt g caches.c030 caches.c040 s.i }
+    ensures { result ≡ cached_at g caches.c030 caches.c040 s.i }
 {
     let c030 = caches.c030;
     let c040 = caches.c040;
@@ -45,7 +45,7 @@ fn next_in(caches: CachePair, g: Registers, s: Auditing) -> Cached
 
 // The number of the refusal, and 0 where none is.
 fn refusal_in(caches: CachePair, two: bool, three: bool, g: Registers) -> u32
-    ensures { result ≡ auditRefusal g two three (cacheOf caches.c030) }
+    ensures { result ≡ audit_refusal g two three (cache_of caches.c030) }
 {
     let c030 = caches.c030;
     refusal(&c030, two, three, g)
@@ -60,7 +60,7 @@ pub fn audit(
     caches: CachePair,
     from: u32,
 ) -> Audit
-    ensures { result ≡ auditFrom g (memory longs.now base ranges.now) (pair_of caches) from }
+    ensures { result ≡ audit_from g (memory longs.now base ranges.now) (pair_of caches) from }
 {
     let two = checks::bad_longs(longs, base);
     let three = memory::ranges::any_crossed(ranges);

@@ -2,7 +2,7 @@
 ghost use Rattle.std.specs.Prelude.{◌≡◌};
 ghost use Rattle.definition.specs.Memory.{memory};
 ghost use Rattle.definition.specs.Audit.{finding as findingOf};
-ghost use Rattle.cache.specs.Pair.{cachesOf};
+ghost use Rattle.cache.specs.Pair.{caches_of};
 
 use crate::telling::{access_for, bare, no_caches, told};
 use crate::{looked_at, refusal};
@@ -22,7 +22,7 @@ pub fn finding_lent(
     i: u32,
     write: bool,
 ) -> Finding
-    ensures { result ≡ findingOf g (memory longs.now base ranges.now) (cachesOf c030.now c040.now) i write }
+    ensures { result ≡ findingOf g (memory longs.now base ranges.now) (caches_of c030.now c040.now) i write }
 {
     let two = checks::bad_longs(longs, base);
     let three = memory::ranges::any_crossed(ranges);

@@ -9,12 +9,12 @@ mod walking;
 ghost use Rattle.std.specs.Prelude.{◌≡◌, ◌<◌, get_or};
 ghost use Rattle.definition.specs.Memory.{memory};
 ghost use Rattle.definition.specs.Walk030.{shift_of};
-ghost use Rattle.definition.specs.Audit.{isAccessCode, isEnd030, isEnd040, auditFrom};
+ghost use Rattle.definition.specs.Audit.{is_access_code, is_end030, is_end040, audit_from};
 ghost use Rattle.cache.specs.Packed.{part};
-ghost use Rattle.cache.specs.Atc030.{cacheOf, entry_of};
+ghost use Rattle.cache.specs.Atc030.{cache_of, entry_of};
 ghost use Rattle.cache.specs.Atc040.{slot_of};
-ghost use Rattle.cache.specs.Pair.{cachesOf};
-ghost use Rattle.audit.specs.Machine.{goingTo, doneBy, goingFrom, atShift, auditRefusal, auditBegin, Begun, cachedAt, LooksAt, way030, way040, wayFor, wrappedOf, addressFor, staleBy030, staleBy040, turnedOf, auditTook};
+ghost use Rattle.cache.specs.Pair.{caches_of};
+ghost use Rattle.audit.specs.Machine.{going_to, done_by, going_from, at_shift, audit_refusal, audit_begin, Begun, cached_at, LooksAt, way030, way040, way_for, wrapped_of, address_for, stale_by030, stale_by040, turned_of, audit_took};
 
 use crate::walking::{Walks, Way, walk_for};
 use cache::atc030;
@@ -32,7 +32,7 @@ struct Auditing {
 
 // Entry i is next.
 fn going(i: u32) -> Auditing
-    ensures { result ≡ goingTo i }
+    ensures { result ≡ going_to i }
 {
     Auditing {
         over: false,
@@ -43,7 +43,7 @@ fn going(i: u32) -> Auditing
 
 // It is over.
 fn done(answer: Audit) -> Auditing
-    ensures { result ≡ doneBy answer }
+    ensures { result ≡ done_by answer }
 {
     Auditing {
         over: true,
@@ -54,7 +54,7 @@ fn done(answer: Audit) -> Auditing
 
 // Entry `from` is next, if there is one.
 fn going_from(from: u32, size: u32) -> Auditing
-    ensures { result ≡ goingFrom from size }
+    ensures { result ≡ going_from from size }
 {
     if from < size {
         return going(from);
@@ -86,7 +86,7 @@ fn part_at(list: &[u64], start: u32, size: u32, i: u32) -> u64
 
 // Whether TC has the cache's shift.
 fn at_shift(shift: u64, tc: u32) -> bool
-    ensures { result ≡ atShift shift (shift_of tc) }
+    ensures { result ≡ at_shift shift (shift_of tc) }
 {
     match memory::page030::page_shift(tc) {
         Shift::NoPage => false,
@@ -96,7 +96,7 @@ fn at_shift(shift: u64, tc: u32) -> bool
 
 // The number of the refusal, and 0 where none is. `two`: the base is bad; `three`: a range is crossed.
 fn refusal(c030: &Atc030, two: bool, three: bool, g: Registers) -> u32
-    ensures { result ≡ auditRefusal g two three (cacheOf c030.now) }
+    ensures { result ≡ audit_refusal g two three (cache_of c030.now) }
 {
     let one = checks::no_family(g.family);
     let four = atc030::bad_cache(c030);
@@ -105,7 +105,7 @@ fn refusal(c030: &Atc030, two: bool, three: bool, g: Registers) -> u32
 
 // The refusals; then the 68030 at another shift has nothing to look at.
 fn opened(c030: &Atc030, two: bool, three: bool, g: Registers, from: u32) -> Auditing
-    ensures { result ≡ auditBegin g two three (cacheOf c030.now) from }
+    ensures { result ≡ audit_begin g two three (cache_of c030.now) from }
 {
     let n = refusal(c030, two, three, g);
     if n != 0 {
@@ -123,7 +123,7 @@ fn opened(c030: &Atc030, two: bool, three: bool, g: Registers, from: u32) -> Aud
 
 // The same, with the arrays' lengths.
 fn begin(c030: &Atc030, c040: &Atc040, two: bool, three: bool, g: Registers, from: u32) -> Auditing
-    ensures { Begun (auditBegin g two three (cacheOf c030.now) from) result c030.now c040.now }
+    ensures { Begun (audit_begin g two three (cache_of c030.now) from) result c030.now c040.now }
 {
     checks::lengths(c030, c040);
     opened(c030, two, three, g, from)
@@ -140,7 +140,7 @@ struct Cached {
 }
 
 fn cached_at(c030: &Atc030, c040: &Atc040, g: Registers, i: u32) -> Cached
-    ensures { result ≡ cachedAt g c030.now c040.now i }
+    ensures { result ≡ cached_at g c030.now c040.now i }
 {
     if g.family == 30 {
         let key = part_at(c030, 0, 22, i);
@@ -168,14 +168,14 @@ fn looked_at(c030: &Atc030, c040: &Atc040, g: Registers, i: u32) -> Cached
 
 // What stands at the entry that is next.
 fn next_at(c030: &Atc030, c040: &Atc040, g: Registers, s: Auditing) -> Cached
-    ensures { result ≡ cachedAt g c030.now c040.now s.i }
+    ensures { result ≡ cached_at g c030.now c040.now s.i }
 {
     cached_at(c030, c040, g, s.i)
 }
 
 // The codes of an access: 1, 2, 5 and 6.
 fn is_access_code(code: u32) -> bool
-    ensures { result ≡ isAccessCode code }
+    ensures { result ≡ is_access_code code }
 {
     (code == 1) | (code == 2) | (code == 5) | (code == 6)
 }
@@ -207,7 +207,7 @@ fn way_040(k: u64) -> Way
 
 // The walk that an entry wants: none, which costs no fetch, where no access can meet it.
 fn way_for(g: Registers, x: Cached) -> Way
-    ensures { result ≡ wayFor g x }
+    ensures { result ≡ way_for g x }
 {
     if g.family == 30 {
         return way_030(x.key);
@@ -218,14 +218,14 @@ fn way_for(g: Registers, x: Cached) -> Way
 // The first address of a page, in 32 bits.
 fn wrapped(page: u64, shift: u32) -> u32
     requires { shift < 32 }
-    ensures { result ≡ wrappedOf page shift }
+    ensures { result ≡ wrapped_of page shift }
 {
     ((page << shift) % 4294967296) as u32
 }
 
 // The same at any shift: from 32 on none of the page's bits is left.
 fn first_address(page: u64, shift: u64) -> u32
-    ensures { result ≡ wrappedOf page shift }
+    ensures { result ≡ wrapped_of page shift }
 {
     if shift < 32 {
         return wrapped(page, shift as u32);
@@ -235,7 +235,7 @@ fn first_address(page: u64, shift: u64) -> u32
 
 // The first address of an entry's page.
 fn address_for(g: Registers, x: Cached) -> u32
-    ensures { result ≡ addressFor g x }
+    ensures { result ≡ address_for g x }
 {
     if g.family == 30 {
         return first_address(x.key / 16, x.shift);
@@ -247,7 +247,7 @@ fn address_for(g: Registers, x: Cached) -> u32
 
 // A page that S lets be cached, at the entry's base, with WP only where the entry has it.
 fn is_end_030(t: u64, p: u64, address: u32, wp: bool, sup: bool, end: End) -> bool
-    ensures { result ≡ isEnd030 (entry_of t p 0) address wp sup end }
+    ensures { result ≡ is_end030 (entry_of t p 0) address wp sup end }
 {
     match end {
         End::Page { field, consumed } => {
@@ -264,7 +264,7 @@ fn is_end_030(t: u64, p: u64, address: u32, wp: bool, sup: bool, end: End) -> bo
 
 // A page at the slot's base, with W, or S for a user, only where the slot has it.
 fn is_end_040(tc: u32, k: u64, b: u64, end: End040) -> bool
-    ensures { result ≡ isEnd040 tc (slot_of k b) end }
+    ensures { result ≡ is_end040 tc (slot_of k b) end }
 {
     match end {
         End040::Resident { field, wp, sup } => {
@@ -279,7 +279,7 @@ fn is_end_040(tc: u32, k: u64, b: u64, end: End040) -> bool
 
 // Whether a 68030 entry is stale, by its walk.
 fn stale_by_030(t: u64, p: u64, address: u32, walks: Walks) -> bool
-    ensures { result ≡ staleBy030 t p address walks }
+    ensures { result ≡ stale_by030 t p address walks }
 {
     match walks {
         Walks::Idle => false,
@@ -293,7 +293,7 @@ fn stale_by_030(t: u64, p: u64, address: u32, walks: Walks) -> bool
 
 // Whether a 68040 slot is stale, by its walk.
 fn stale_by_040(tc: u32, k: u64, b: u64, walks: Walks) -> bool
-    ensures { result ≡ staleBy040 tc k b walks }
+    ensures { result ≡ stale_by040 tc k b walks }
 {
     match walks {
         Walks::Idle => false,
@@ -307,7 +307,7 @@ fn stale_by_040(tc: u32, k: u64, b: u64, walks: Walks) -> bool
 
 // After entry i: it is named, or the next is looked at, or there is none.
 fn turned(stale: bool, i: u32, last: u32, named: Audit) -> Auditing
-    ensures { result ≡ turnedOf stale i last named }
+    ensures { result ≡ turned_of stale i last named }
 {
     if stale {
         return done(named);
@@ -320,7 +320,7 @@ fn turned(stale: bool, i: u32, last: u32, named: Audit) -> Auditing
 
 // The next entry's walk is taken in.
 fn took(g: Registers, s: Auditing, x: Cached, address: u32, walks: Walks) -> Auditing
-    ensures { result ≡ auditTook g s.i x address walks }
+    ensures { result ≡ audit_took g s.i x address walks }
 {
     let i = s.i;
     if g.family == 30 {
@@ -360,7 +360,7 @@ pub fn audit_lent(
     g: Registers,
     from: u32,
 ) -> Audit
-    ensures { result ≡ auditFrom g (memory longs.now base ranges.now) (cachesOf c030.now c040.now) from }
+    ensures { result ≡ audit_from g (memory longs.now base ranges.now) (caches_of c030.now c040.now) from }
 {
     let two = checks::bad_longs(longs, base);
     let three = memory::ranges::any_crossed(ranges);

@@ -1,8 +1,8 @@
 // The audit and the finding over the first `n` of the ranges that a caller keeps in an array: they are lent as a slice.
 ghost use Rattle.std.specs.Prelude.{◌≡◌, take};
 ghost use Rattle.definition.specs.Memory.{memory};
-ghost use Rattle.definition.specs.Audit.{auditFrom, finding as findingOf};
-ghost use Rattle.cache.specs.Pair.{cachesOf};
+ghost use Rattle.definition.specs.Audit.{audit_from, finding as findingOf};
+ghost use Rattle.cache.specs.Pair.{caches_of};
 
 use crate::audit_lent;
 use crate::finding::finding_lent;
@@ -21,7 +21,7 @@ pub fn audit_kept(
     g: Registers,
     from: u32,
 ) -> Audit
-    ensures { result ≡ auditFrom g (memory longs.now base (take n list)) (cachesOf c030.now c040.now) from }
+    ensures { result ≡ audit_from g (memory longs.now base (take n list)) (caches_of c030.now c040.now) from }
 {
     let m = kept::of_sixteen(n);
     audit_lent(c030, c040, longs, base, &list[..m], g, from)
@@ -39,7 +39,7 @@ pub fn finding_kept(
     i: u32,
     write: bool,
 ) -> Finding
-    ensures { result ≡ findingOf g (memory longs.now base (take n list)) (cachesOf c030.now c040.now) i write }
+    ensures { result ≡ findingOf g (memory longs.now base (take n list)) (caches_of c030.now c040.now) i write }
 {
     let m = kept::of_sixteen(n);
     finding_lent(c030, c040, longs, base, &list[..m], g, i, write)

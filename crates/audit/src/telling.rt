@@ -1,9 +1,9 @@
 // What is said of one entry, from its numbers: the parts that the calls share.
 ghost use Rattle.std.specs.Prelude.{◌≡◌};
-ghost use Rattle.definition.specs.Translate.{emptyCaches};
+ghost use Rattle.definition.specs.Translate.{empty_caches};
 ghost use Rattle.definition.specs.Audit.{bare as bareOf};
 ghost use Rattle.cache.specs.Pair.{pair_of};
-ghost use Rattle.audit.specs.Told.{codeFor, hitFor, accessFor, toldOf};
+ghost use Rattle.audit.specs.Told.{code_for, hit_for, access_for, told_of};
 
 use crate::{Cached, address_for};
 use cache::{CachePair, atc030, atc040};
@@ -12,7 +12,7 @@ use mmu::by_value::Translated;
 
 // The code of an entry; a 68040 slot has the data code of its privilege.
 pub fn code_for(g: Registers, x: Cached) -> u32
-    ensures { result ≡ codeFor g x }
+    ensures { result ≡ code_for g x }
 {
     if g.family == 30 {
         return (x.key / 2 % 8) as u32;
@@ -22,7 +22,7 @@ pub fn code_for(g: Registers, x: Cached) -> u32
 
 // What the entry gives an access with its key.
 fn hit_for(g: Registers, x: Cached, write: bool) -> Hit
-    ensures { result ≡ hitFor g x write }
+    ensures { result ≡ hit_for g x write }
 {
     if x.key % 2 != 1 {
         return Hit::Miss;
@@ -35,7 +35,7 @@ fn hit_for(g: Registers, x: Cached, write: bool) -> Hit
 
 // An access with the entry's key, to its page's first byte.
 pub fn access_for(g: Registers, x: Cached, write: bool) -> Access
-    ensures { result ≡ accessFor g x write }
+    ensures { result ≡ access_for g x write }
 {
     let address = address_for(g, x);
     let code = code_for(g, x);
@@ -75,14 +75,14 @@ pub fn bare(g: Registers) -> Registers
 
 // The empty caches that a cacheless walk starts from.
 pub fn no_caches() -> CachePair
-    ensures { pair_of result ≡ emptyCaches }
+    ensures { pair_of result ≡ empty_caches }
 {
     CachePair::empty()
 }
 
 // The refusal, or what the cache and the cacheless walk give.
 pub fn told(g: Registers, x: Cached, write: bool, n: u32, t: Translated) -> Finding
-    ensures { result ≡ toldOf g x write n t.answer }
+    ensures { result ≡ told_of g x write n t.answer }
 {
     if n != 0 {
         return Finding::Refused(n);

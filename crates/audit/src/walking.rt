@@ -1,7 +1,7 @@
 // The walk of an entry's key.
 ghost use Rattle.std.specs.Prelude.{◌≡◌};
 ghost use Rattle.definition.specs.Memory.{memory};
-ghost use Rattle.audit.specs.Ways.{walksOf};
+ghost use Rattle.audit.specs.Ways.{walks_of};
 ghost use Rattle.audit.specs.declared.walking.Walks.{Walks};
 
 use definition::{Range, Registers};
@@ -54,7 +54,7 @@ pub fn walk_for(
     address: u32,
     way: Way,
 ) -> Walks
-    ensures { result ≡ walksOf (memory longs.now base ranges.now) g address way }
+    ensures { result ≡ walks_of (memory longs.now base ranges.now) g address way }
 {
     match way {
         Way::Idle => idle(),

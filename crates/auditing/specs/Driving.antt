@@ -12,14 +12,14 @@ pub record Plays (s : State) (b : List ℕ) (s' : State) (rest : List ℕ) : Typ
   pub runs : Runs s b printed s' rest
 
 -- whether a run is not the last
-abbrev pub goesOn : Next → Bool
-goesOn next.More = true
-goesOn next.Input = true
-goesOn next.Over = false
+abbrev pub goes_on : Next → Bool
+goes_on next.More = true
+goes_on next.Input = true
+goes_on next.Over = false
 
 -- then it leaves the bytes from `read` on
 pub record Went (n : Next) (s : State) (b : List ℕ) (s' : State) (read : ℕ) : Type 0 where
-  pub plays : goesOn n ≡ true → Plays s b s' (drop read b)
+  pub plays : goes_on n ≡ true → Plays s b s' (drop read b)
 
 -- while the driver goes on, what is left of b waits at the front of the buffer
 pub record Waits (on : Bool) (s : State) (b : List ℕ) (s' : State) (buffer : List ℕ) (have : ℕ) : Type 0 where

@@ -13,9 +13,9 @@ pub bit_is : (b : Bool) → bool_byte b ≡ bit b
 bit_is true = refl
 bit_is false = refl
 
-pub bit-small : (b : Bool) → bit b ≤ 1
-bit-small true = le_refl 1
-bit-small false = zero-le
+pub bit_small : (b : Bool) → bit b ≤ 1
+bit_small true = le_refl 1
+bit_small false = zero-le
 
 pub odd_is : (b : Bool) (n : ℕ) → n % 2 ≡ bit b → odd n ≡ b
 odd_is true n e = eq-eqb (n % 2) 1 e
@@ -30,15 +30,15 @@ low_bit n = go (odd n) refl
         let h : (n % 2 ≡ 1) → ⊥ = eqb-false (n % 2) 1 e in
         omega arith
 
-pub odd-bit : (b : Bool) (n : ℕ) → odd n ≡ b → n % 2 ≡ bit b
-odd-bit b n e = sym (rw e at (low_bit n))
+pub odd_bit : (b : Bool) (n : ℕ) → odd n ≡ b → n % 2 ≡ bit b
+odd_bit b n e = sym (rw e at (low_bit n))
 
-pub even-true : (n : ℕ) → n % 2 ≡ 0 → not (odd n) ≡ true
-even-true n h = rw (odd_is false n h)
+pub even_true : (n : ℕ) → n % 2 ≡ 0 → not (odd n) ≡ true
+even_true n h = rw (odd_is false n h)
 
-pub even-false : (n : ℕ) → (n % 2 ≡ 0 → ⊥) → not (odd n) ≡ false
-even-false n h = rw (odd_is true n (omega arith))
+pub even_false : (n : ℕ) → (n % 2 ≡ 0 → ⊥) → not (odd n) ≡ false
+even_false n h = rw (odd_is true n (omega arith))
 
 -- a number of 32 bits that is shifted right by 32 or more
-pub shifted-out : (x s : ℕ) → 32 ≤ s → x < 2 ^ 32 → 0 ≡ x / 2 ^ s
-shifted-out x s h l = sym (div-eq_of_lt (le_trans l (pow-le-pow_right (suc-le-suc zero-le) h)))
+pub shifted_out : (x s : ℕ) → 32 ≤ s → x < 2 ^ 32 → 0 ≡ x / 2 ^ s
+shifted_out x s h l = sym (div-eq_of_lt (le_trans l (pow-le-pow_right (suc-le-suc zero-le) h)))

@@ -15,10 +15,10 @@ use Rattle.definition.specs.Words.{if◌then◌else◌, first_of, count_of, all_
 
 -- ---- a test that goes by a number of each element
 module _ {A : Type 0} (q : ℕ → Bool) (g : A → ℕ) where
-  pub first-map : (l : List A) → first_of (λ (e : A). q (g e)) l ≡ first_of q (map g l)
+  pub first_map : (l : List A) → first_of (λ (e : A). q (g e)) l ≡ first_of q (map g l)
   unfolding first_of
-  first-map [] = refl
-  first-map (x ∷ xs) = rw (first-map xs)
+  first_map [] = refl
+  first_map (x ∷ xs) = rw (first_map xs)
 
   pub count_map : (l : List A) → count_of (λ (e : A). q (g e)) l ≡ count_of q (map g l)
   unfolding count_of
@@ -32,54 +32,54 @@ module _ {A : Type 0} (q : ℕ → Bool) (g : A → ℕ) where
 
 -- ---- searches and counts
 module _ (p : ℕ → Bool) where
-  first-at : (l : List ℕ) (r : ℕ) → r < length l → p (get_or l r 0) ≡ true → ((k : ℕ) → k < r → p (get_or l k 0) ≡ false) → first_of p l ≡ r
+  first_at : (l : List ℕ) (r : ℕ) → r < length l → p (get_or l r 0) ≡ true → ((k : ℕ) → k < r → p (get_or l k 0) ≡ false) → first_of p l ≡ r
   unfolding first_of
-  first-at [] r h t f = absurd (not-suc-le-zero h)
-  first-at (x ∷ xs) zero h t f = rw t
-  first-at (x ∷ xs) (suc r) h t f =
+  first_at [] r h t f = absurd (not-suc-le-zero h)
+  first_at (x ∷ xs) zero h t f = rw t
+  first_at (x ∷ xs) (suc r) h t f =
       rw (f 0 (suc-le-suc zero-le))
-      (ap suc (first-at xs r (le_of_suc-le-suc h) t (λ k q. f (suc k) (suc-le-suc q))))
+      (ap suc (first_at xs r (le_of_suc-le-suc h) t (λ k q. f (suc k) (suc-le-suc q))))
 
-  first-no : (l : List ℕ) → ((k : ℕ) → k < length l → p (get_or l k 0) ≡ false) → first_of p l ≡ length l
+  first_no : (l : List ℕ) → ((k : ℕ) → k < length l → p (get_or l k 0) ≡ false) → first_of p l ≡ length l
   unfolding first_of
-  first-no [] f = refl
-  first-no (x ∷ xs) f =
+  first_no [] f = refl
+  first_no (x ∷ xs) f =
       rw (f 0 (suc-le-suc zero-le))
-      (ap suc (first-no xs (λ k q. f (suc k) (suc-le-suc q))))
+      (ap suc (first_no xs (λ k q. f (suc k) (suc-le-suc q))))
 
   -- r is the first of n that passes
-  pub first-is : (l : List ℕ) (n r y : ℕ) → length l ≡ n → r < n → y ≡ get_or l r 0 → p y ≡ true → ((k : ℕ) → k < r → p (get_or l k 0) ≡ false) → r ≡ first_of p l
-  first-is l n r y e h a t f = sym (first-at l r (rw e h) (rw a at t) f)
+  pub first_is : (l : List ℕ) (n r y : ℕ) → length l ≡ n → r < n → y ≡ get_or l r 0 → p y ≡ true → ((k : ℕ) → k < r → p (get_or l k 0) ≡ false) → r ≡ first_of p l
+  first_is l n r y e h a t f = sym (first_at l r (rw e h) (rw a at t) f)
 
   -- one more does not pass
   pub first_past : (l : List ℕ) (i y : ℕ) → y ≡ get_or l i 0 → p y ≡ false → ((k : ℕ) → k < i → p (get_or l k 0) ≡ false) → (k : ℕ) → k < i + 1 → p (get_or l k 0) ≡ false
   first_past l i y a t f = below_more (λ (k : ℕ). p (get_or l k 0) ≡ false) i f (rw a at t)
 
   -- none of n passes
-  pub first-none : (l : List ℕ) (n i : ℕ) → length l ≡ n → n ≤ i → ((k : ℕ) → k < i → p (get_or l k 0) ≡ false) → n ≡ first_of p l
-  first-none l n i e h f = sym (first-no l (λ k q. f k (le_trans (rw e at q) h)) ∙ e)
+  pub first_none : (l : List ℕ) (n i : ℕ) → length l ≡ n → n ≤ i → ((k : ℕ) → k < i → p (get_or l k 0) ≡ false) → n ≡ first_of p l
+  first_none l n i e h f = sym (first_no l (λ k q. f k (le_trans (rw e at q) h)) ∙ e)
 
   -- a search from the end: what the elements from i - 1 on say, by those from i on
-  pub down-none : (l : List ℕ) (n : ℕ) → length l ≡ n → n ≡ n + first_of p (drop n l)
+  pub down_none : (l : List ℕ) (n : ℕ) → length l ≡ n → n ≡ n + first_of p (drop n l)
   unfolding first_of
-  down-none l n e = rw (drop_of_length-le l {i = n} (omega arith)) (omega arith)
+  down_none l n e = rw (drop_of_length-le l {i = n} (omega arith)) (omega arith)
 
   module _ (l : List ℕ) (i : ℕ) (h : 0 < i) (k : i ≤ length l) where
-    down-cons : drop (i - 1) l ≡ get_or l (i - 1) 0 ∷ drop i l
-    down-cons =
+    down_cons : drop (i - 1) l ≡ get_or l (i - 1) 0 ∷ drop i l
+    down_cons =
         let e : suc (i - 1) ≡ i = omega arith in
         rw (drop-cons l (i - 1) 0 (omega arith), e)
 
-    pub down-here : (y : ℕ) → y ≡ get_or l (i - 1) 0 → p y ≡ true → i - 1 ≡ i - 1 + first_of p (drop (i - 1) l)
+    pub down_here : (y : ℕ) → y ≡ get_or l (i - 1) 0 → p y ≡ true → i - 1 ≡ i - 1 + first_of p (drop (i - 1) l)
     unfolding first_of
-    down-here y a t = rw (down-cons, ← a, t) (omega arith)
+    down_here y a t = rw (down_cons, ← a, t) (omega arith)
 
-    pub down-past : (found y : ℕ) → y ≡ get_or l (i - 1) 0 → p y ≡ false → found ≡ i + first_of p (drop i l) → found ≡ i - 1 + first_of p (drop (i - 1) l)
+    pub down_past : (found y : ℕ) → y ≡ get_or l (i - 1) 0 → p y ≡ false → found ≡ i + first_of p (drop i l) → found ≡ i - 1 + first_of p (drop (i - 1) l)
     unfolding first_of
-    down-past found y a t e = rw (down-cons, ← a, t) (omega arith)
+    down_past found y a t e = rw (down_cons, ← a, t) (omega arith)
 
-  pub down-all : (l : List ℕ) (i found : ℕ) → i ≤ 0 → found ≡ i + first_of p (drop i l) → found ≡ first_of p l
-  down-all l i found h e =
+  pub down_all : (l : List ℕ) (i found : ℕ) → i ≤ 0 → found ≡ i + first_of p (drop i l) → found ≡ first_of p l
+  down_all l i found h e =
       let z : i ≡ 0 = omega arith in
       (rw z at e) ∙ zero-add (first_of p l)
 
@@ -88,40 +88,40 @@ module _ (p : ℕ → Bool) where
   all_true [] f = refl
   all_true (x ∷ xs) f = rw (f 0 (suc-le-suc zero-le)) (all_true xs (λ k q. f (suc k) (suc-le-suc q)))
 
-  all-false : (l : List ℕ) (k : ℕ) → k < length l → p (get_or l k 0) ≡ false → all_of p l ≡ false
+  all_false : (l : List ℕ) (k : ℕ) → k < length l → p (get_or l k 0) ≡ false → all_of p l ≡ false
   unfolding all_of
-  all-false [] k h e = absurd (not-suc-le-zero h)
-  all-false (x ∷ xs) zero h e = rw e
-  all-false (x ∷ xs) (suc k) h e = rw (all-false xs k (le_of_suc-le-suc h) e) (and-false (p x))
+  all_false [] k h e = absurd (not-suc-le-zero h)
+  all_false (x ∷ xs) zero h e = rw e
+  all_false (x ∷ xs) (suc k) h e = rw (all_false xs k (le_of_suc-le-suc h) e) (and-false (p x))
 
   -- a count up to i: n so far
   pub record Counted (l : List ℕ) (i n : ℕ) : Type 0 where
     pub at_most : n ≤ i
     pub rest : n + count_of p (drop i l) ≡ count_of p l
 
-  count-step : (l : List ℕ) (i : ℕ) → i < length l → count_of p (drop i l) ≡ (if p (get_or l i 0) then suc (count_of p (drop (i + 1) l)) else count_of p (drop (i + 1) l))
+  count_step : (l : List ℕ) (i : ℕ) → i < length l → count_of p (drop i l) ≡ (if p (get_or l i 0) then suc (count_of p (drop (i + 1) l)) else count_of p (drop (i + 1) l))
   unfolding count_of
-  count-step l i h = rw (add-one, drop-cons l i 0)
+  count_step l i h = rw (add-one, drop-cons l i 0)
 
-  count-end : (l : List ℕ) (i : ℕ) → length l ≤ i → count_of p (drop i l) ≡ 0
+  count_end : (l : List ℕ) (i : ℕ) → length l ≤ i → count_of p (drop i l) ≡ 0
   unfolding count_of
-  count-end l i e = rw (drop_of_length-le l e)
+  count_end l i e = rw (drop_of_length-le l e)
 
-  pub count-start : (l : List ℕ) → Counted l 0 0
-  count-start l = record { at_most = zero-le; rest = zero-add (count_of p l) }
+  pub count_start : (l : List ℕ) → Counted l 0 0
+  count_start l = record { at_most = zero-le; rest = zero-add (count_of p l) }
 
-  pub count-one : (l : List ℕ) (i n y : ℕ) → i < length l → y ≡ get_or l i 0 → p y ≡ true → Counted l i n → Counted l (i + 1) (n + 1)
-  count-one l i n y h a t r =
-      let e = rw (← a, t) at (count-step l i h) in
+  pub count_one : (l : List ℕ) (i n y : ℕ) → i < length l → y ≡ get_or l i 0 → p y ≡ true → Counted l i n → Counted l (i + 1) (n + 1)
+  count_one l i n y h a t r =
+      let e = rw (← a, t) at (count_step l i h) in
       record { at_most = omega (arith, r.at_most); rest = omega (arith, r.rest, e) }
 
-  pub count-skip : (l : List ℕ) (i n y : ℕ) → i < length l → y ≡ get_or l i 0 → p y ≡ false → Counted l i n → Counted l (i + 1) n
-  count-skip l i n y h a t r =
-      let e = rw (← a, t) at (count-step l i h) in
+  pub count_skip : (l : List ℕ) (i n y : ℕ) → i < length l → y ≡ get_or l i 0 → p y ≡ false → Counted l i n → Counted l (i + 1) n
+  count_skip l i n y h a t r =
+      let e = rw (← a, t) at (count_step l i h) in
       record { at_most = omega (arith, r.at_most); rest = omega (arith, r.rest, e) }
 
-  pub count-is : (l : List ℕ) (i n : ℕ) → length l ≤ i → Counted l i n → n ≡ count_of p l
-  count-is l i n h r = omega (arith, r.rest, count-end l i h)
+  pub count_is : (l : List ℕ) (i n : ℕ) → length l ≤ i → Counted l i n → n ≡ count_of p l
+  count_is l i n h r = omega (arith, r.rest, count_end l i h)
 
 -- ---- the smallest
 -- x stands at b, is at most each of the first i, and less than each before b
@@ -133,66 +133,66 @@ pub record Least (l : List ℕ) (i b x : ℕ) : Type 0 where
 pub least_start : (l : List ℕ) (x : ℕ) → x ≡ get_or l 0 0 → Least l 0 0 x
 least_start l x a = record { is = a; lows = below_none (λ (k : ℕ). x ≤ get_or l k 0); first = below_none (λ (k : ℕ). x < get_or l k 0) }
 
-pub least-new : (l : List ℕ) (i b x y : ℕ) → y ≡ get_or l i 0 → y < x → Least l i b x → Least l (i + 1) i y
-least-new l i b x y a h r =
+pub least_new : (l : List ℕ) (i b x y : ℕ) → y ≡ get_or l i 0 → y < x → Least l i b x → Least l (i + 1) i y
+least_new l i b x y a h r =
     record {
       is = a;
       lows = below_more (λ (k : ℕ). y ≤ get_or l k 0) i (λ k q. omega (arith, r.lows k q)) (omega arith);
       first = λ k q. omega (arith, r.lows k q);
     }
 
-pub least-keep : (l : List ℕ) (i b x y : ℕ) → y ≡ get_or l i 0 → x ≤ y → Least l i b x → Least l (i + 1) b x
-least-keep l i b x y a h r =
+pub least_keep : (l : List ℕ) (i b x y : ℕ) → y ≡ get_or l i 0 → x ≤ y → Least l i b x → Least l (i + 1) b x
+least_keep l i b x y a h r =
     record {
       is = r.is;
       lows = below_more (λ (k : ℕ). x ≤ get_or l k 0) i r.lows (omega arith);
       first = r.first;
     }
 
-pub least-is : (l : List ℕ) (n b x : ℕ) → length l ≡ n → b < n → Least l n b x → b ≡ first_of (λ (x : ℕ). all_of (λ (y : ℕ). leb x y) l) l
-least-is l n b x e h r =
-    first-is (λ (x : ℕ). all_of (λ (y : ℕ). leb x y) l) l n b (get_or l b 0) e h refl
+pub least_is : (l : List ℕ) (n b x : ℕ) → length l ≡ n → b < n → Least l n b x → b ≡ first_of (λ (x : ℕ). all_of (λ (y : ℕ). leb x y) l) l
+least_is l n b x e h r =
+    first_is (λ (x : ℕ). all_of (λ (y : ℕ). leb x y) l) l n b (get_or l b 0) e h refl
     (all_true (λ (y : ℕ). leb (get_or l b 0) y) l (λ k q. le-leb _ _ (rw r.is at (r.lows k (rw e at q)))))
-    (λ k q. all-false (λ (y : ℕ). leb (get_or l k 0) y) l b (rw e h) (lt-leb _ _ (rw r.is at (r.first k q))))
+    (λ k q. all_false (λ (y : ℕ). leb (get_or l k 0) y) l b (rw e h) (lt-leb _ _ (rw r.is at (r.first k q))))
 
 -- ---- changes in place
 -- the first i elements through f, the others as they are
-unfoldable pub mapTo : (ℕ → ℕ) → ℕ → List ℕ → List ℕ
-mapTo f zero l = l
-mapTo f (suc i) [] = []
-mapTo f (suc i) (x ∷ xs) = f x ∷ mapTo f i xs
+unfoldable pub map_to : (ℕ → ℕ) → ℕ → List ℕ → List ℕ
+map_to f zero l = l
+map_to f (suc i) [] = []
+map_to f (suc i) (x ∷ xs) = f x ∷ map_to f i xs
 
 module _ (f : ℕ → ℕ) where
-  pub mapTo-none : (l : List ℕ) → mapTo f 0 l ≡ l
-  unfolding mapTo
-  mapTo-none l = refl
+  pub map_to_none : (l : List ℕ) → map_to f 0 l ≡ l
+  unfolding map_to
+  map_to_none l = refl
 
-  step : (l : List ℕ) (i : ℕ) → set (mapTo f i l) i (f (get_or l i 0)) ≡ mapTo f (suc i) l
-  unfolding mapTo
+  step : (l : List ℕ) (i : ℕ) → set (map_to f i l) i (f (get_or l i 0)) ≡ map_to f (suc i) l
+  unfolding map_to
   step [] zero = refl
   step [] (suc i) = refl
   step (x ∷ xs) zero = refl
   step (x ∷ xs) (suc i) = ap (λ (l : List ℕ). f x ∷ l) (step xs i)
 
-  pub mapTo-more : (l : List ℕ) (i : ℕ) → set (mapTo f i l) i (f (get_or l i 0)) ≡ mapTo f (i + 1) l
-  mapTo-more l i = rw add-one (step l i)
+  pub map_to_more : (l : List ℕ) (i : ℕ) → set (map_to f i l) i (f (get_or l i 0)) ≡ map_to f (i + 1) l
+  map_to_more l i = rw add-one (step l i)
 
-  all : (l : List ℕ) → mapTo f (length l) l ≡ map f l
-  unfolding mapTo
+  all : (l : List ℕ) → map_to f (length l) l ≡ map f l
+  unfolding map_to
   all [] = refl
   all (x ∷ xs) = ap (λ (l : List ℕ). f x ∷ l) (all xs)
 
-  pub mapTo-all : (l : List ℕ) (n i : ℕ) → length l ≡ n → i ≡ n → mapTo f i l ≡ map f l
-  mapTo-all l n i e h = rw (h, ← e) (all l)
+  pub map_to_all : (l : List ℕ) (n i : ℕ) → length l ≡ n → i ≡ n → map_to f i l ≡ map f l
+  map_to_all l n i e h = rw (h, ← e) (all l)
 
   -- what is not yet reached is as it was
-  pub mapTo-next : (l : List ℕ) (i : ℕ) → get_or (mapTo f i l) i 0 ≡ get_or l i 0
-  unfolding mapTo
-  mapTo-next [] zero = refl
-  mapTo-next [] (suc i) = refl
-  mapTo-next (x ∷ xs) zero = refl
-  mapTo-next (x ∷ xs) (suc i) = mapTo-next xs i
+  pub map_to_next : (l : List ℕ) (i : ℕ) → get_or (map_to f i l) i 0 ≡ get_or l i 0
+  unfolding map_to
+  map_to_next [] zero = refl
+  map_to_next [] (suc i) = refl
+  map_to_next (x ∷ xs) zero = refl
+  map_to_next (x ∷ xs) (suc i) = map_to_next xs i
 
   -- a turn of a loop that puts f of each element in its place
-  pub mapTo-put : (l l' : List ℕ) (i r : ℕ) → l' ≡ mapTo f i l → r ≡ f (get_or l' i 0) → set l' i r ≡ mapTo f (i + 1) l
-  mapTo-put l l' i r e h = rw (h, e, mapTo-next l i) (mapTo-more l i)
+  pub map_to_put : (l l' : List ℕ) (i r : ℕ) → l' ≡ map_to f i l → r ≡ f (get_or l' i 0) → set l' i r ≡ map_to f (i + 1) l
+  map_to_put l l' i r e h = rw (h, e, map_to_next l i) (map_to_more l i)

@@ -6,126 +6,126 @@ use native.Mathlib.Omega.{arith}
 use lib.ListN.{length, get_or, set, drop, length-drop, length-set}
 use lib.Seq.{length-take-le, take-set-le, take-set-lt, drop-set-lt, drop-set-add, get_or-take, get_or-drop, get_or-set_same, get_or-set_other}
 use Rattle.cache.specs.Packed.{part}
-use Rattle.cache.specs.Atc030.{recentIn, clockIn, shiftIn, tagsOf, pagesOf, stampsOf, Parts}
-use Rattle.cache.specs.Atc040.{keys_of, basesOf, Parts040}
-use Rattle.cache.proofs.Lists.{mapTo, mapTo-put, mapTo-next, mapTo-all}
+use Rattle.cache.specs.Atc030.{recent_in, clock_in, shift_in, tags_of, pages_of, stamps_of, Parts}
+use Rattle.cache.specs.Atc040.{keys_of, bases_of, Parts040}
+use Rattle.cache.proofs.Lists.{map_to, map_to_put, map_to_next, map_to_all}
 
 module _ (o n : ℕ) (l : List ℕ) where
   pub part_length : o + n ≤ length l → length (part o n l) ≡ n
   unfolding part
   part_length h = length-take-le n (drop o l) (rw (length-drop o l) (omega arith))
 
-  pub part-get : (i k : ℕ) → k ≡ o + i → i < n → get_or l k 0 ≡ get_or (part o n l) i 0
+  pub part_get : (i k : ℕ) → k ≡ o + i → i < n → get_or l k 0 ≡ get_or (part o n l) i 0
   unfolding part
-  part-get i k e h = rw e (sym (get_or-take n (drop o l) i 0 h ∙ get_or-drop o l i 0))
+  part_get i k e h = rw e (sym (get_or-take n (drop o l) i 0 h ∙ get_or-drop o l i 0))
 
   -- a write in the part, below it, and above it
-  pub part-set : (i k v : ℕ) → k ≡ o + i → i < n → part o n (set l k v) ≡ set (part o n l) i v
+  pub part_set : (i k v : ℕ) → k ≡ o + i → i < n → part o n (set l k v) ≡ set (part o n l) i v
   unfolding part
-  part-set i k v e h = rw (e, drop-set-add o l i v) (take-set-lt n (drop o l) i v h)
+  part_set i k v e h = rw (e, drop-set-add o l i v) (take-set-lt n (drop o l) i v h)
 
-  pub part-below : (k v : ℕ) → k < o → part o n (set l k v) ≡ part o n l
+  pub part_below : (k v : ℕ) → k < o → part o n (set l k v) ≡ part o n l
   unfolding part
-  part-below k v h = rw (drop-set-lt o l k v h)
+  part_below k v h = rw (drop-set-lt o l k v h)
 
-  pub part-above : (i k v : ℕ) → k ≡ o + i → n ≤ i → part o n (set l k v) ≡ part o n l
+  pub part_above : (i k v : ℕ) → k ≡ o + i → n ≤ i → part o n (set l k v) ≡ part o n l
   unfolding part
-  part-above i k v e h = rw (e, drop-set-add o l i v) (take-set-le n (drop o l) i v h)
+  part_above i k v e h = rw (e, drop-set-add o l i v) (take-set-le n (drop o l) i v h)
 
 -- ---- the 68030's array
-pub tag-get : (l : List ℕ) (i : ℕ) → i < 22 → get_or l i 0 ≡ get_or (tagsOf l) i 0
-tag-get l i h = part-get 0 22 l i i (omega arith) h
+pub tag_get : (l : List ℕ) (i : ℕ) → i < 22 → get_or l i 0 ≡ get_or (tags_of l) i 0
+tag_get l i h = part_get 0 22 l i i (omega arith) h
 
-pub stamp-get : (l : List ℕ) (i : ℕ) → i < 22 → get_or l (44 + i) 0 ≡ get_or (stampsOf l) i 0
-stamp-get l i h = part-get 44 22 l i (44 + i) refl h
+pub stamp_get : (l : List ℕ) (i : ℕ) → i < 22 → get_or l (44 + i) 0 ≡ get_or (stamps_of l) i 0
+stamp_get l i h = part_get 44 22 l i (44 + i) refl h
 
-pub tags-22 : (l : List ℕ) → length l ≡ 69 → length (tagsOf l) ≡ 22
-tags-22 l e = part_length 0 22 l (omega arith)
+pub tags_22 : (l : List ℕ) → length l ≡ 69 → length (tags_of l) ≡ 22
+tags_22 l e = part_length 0 22 l (omega arith)
 
-pub stamps-22 : (l : List ℕ) → length l ≡ 69 → length (stampsOf l) ≡ 22
-stamps-22 l e = part_length 44 22 l (omega arith)
+pub stamps_22 : (l : List ℕ) → length l ≡ 69 → length (stamps_of l) ≡ 22
+stamps_22 l e = part_length 44 22 l (omega arith)
 
-pub parts-of : (l : List ℕ) → length l ≡ 69 → Parts l (tagsOf l) (pagesOf l) (stampsOf l) (recentIn l) (clockIn l) (shiftIn l)
-parts-of l e = record { size = e; tags = refl; pages = refl; stamps = refl; recent = refl; clock = refl; shift = refl }
+pub parts_of : (l : List ℕ) → length l ≡ 69 → Parts l (tags_of l) (pages_of l) (stamps_of l) (recent_in l) (clock_in l) (shift_in l)
+parts_of l e = record { size = e; tags = refl; pages = refl; stamps = refl; recent = refl; clock = refl; shift = refl }
 
 module _ {l ts ps ss : List ℕ} {r k s : ℕ} (p : Parts l ts ps ss r k s) where
-  pub put-tag : (i v : ℕ) → i < 22 → Parts (set l i v) (set ts i v) ps ss r k s
-  put-tag i v h =
+  pub put_tag : (i v : ℕ) → i < 22 → Parts (set l i v) (set ts i v) ps ss r k s
+  put_tag i v h =
       record {
         size = length-set l i v ∙ p.size;
-        tags = part-set 0 22 l i i v (omega arith) h ∙ rw p.tags;
-        pages = part-below 22 22 l i v h ∙ p.pages;
-        stamps = part-below 44 22 l i v (omega arith) ∙ p.stamps;
+        tags = part_set 0 22 l i i v (omega arith) h ∙ rw p.tags;
+        pages = part_below 22 22 l i v h ∙ p.pages;
+        stamps = part_below 44 22 l i v (omega arith) ∙ p.stamps;
         recent = get_or-set_other l i 66 v 0 (λ e. omega arith) ∙ p.recent;
         clock = get_or-set_other l i 67 v 0 (λ e. omega arith) ∙ p.clock;
         shift = get_or-set_other l i 68 v 0 (λ e. omega arith) ∙ p.shift;
       }
 
-  pub put-page : (i v : ℕ) → i < 22 → Parts (set l (22 + i) v) ts (set ps i v) ss r k s
-  put-page i v h =
+  pub put_page : (i v : ℕ) → i < 22 → Parts (set l (22 + i) v) ts (set ps i v) ss r k s
+  put_page i v h =
       record {
         size = length-set l (22 + i) v ∙ p.size;
-        tags = part-above 0 22 l (22 + i) (22 + i) v (omega arith) (omega arith) ∙ p.tags;
-        pages = part-set 22 22 l i (22 + i) v refl h ∙ rw p.pages;
-        stamps = part-below 44 22 l (22 + i) v (omega arith) ∙ p.stamps;
+        tags = part_above 0 22 l (22 + i) (22 + i) v (omega arith) (omega arith) ∙ p.tags;
+        pages = part_set 22 22 l i (22 + i) v refl h ∙ rw p.pages;
+        stamps = part_below 44 22 l (22 + i) v (omega arith) ∙ p.stamps;
         recent = get_or-set_other l (22 + i) 66 v 0 (λ e. omega arith) ∙ p.recent;
         clock = get_or-set_other l (22 + i) 67 v 0 (λ e. omega arith) ∙ p.clock;
         shift = get_or-set_other l (22 + i) 68 v 0 (λ e. omega arith) ∙ p.shift;
       }
 
-  pub put-stamp : (i v : ℕ) → i < 22 → Parts (set l (44 + i) v) ts ps (set ss i v) r k s
-  put-stamp i v h =
+  pub put_stamp : (i v : ℕ) → i < 22 → Parts (set l (44 + i) v) ts ps (set ss i v) r k s
+  put_stamp i v h =
       record {
         size = length-set l (44 + i) v ∙ p.size;
-        tags = part-above 0 22 l (44 + i) (44 + i) v (omega arith) (omega arith) ∙ p.tags;
-        pages = part-above 22 22 l (22 + i) (44 + i) v (omega arith) (omega arith) ∙ p.pages;
-        stamps = part-set 44 22 l i (44 + i) v refl h ∙ rw p.stamps;
+        tags = part_above 0 22 l (44 + i) (44 + i) v (omega arith) (omega arith) ∙ p.tags;
+        pages = part_above 22 22 l (22 + i) (44 + i) v (omega arith) (omega arith) ∙ p.pages;
+        stamps = part_set 44 22 l i (44 + i) v refl h ∙ rw p.stamps;
         recent = get_or-set_other l (44 + i) 66 v 0 (λ e. omega arith) ∙ p.recent;
         clock = get_or-set_other l (44 + i) 67 v 0 (λ e. omega arith) ∙ p.clock;
         shift = get_or-set_other l (44 + i) 68 v 0 (λ e. omega arith) ∙ p.shift;
       }
 
   -- the three numbers at the end
-  tags-kept : (j v : ℕ) → 66 ≤ j → tagsOf (set l j v) ≡ ts
-  tags-kept j v h = part-above 0 22 l j j v (omega arith) (omega arith) ∙ p.tags
+  tags_kept : (j v : ℕ) → 66 ≤ j → tags_of (set l j v) ≡ ts
+  tags_kept j v h = part_above 0 22 l j j v (omega arith) (omega arith) ∙ p.tags
 
-  pages-kept : (j v : ℕ) → 66 ≤ j → pagesOf (set l j v) ≡ ps
-  pages-kept j v h = part-above 22 22 l (j - 22) j v (omega arith) (omega arith) ∙ p.pages
+  pages_kept : (j v : ℕ) → 66 ≤ j → pages_of (set l j v) ≡ ps
+  pages_kept j v h = part_above 22 22 l (j - 22) j v (omega arith) (omega arith) ∙ p.pages
 
-  stamps-kept : (j v : ℕ) → 66 ≤ j → stampsOf (set l j v) ≡ ss
-  stamps-kept j v h = part-above 44 22 l (j - 44) j v (omega arith) (omega arith) ∙ p.stamps
+  stamps_kept : (j v : ℕ) → 66 ≤ j → stamps_of (set l j v) ≡ ss
+  stamps_kept j v h = part_above 44 22 l (j - 44) j v (omega arith) (omega arith) ∙ p.stamps
 
-  pub put-recent : (v : ℕ) → Parts (set l 66 v) ts ps ss v k s
-  put-recent v =
+  pub put_recent : (v : ℕ) → Parts (set l 66 v) ts ps ss v k s
+  put_recent v =
       record {
         size = length-set l 66 v ∙ p.size;
-        tags = tags-kept 66 v (omega arith);
-        pages = pages-kept 66 v (omega arith);
-        stamps = stamps-kept 66 v (omega arith);
+        tags = tags_kept 66 v (omega arith);
+        pages = pages_kept 66 v (omega arith);
+        stamps = stamps_kept 66 v (omega arith);
         recent = get_or-set_same l 66 v 0 (omega (arith, p.size));
         clock = get_or-set_other l 66 67 v 0 (λ e. omega arith) ∙ p.clock;
         shift = get_or-set_other l 66 68 v 0 (λ e. omega arith) ∙ p.shift;
       }
 
-  pub put-clock : (v : ℕ) → Parts (set l 67 v) ts ps ss r v s
-  put-clock v =
+  pub put_clock : (v : ℕ) → Parts (set l 67 v) ts ps ss r v s
+  put_clock v =
       record {
         size = length-set l 67 v ∙ p.size;
-        tags = tags-kept 67 v (omega arith);
-        pages = pages-kept 67 v (omega arith);
-        stamps = stamps-kept 67 v (omega arith);
+        tags = tags_kept 67 v (omega arith);
+        pages = pages_kept 67 v (omega arith);
+        stamps = stamps_kept 67 v (omega arith);
         recent = get_or-set_other l 67 66 v 0 (λ e. omega arith) ∙ p.recent;
         clock = get_or-set_same l 67 v 0 (omega (arith, p.size));
         shift = get_or-set_other l 67 68 v 0 (λ e. omega arith) ∙ p.shift;
       }
 
-  pub put-shift : (v : ℕ) → Parts (set l 68 v) ts ps ss r k v
-  put-shift v =
+  pub put_shift : (v : ℕ) → Parts (set l 68 v) ts ps ss r k v
+  put_shift v =
       record {
         size = length-set l 68 v ∙ p.size;
-        tags = tags-kept 68 v (omega arith);
-        pages = pages-kept 68 v (omega arith);
-        stamps = stamps-kept 68 v (omega arith);
+        tags = tags_kept 68 v (omega arith);
+        pages = pages_kept 68 v (omega arith);
+        stamps = stamps_kept 68 v (omega arith);
         recent = get_or-set_other l 68 66 v 0 (λ e. omega arith) ∙ p.recent;
         clock = get_or-set_other l 68 67 v 0 (λ e. omega arith) ∙ p.clock;
         shift = get_or-set_same l 68 v 0 (omega (arith, p.size));
@@ -133,48 +133,48 @@ module _ {l ts ps ss : List ℕ} {r k s : ℕ} (p : Parts l ts ps ss r k s) wher
 
 -- a loop that puts f of each tag in its place: a turn, and the end; and one that does so with the stamps of l₀
 module _ (f : ℕ → ℕ) (l ps : List ℕ) (r k s i v : ℕ) where
-  pub next-tag : (ts ss : List ℕ) → i < 22 → Parts l (mapTo f i ts) ps ss r k s → v ≡ f (get_or l i 0) → Parts (set l i v) (mapTo f (i + 1) ts) ps ss r k s
-  next-tag ts ss h p e =
-      let g : v ≡ f (get_or (mapTo f i ts) i 0) = e ∙ ap f (tag-get l i h ∙ rw p.tags) in
-      rw (← mapTo-put f ts (mapTo f i ts) i v refl g) (put-tag p i v h)
+  pub next_tag : (ts ss : List ℕ) → i < 22 → Parts l (map_to f i ts) ps ss r k s → v ≡ f (get_or l i 0) → Parts (set l i v) (map_to f (i + 1) ts) ps ss r k s
+  next_tag ts ss h p e =
+      let g : v ≡ f (get_or (map_to f i ts) i 0) = e ∙ ap f (tag_get l i h ∙ rw p.tags) in
+      rw (← map_to_put f ts (map_to f i ts) i v refl g) (put_tag p i v h)
 
-  pub next-stamp : (ts l₀ : List ℕ) → i < 22 → Parts l ts ps (mapTo f i (stampsOf l₀)) r k s → v ≡ f (get_or l₀ (44 + i) 0) → Parts (set l (44 + i) v) ts ps (mapTo f (i + 1) (stampsOf l₀)) r k s
-  next-stamp ts l₀ h p e =
-      let g : v ≡ f (get_or (mapTo f i (stampsOf l₀)) i 0) = e ∙ ap f (stamp-get l₀ i h ∙ sym (mapTo-next f (stampsOf l₀) i)) in
-      rw (← mapTo-put f (stampsOf l₀) (mapTo f i (stampsOf l₀)) i v refl g) (put-stamp p i v h)
+  pub next_stamp : (ts l₀ : List ℕ) → i < 22 → Parts l ts ps (map_to f i (stamps_of l₀)) r k s → v ≡ f (get_or l₀ (44 + i) 0) → Parts (set l (44 + i) v) ts ps (map_to f (i + 1) (stamps_of l₀)) r k s
+  next_stamp ts l₀ h p e =
+      let g : v ≡ f (get_or (map_to f i (stamps_of l₀)) i 0) = e ∙ ap f (stamp_get l₀ i h ∙ sym (map_to_next f (stamps_of l₀) i)) in
+      rw (← map_to_put f (stamps_of l₀) (map_to f i (stamps_of l₀)) i v refl g) (put_stamp p i v h)
 
 module _ (f : ℕ → ℕ) (l l₀ : List ℕ) (r k s i : ℕ) (e : length l₀ ≡ 69) (h : i ≡ 22) where
-  pub all-tags : (ps ss : List ℕ) → Parts l (mapTo f i (tagsOf l₀)) ps ss r k s → Parts l (map f (tagsOf l₀)) ps ss r k s
-  all-tags ps ss p = rw (← mapTo-all f (tagsOf l₀) 22 i (tags-22 l₀ e) h) p
+  pub all_tags : (ps ss : List ℕ) → Parts l (map_to f i (tags_of l₀)) ps ss r k s → Parts l (map f (tags_of l₀)) ps ss r k s
+  all_tags ps ss p = rw (← map_to_all f (tags_of l₀) 22 i (tags_22 l₀ e) h) p
 
-  pub all-stamps : (ts ps : List ℕ) → Parts l ts ps (mapTo f i (stampsOf l₀)) r k s → Parts l ts ps (map f (stampsOf l₀)) r k s
-  all-stamps ts ps p = rw (← mapTo-all f (stampsOf l₀) 22 i (stamps-22 l₀ e) h) p
+  pub all_stamps : (ts ps : List ℕ) → Parts l ts ps (map_to f i (stamps_of l₀)) r k s → Parts l ts ps (map f (stamps_of l₀)) r k s
+  all_stamps ts ps p = rw (← map_to_all f (stamps_of l₀) 22 i (stamps_22 l₀ e) h) p
 
 -- ---- the 68040's array
-pub parts-040 : (l : List ℕ) → length l ≡ 128 → Parts040 l (keys_of l) (basesOf l)
-parts-040 l e = record { size = e; keys = refl; bases = refl }
+pub parts_040 : (l : List ℕ) → length l ≡ 128 → Parts040 l (keys_of l) (bases_of l)
+parts_040 l e = record { size = e; keys = refl; bases = refl }
 
 module _ {l ks bs : List ℕ} (p : Parts040 l ks bs) where
-  pub put-key : (i v : ℕ) → i < 64 → Parts040 (set l i v) (set ks i v) bs
-  put-key i v h =
+  pub put_key : (i v : ℕ) → i < 64 → Parts040 (set l i v) (set ks i v) bs
+  put_key i v h =
       record {
         size = length-set l i v ∙ p.size;
-        keys = part-set 0 64 l i i v (omega arith) h ∙ rw p.keys;
-        bases = part-below 64 64 l i v h ∙ p.bases;
+        keys = part_set 0 64 l i i v (omega arith) h ∙ rw p.keys;
+        bases = part_below 64 64 l i v h ∙ p.bases;
       }
 
-  pub put-base : (i v : ℕ) → i < 64 → Parts040 (set l (64 + i) v) ks (set bs i v)
-  put-base i v h =
+  pub put_base : (i v : ℕ) → i < 64 → Parts040 (set l (64 + i) v) ks (set bs i v)
+  put_base i v h =
       record {
         size = length-set l (64 + i) v ∙ p.size;
-        keys = part-above 0 64 l (64 + i) (64 + i) v (omega arith) (omega arith) ∙ p.keys;
-        bases = part-set 64 64 l i (64 + i) v refl h ∙ rw p.bases;
+        keys = part_above 0 64 l (64 + i) (64 + i) v (omega arith) (omega arith) ∙ p.keys;
+        bases = part_set 64 64 l i (64 + i) v refl h ∙ rw p.bases;
       }
 
-pub next-key : (f : ℕ → ℕ) (l ks bs : List ℕ) (i v : ℕ) → i < 64 → Parts040 l (mapTo f i ks) bs → v ≡ f (get_or l i 0) → Parts040 (set l i v) (mapTo f (i + 1) ks) bs
-next-key f l ks bs i v h p e =
-    let g : v ≡ f (get_or (mapTo f i ks) i 0) = e ∙ ap f (part-get 0 64 l i i (omega arith) h ∙ rw p.keys) in
-    rw (← mapTo-put f ks (mapTo f i ks) i v refl g) (put-key p i v h)
+pub next_key : (f : ℕ → ℕ) (l ks bs : List ℕ) (i v : ℕ) → i < 64 → Parts040 l (map_to f i ks) bs → v ≡ f (get_or l i 0) → Parts040 (set l i v) (map_to f (i + 1) ks) bs
+next_key f l ks bs i v h p e =
+    let g : v ≡ f (get_or (map_to f i ks) i 0) = e ∙ ap f (part_get 0 64 l i i (omega arith) h ∙ rw p.keys) in
+    rw (← map_to_put f ks (map_to f i ks) i v refl g) (put_key p i v h)
 
-pub all-keys : (f : ℕ → ℕ) (l l₀ bs : List ℕ) (i : ℕ) → length l₀ ≡ 128 → i ≡ 64 → Parts040 l (mapTo f i (keys_of l₀)) bs → Parts040 l (map f (keys_of l₀)) bs
-all-keys f l l₀ bs i e h p = rw (← mapTo-all f (keys_of l₀) 64 i (part_length 0 64 l₀ (omega arith)) h) p
+pub all_keys : (f : ℕ → ℕ) (l l₀ bs : List ℕ) (i : ℕ) → length l₀ ≡ 128 → i ≡ 64 → Parts040 l (map_to f i (keys_of l₀)) bs → Parts040 l (map f (keys_of l₀)) bs
+all_keys f l l₀ bs i e h p = rw (← map_to_all f (keys_of l₀) 64 i (part_length 0 64 l₀ (omega arith)) h) p

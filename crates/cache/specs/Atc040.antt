@@ -17,24 +17,24 @@ slots_of (k ∷ ks) (b ∷ bs) = slot_of k b ∷ slots_of ks bs
 abbrev pub keys_of : List ℕ → List ℕ
 keys_of l = part 0 64 l
 
-abbrev pub basesOf : List ℕ → List ℕ
-basesOf l = part 64 64 l
+abbrev pub bases_of : List ℕ → List ℕ
+bases_of l = part 64 64 l
 
-unfoldable pub cache040Of : List ℕ → Cache040
-cache040Of l = record { slots = slots_of (keys_of l) (basesOf l) }
+unfoldable pub cache040_of : List ℕ → Cache040
+cache040_of l = record { slots = slots_of (keys_of l) (bases_of l) }
 
 -- the key of a valid slot
-abbrev pub keyOf040 : ℕ → Bool → ℕ
-keyOf040 frame supervisor = frame * 4 + bit supervisor * 2 + 1
+abbrev pub key_of040 : ℕ → Bool → ℕ
+key_of040 frame supervisor = frame * 4 + bit supervisor * 2 + 1
 
 -- ---- what the public functions promise
 -- the array at the end is the cache that f makes of the one at the start
 pub record Stepped040 (f : Cache040 → Cache040) (l l' : List ℕ) : Type 0 where
-  pub leaves : cache040Of l' ≡ f (cache040Of l)
+  pub leaves : cache040_of l' ≡ f (cache040_of l)
   pub sized : length l' ≡ 128
 
 -- the array l has these parts: keys, bases
 pub record Parts040 (l ks bs : List ℕ) : Type 0 where
   pub size : length l ≡ 128
   pub keys : keys_of l ≡ ks
-  pub bases : basesOf l ≡ bs
+  pub bases : bases_of l ≡ bs

@@ -9,8 +9,8 @@ abbrev pub odd : ℕ → Bool
 odd n = eqb (n % 2) 1
 
 -- the low bit is cleared, where the test says so
-abbrev pub dropTag : Bool → ℕ → ℕ
-dropTag b t = if b then t - t % 2 else t
+abbrev pub drop_tag : Bool → ℕ → ℕ
+drop_tag b t = if b then t - t % 2 else t
 
 -- the n numbers from place o on
 unfoldable pub part : ℕ → ℕ → List ℕ → List ℕ

@@ -4,18 +4,18 @@ use Rattle.definition.specs.Cache030.{Cache030}
 use Rattle.definition.specs.Cache040.{Cache040}
 use Rattle.definition.specs.Translate.{Caches}
 use Rattle.cache.specs.declared.CachePair.{CachePair}
-use Rattle.cache.specs.Atc030.{cacheOf}
-use Rattle.cache.specs.Atc040.{cache040Of}
+use Rattle.cache.specs.Atc030.{cache_of}
+use Rattle.cache.specs.Atc040.{cache040_of}
 
 -- a 68030 cache beside any 68040 cache
-abbrev pub pairWith : Cache030 → Cache040 → Caches
-pairWith c k = record { c030 = c; c040 = k }
+abbrev pub pair_with : Cache030 → Cache040 → Caches
+pair_with c k = record { c030 = c; c040 = k }
 
-abbrev pub cachesOf : List ℕ → List ℕ → Caches
-cachesOf c030 c040 = pairWith (cacheOf c030) (cache040Of c040)
+abbrev pub caches_of : List ℕ → List ℕ → Caches
+caches_of c030 c040 = pair_with (cache_of c030) (cache040_of c040)
 
 abbrev pub pair_of : CachePair → Caches
-pair_of p = cachesOf p.c030 p.c040
+pair_of p = caches_of p.c030 p.c040
 
 -- the lengths that the arrays' types give them
 pub record SizedAll (c030 c040 : List ℕ) : Type 0 where

@@ -1,10 +1,10 @@
 // The 68030's 22 entries in one array: 22 tags page * 16 + code * 2 + valid, 22 pages base * 2 + WP, 22 stamps; then the most recent index, the clock, the page shift.
 ghost use Rattle.std.specs.Prelude.{◌≡◌, true, false, ◌&&◌, ◌||◌, map, ℕ, ◌+◌, ◌/◌, ◌%◌, ◌^◌, ◌<◌, eqb, ltb, get_or, length, set};
 ghost use Rattle.definition.specs.Words.{if◌then◌else◌, agrees, first_of, count_of};
-ghost use Rattle.definition.specs.Refusal.{badCache};
-ghost use Rattle.definition.specs.Cache030.{Cache030, touched, hitOf, shifted, inserted, flushedAll, flushedCode, flushedPage};
-ghost use Rattle.cache.specs.Packed.{odd, dropTag};
-ghost use Rattle.cache.specs.Atc030.{tagsOf, pagesOf, stampsOf, recentIn, clockIn, shiftIn, cacheOf, Parts, Stepped, Looked, key_of, heldIn, place_of, ranked, Used};
+ghost use Rattle.definition.specs.Refusal.{bad_cache};
+ghost use Rattle.definition.specs.Cache030.{Cache030, touched, hit_of, shifted, inserted, flushed_all, flushed_code, flushed_page};
+ghost use Rattle.cache.specs.Packed.{odd, drop_tag};
+ghost use Rattle.cache.specs.Atc030.{tags_of, pages_of, stamps_of, recent_in, clock_in, shift_in, cache_of, Parts, Stepped, Looked, key_of, held_in, place_of, ranked, Used};
 
 use crate::packed::{flag, sized, word};
 use definition::Hit;
@@ -27,7 +27,7 @@ pub const SHIFT: usize = 68;
 // The lowest index that has this tag, or 22. It is sought from the end, so that no branch depends on where it stands.
 fn first_with(c030: &Atc030, key: u64) -> usize
     requires { length c030.now ≡ 69 }
-    ensures { result ≡ first_of (eqb key) (tagsOf c030.now) }
+    ensures { result ≡ first_of (eqb key) (tags_of c030.now) }
 {
     let mut found: usize = 22;
     let mut i: usize = 22;
@@ -45,7 +45,7 @@ fn first_with(c030: &Atc030, key: u64) -> usize
 // The number of smaller stamps.
 fn smaller(c030: &Atc030, x: u64) -> u64
     requires { length c030.now ≡ 69 }
-    ensures { result ≡ count_of (λ (y : ℕ). ltb y x) (stampsOf c030.now) }
+    ensures { result ≡ count_of (λ (y : ℕ). ltb y x) (stamps_of c030.now) }
 {
     let mut n: u64 = 0;
     let mut i: usize = 0;
@@ -61,7 +61,7 @@ fn smaller(c030: &Atc030, x: u64) -> u64
 // Each stamp becomes the number of smaller stamps.
 fn rank(c030: &mut Atc030)
     requires { length c030.old ≡ 69 }
-    ensures { Parts c030.new (tagsOf c030.old) (pagesOf c030.old) (ranked (stampsOf c030.old)) (recentIn c030.old) (clockIn c030.old) (shiftIn c030.old) }
+    ensures { Parts c030.new (tags_of c030.old) (pages_of c030.old) (ranked (stamps_of c030.old)) (recent_in c030.old) (clock_in c030.old) (shift_in c030.old) }
 {
     let old = *c030;
     let mut i: usize = 0;
@@ -75,7 +75,7 @@ fn rank(c030: &mut Atc030)
 // Whether the clock stands at 2^64 - 1.
 fn is_last(c030: &Atc030) -> bool
     requires { length c030.now ≡ 69 }
-    ensures { result ≡ eqb (clockIn c030.now) 18446744073709551615 }
+    ensures { result ≡ eqb (clock_in c030.now) 18446744073709551615 }
 {
     c030[CLOCK] == 18446744073709551615
 }
@@ -83,7 +83,7 @@ fn is_last(c030: &Atc030) -> bool
 // The clock becomes `n`, the entry is stamped with it and is most recent.
 fn put(c030: &mut Atc030, i: usize, n: u64)
     requires { (length c030.old ≡ 69) × (i < 22) }
-    ensures { Parts c030.new (tagsOf c030.old) (pagesOf c030.old) (set (stampsOf c030.old) i n) i n (shiftIn c030.old) }
+    ensures { Parts c030.new (tags_of c030.old) (pages_of c030.old) (set (stamps_of c030.old) i n) i n (shift_in c030.old) }
 {
     c030[CLOCK] = n;
     c030[STAMPS + i] = n;
@@ -92,7 +92,7 @@ fn put(c030: &mut Atc030, i: usize, n: u64)
 
 // A use raises the clock by 1, stamps the entry with it and makes it most recent.
 fn stamp(c030: &mut Atc030, i: usize)
-    requires { (length c030.old ≡ 69) × (i < 22) × (eqb (clockIn c030.old) 18446744073709551615 ≡ false) }
+    requires { (length c030.old ≡ 69) × (i < 22) × (eqb (clock_in c030.old) 18446744073709551615 ≡ false) }
     ensures { Used c030.old i c030.new }
 {
     let clock = word(c030[CLOCK]);
@@ -102,7 +102,7 @@ fn stamp(c030: &mut Atc030, i: usize)
 // The same at 2^64 - 1: the stamps are ranked first, and the clock becomes 22. A use that has room for its stamp does not come here,
 // so that the ranking is not in its code.
 fn stamp_last(c030: &mut Atc030, i: usize)
-    requires { (length c030.old ≡ 69) × (i < 22) × (eqb (clockIn c030.old) 18446744073709551615 ≡ true) }
+    requires { (length c030.old ≡ 69) × (i < 22) × (eqb (clock_in c030.old) 18446744073709551615 ≡ true) }
     ensures { Used c030.old i c030.new }
 {
     rank(c030);
@@ -130,7 +130,7 @@ fn touch(c030: &mut Atc030, i: usize, recorded: bool)
 
 // Refusal 4: a most recent index above 21 or a shift above 31.
 pub fn bad_cache(c030: &Atc030) -> bool
-    ensures { result ≡ badCache (cacheOf c030.now) }
+    ensures { result ≡ bad_cache (cache_of c030.now) }
 {
     sized(c030);
     c030[RECENT] > 21 || c030[SHIFT] > 31
@@ -148,7 +148,7 @@ fn key_of(code: u32, page: u32) -> u64
 // The tag at i, and 0 where there is no entry i.
 fn tag_at(c030: &Atc030, i: usize) -> u64
     requires { length c030.now ≡ 69 }
-    ensures { result ≡ get_or (tagsOf c030.now) i 0 }
+    ensures { result ≡ get_or (tags_of c030.now) i 0 }
 {
     if i < 22 {
         return c030[i];
@@ -159,7 +159,7 @@ fn tag_at(c030: &Atc030, i: usize) -> u64
 // Matching tries the most recent entry, then the lowest index; a different shift misses. 22: none.
 fn held(c030: &Atc030, key: u64, shift: u32) -> usize
     requires { length c030.now ≡ 69 }
-    ensures { result ≡ heldIn c030.now key shift }
+    ensures { result ≡ held_in c030.now key shift }
 {
     if c030[SHIFT] != shift as u64 {
         return 22;
@@ -197,7 +197,7 @@ pub fn look(c030: &mut Atc030, code: u32, page: u32, shift: u32, write: bool, re
 
 // A look that changes nothing.
 pub fn probe(c030: &Atc030, code: u32, page: u32, shift: u32, write: bool) -> Hit
-    ensures { result ≡ hitOf (cacheOf c030.now) (code % 8) page shift write }
+    ensures { result ≡ hit_of (cache_of c030.now) (code % 8) page shift write }
 {
     sized(c030);
     let i = held(c030, key_of(code % 8, page), shift);
@@ -211,7 +211,7 @@ pub fn probe(c030: &Atc030, code: u32, page: u32, shift: u32, write: bool) -> Hi
 
 // A tag becomes invalid where its code agrees on the mask's bits and, unless every page is meant, its page is this one.
 fn without(t: u64, code: u32, mask: u32, every: bool, page: u64) -> u64
-    ensures { result ≡ dropTag (agrees (t / 2 % 8) code mask && (every || eqb (t / 16) page)) t }
+    ensures { result ≡ drop_tag (agrees (t / 2 % 8) code mask && (every || eqb (t / 16) page)) t }
 {
     let f = t / 2 % 8;
     if (f ^ (code as u64)) & (mask as u64) == 0 && (every || t / 16 == page) {
@@ -223,7 +223,7 @@ fn without(t: u64, code: u32, mask: u32, every: bool, page: u64) -> u64
 // The same of every tag, in place.
 fn drop_tags(c030: &mut Atc030, code: u32, mask: u32, every: bool, page: u64)
     requires { length c030.old ≡ 69 }
-    ensures { Parts c030.new (map (λ (t : ℕ). dropTag (agrees (t / 2 % 8) code mask && (every || eqb (t / 16) page)) t) (tagsOf c030.old)) (pagesOf c030.old) (stampsOf c030.old) (recentIn c030.old) (clockIn c030.old) (shiftIn c030.old) }
+    ensures { Parts c030.new (map (λ (t : ℕ). drop_tag (agrees (t / 2 % 8) code mask && (every || eqb (t / 16) page)) t) (tags_of c030.old)) (pages_of c030.old) (stamps_of c030.old) (recent_in c030.old) (clock_in c030.old) (shift_in c030.old) }
 {
     let mut at: usize = 0;
     while at < 22 {
@@ -235,7 +235,7 @@ fn drop_tags(c030: &mut Atc030, code: u32, mask: u32, every: bool, page: u64)
 
 // A flush of everything only marks invalid.
 pub fn flush_all(c030: &mut Atc030)
-    ensures { Stepped flushedAll c030.old c030.new }
+    ensures { Stepped flushed_all c030.old c030.new }
 {
     sized(c030);
     drop_tags(c030, 0, 0, true, 0);
@@ -243,7 +243,7 @@ pub fn flush_all(c030: &mut Atc030)
 
 // A flush drops entries whose code agrees on the mask's bits.
 pub fn flush_code(c030: &mut Atc030, code: u32, mask: u32)
-    ensures { Stepped (λ (c : Cache030). flushedCode c code mask) c030.old c030.new }
+    ensures { Stepped (λ (c : Cache030). flushed_code c code mask) c030.old c030.new }
 {
     sized(c030);
     drop_tags(c030, code, mask, true, 0);
@@ -261,7 +261,7 @@ fn page_at(address: u32, shift: u64) -> u64
 
 // A flush for a page drops, of these, the entries whose page is the address's at the stored shift (shift 0: none).
 pub fn flush_page(c030: &mut Atc030, code: u32, mask: u32, address: u32)
-    ensures { Stepped (λ (c : Cache030). flushedPage c code mask address) c030.old c030.new }
+    ensures { Stepped (λ (c : Cache030). flushed_page c code mask address) c030.old c030.new }
 {
     sized(c030);
     let shift = c030[SHIFT];
@@ -278,7 +278,7 @@ pub fn flush_page(c030: &mut Atc030, code: u32, mask: u32, address: u32)
 // The end is asked for at the end of a turn: in a `while` the compiler kept a second counter.
 fn place(c030: &Atc030, key: u64) -> usize
     requires { length c030.now ≡ 69 }
-    ensures { (result ≡ place_of (tagsOf c030.now) (stampsOf c030.now) key) × (result < 22) }
+    ensures { (result ≡ place_of (tags_of c030.now) (stamps_of c030.now) key) × (result < 22) }
 {
     let mut same: usize = 22;
     let mut invalid: usize = 22;

@@ -1,9 +1,9 @@
 // The 68040's 64 slots in one array: 64 keys frame * 4 + supervisor * 2 + valid, 64 bases base * 4 + W * 2 + S.
 ghost use Rattle.std.specs.Prelude.{◌≡◌, not, ◌&&◌, ◌||◌, ◌/◌, ◌%◌, ◌<◌};
 ghost use Rattle.definition.specs.Words.{if◌then◌else◌};
-ghost use Rattle.definition.specs.Cache040.{Cache040, hit040, inserted040, flushedAll040, flushedFrame};
+ghost use Rattle.definition.specs.Cache040.{Cache040, hit040, inserted040, flushed_all040, flushed_frame};
 ghost use Rattle.cache.specs.Packed.{odd};
-ghost use Rattle.cache.specs.Atc040.{cache040Of, Stepped040, keyOf040};
+ghost use Rattle.cache.specs.Atc040.{cache040_of, Stepped040, key_of040};
 
 use crate::packed::{flag, sized};
 use definition::Hit;
@@ -22,7 +22,7 @@ fn slot_of(frame: u32) -> usize
 
 // The key of a valid slot: frame and supervisor.
 fn key_of(frame: u32, supervisor: bool) -> u64
-    ensures { result ≡ keyOf040 frame supervisor }
+    ensures { result ≡ key_of040 frame supervisor }
 {
     (frame as u64) * 4 + flag(supervisor) * 2 + 1
 }
@@ -42,7 +42,7 @@ pub fn permitted(b: u64, supervisor: bool, write: bool) -> Hit
 
 // A look: the base of the frame's slot.
 pub fn look_040(c040: &Atc040, frame: u32, supervisor: bool, write: bool) -> Hit
-    ensures { result ≡ hit040 (cache040Of c040.now) frame supervisor write }
+    ensures { result ≡ hit040 (cache040_of c040.now) frame supervisor write }
 {
     sized(c040);
     let i = slot_of(frame);
@@ -64,7 +64,7 @@ pub fn insert_040(c040: &mut Atc040, frame: u32, supervisor: bool, base: u32, wp
 
 // A flush of everything only marks invalid.
 pub fn flush_all_040(c040: &mut Atc040)
-    ensures { Stepped040 flushedAll040 c040.old c040.new }
+    ensures { Stepped040 flushed_all040 c040.old c040.new }
 {
     sized(c040);
     let mut i: usize = 0;
@@ -77,7 +77,7 @@ pub fn flush_all_040(c040: &mut Atc040)
 
 // A page flush drops that frame for either privilege.
 pub fn flush_frame(c040: &mut Atc040, frame: u32)
-    ensures { Stepped040 (λ (c : Cache040). flushedFrame c frame) c040.old c040.new }
+    ensures { Stepped040 (λ (c : Cache040). flushed_frame c frame) c040.old c040.new }
 {
     sized(c040);
     let i = slot_of(frame);

@@ -4,7 +4,7 @@ pub mod atc040;
 mod packed;
 
 ghost use Rattle.std.specs.Prelude.{◌≡◌};
-ghost use Rattle.definition.specs.Translate.{emptyCaches};
+ghost use Rattle.definition.specs.Translate.{empty_caches};
 ghost use Rattle.cache.specs.Pair.{pair_of};
 
 use crate::atc030::Atc030;
@@ -20,7 +20,7 @@ pub struct CachePair {
 impl CachePair {
     // The empty caches that a replay starts from: every number 0.
     pub fn empty() -> Self
-        ensures { pair_of result ≡ emptyCaches }
+        ensures { pair_of result ≡ empty_caches }
     {
         CachePair {
             c030: [0; 69],

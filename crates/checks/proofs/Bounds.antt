@@ -8,21 +8,21 @@ use borrow.Author.Tests.{leb-true}
 use lib.Dec.{leb}
 use Rattle.definition.specs.Words.{if◌then◌else◌, bit_of}
 use Rattle.definition.specs.Registers.{code_of}
-use Rattle.definition.specs.Walk030.{used, widthsOf, is_of, sum_of, shiftFrom, shift_of}
-use Rattle.definition.specs.Walk040.{pageBits}
+use Rattle.definition.specs.Walk030.{used, widths_of, is_of, sum_of, shift_from, shift_of}
+use Rattle.definition.specs.Walk040.{page_bits}
 use Rattle.definition.specs.declared.Shift.{Shift}
 use Rattle.definition.specs.declared.Shift.TheVariants.{Bits, NoPage}
 
 -- the code of an access is below 8
-pub code-small : (supervisor instruction : Bool) → code_of supervisor instruction < 8
-code-small false false = omega arith
-code-small false true = omega arith
-code-small true false = omega arith
-code-small true true = omega arith
+pub code_small : (supervisor instruction : Bool) → code_of supervisor instruction < 8
+code_small false false = omega arith
+code_small false true = omega arith
+code_small true false = omega arith
+code_small true true = omega arith
 
 -- the page shift is below 32
-from-small : (sum s : ℕ) → shiftFrom sum ≡ Bits s → s < 32
-from-small sum s e = go (leb 1 sum) (leb sum 31) refl e
+from_small : (sum s : ℕ) → shift_from sum ≡ Bits s → s < 32
+from_small sum s e = go (leb 1 sum) (leb sum 31) refl e
   where
     bits : (n : ℕ) → Bits n ≡ Bits s → n ≡ s
     bits n e = cc
@@ -34,14 +34,14 @@ from-small sum s e = go (leb 1 sum) (leb sum 31) refl e
     go false false h e = let z : ◌≡◌ {A = ℕ} 0 1 = cc in omega arith
 
 pub shift_small : (tc : ℕ) {r : Shift} {s : ℕ} → r ≡ shift_of tc → r ≡ Bits s → s < 32
-shift_small tc {r} {s} e f = from-small (is_of tc + sum_of (used (widthsOf tc))) s (sym e ∙ f)
+shift_small tc {r} {s} e f = from_small (is_of tc + sum_of (used (widths_of tc))) s (sym e ∙ f)
 
 -- a code below 8 is the code that a look or an insert takes
-pub in-three-bits : {code : ℕ} → code < 8 → code % 8 ≡ code
-in-three-bits h = mod-eq_of_lt h
+pub in_three_bits : {code : ℕ} → code < 8 → code % 8 ≡ code
+in_three_bits h = mod-eq_of_lt h
 
 -- a page's bits are below 32
-pub bits_small : (tc : ℕ) {bits : ℕ} → bits ≡ pageBits tc → bits < 32
+pub bits_small : (tc : ℕ) {bits : ℕ} → bits ≡ page_bits tc → bits < 32
 bits_small tc e = rw e (go (bit_of tc 14))
   where
     go : (b : Bool) → (if b then 13 else 12) < 32

@@ -1,22 +1,22 @@
 // What the calls of document 01 share: the checks behind the numbers of refusal, and the codes of an access.
 ghost use Rattle.std.specs.Prelude.{◌≡◌, []};
 ghost use Rattle.definition.specs.Memory.{memory};
-ghost use Rattle.definition.specs.Registers.{on, code_of, supervisorBy, instructionBy, comparedBy, asSupervisor, asInstruction, walkCode, comparedCode};
-ghost use Rattle.definition.specs.Refusal.{noFamily, badBase, not030, aboveSeven, badOverride, badFrame, refusalOf};
-ghost use Rattle.checks.specs.Given.{checksOf};
+ghost use Rattle.definition.specs.Registers.{on, code_of, supervisor_by, instruction_by, compared_by, as_supervisor, as_instruction, walk_code, compared_code};
+ghost use Rattle.definition.specs.Refusal.{no_family, bad_base, not030, above_seven, bad_override, bad_frame, refusal_of};
+ghost use Rattle.checks.specs.Given.{checks_of};
 
 use definition::{Access, Override, Registers};
 
 // 1: the family is not 30, 40 or 60.
 pub fn no_family(family: u32) -> bool
-    ensures { result ≡ noFamily family }
+    ensures { result ≡ no_family family }
 {
     !((family == 30) | (family == 40) | (family == 60))
 }
 
 // 2: the base is bad for these longs, whatever the ranges.
 pub fn bad_longs(longs: &[u32], base: u32) -> bool
-    ensures { result ≡ badBase (memory longs.now base []) }
+    ensures { result ≡ bad_base (memory longs.now base []) }
 {
     memory::longs::bad_base(longs.len(), base)
 }
@@ -30,14 +30,14 @@ pub fn not_030(family: u32) -> bool
 
 // 5: a code, mask or level above 7.
 pub fn above_seven(n: u32) -> bool
-    ensures { result ≡ aboveSeven n }
+    ensures { result ≡ above_seven n }
 {
     7 < n
 }
 
 // 5: an override above 7.
 pub fn bad_override(code: Override) -> bool
-    ensures { result ≡ badOverride code }
+    ensures { result ≡ bad_override code }
 {
     match code {
         Override::Plain => false,
@@ -47,7 +47,7 @@ pub fn bad_override(code: Override) -> bool
 
 // 5: a 68040 page frame of 2^20 or more.
 pub fn bad_frame(frame: u32) -> bool
-    ensures { result ≡ badFrame frame }
+    ensures { result ≡ bad_frame frame }
 {
     0x10_0000 <= frame
 }
@@ -60,7 +60,7 @@ pub fn lengths(c030: &[u64], c040: &[u64]) {}
 
 // The first that applies in the order 1, 6, 5, 2, 3, 4; 0 where none does.
 pub fn first_refusal(one: bool, six: bool, five: bool, two: bool, three: bool, four: bool) -> u32
-    ensures { result ≡ refusalOf (checksOf one six five two three four) }
+    ensures { result ≡ refusal_of (checks_of one six five two three four) }
 {
     if one {
         return 1;
@@ -115,7 +115,7 @@ pub fn code_of(supervisor: bool, instruction: bool) -> u32
 
 // An override replaces supervisor by bit 2.
 pub fn supervisor_by(code: Override, supervisor: bool) -> bool
-    ensures { result ≡ supervisorBy code supervisor }
+    ensures { result ≡ supervisor_by code supervisor }
 {
     match code {
         Override::Plain => supervisor,
@@ -125,7 +125,7 @@ pub fn supervisor_by(code: Override, supervisor: bool) -> bool
 
 // And instruction by 'low two bits are 2'.
 fn instruction_by(code: Override, instruction: bool) -> bool
-    ensures { result ≡ instructionBy code instruction }
+    ensures { result ≡ instruction_by code instruction }
 {
     match code {
         Override::Plain => instruction,
@@ -135,7 +135,7 @@ fn instruction_by(code: Override, instruction: bool) -> bool
 
 // Supervisor, as the translation takes it.
 pub fn as_supervisor(a: Access) -> bool
-    ensures { result ≡ asSupervisor a }
+    ensures { result ≡ as_supervisor a }
 {
     let code = a.code;
     supervisor_by(code, a.supervisor)
@@ -143,7 +143,7 @@ pub fn as_supervisor(a: Access) -> bool
 
 // Instruction, as the translation takes it.
 pub fn as_instruction(a: Access) -> bool
-    ensures { result ≡ asInstruction a }
+    ensures { result ≡ as_instruction a }
 {
     let code = a.code;
     instruction_by(code, a.instruction)
@@ -151,14 +151,14 @@ pub fn as_instruction(a: Access) -> bool
 
 // The walk's code: 1, 2, 5 or 6.
 pub fn walk_code(a: Access) -> u32
-    ensures { result ≡ walkCode a }
+    ensures { result ≡ walk_code a }
 {
     code_of(as_supervisor(a), as_instruction(a))
 }
 
 // The code that a transparent register is compared with: the override, else from the CPU's own state.
 pub fn compared_code(a: Access) -> u32
-    ensures { result ≡ comparedCode a }
+    ensures { result ≡ compared_code a }
 {
     let code = a.code;
     match code {

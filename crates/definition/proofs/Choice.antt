@@ -2,31 +2,31 @@
 use mathlib.Core.Path.{◌≡◌, refl}
 use mathlib.Core.Bool.{Bool, true, false, ◌&&◌, ◌||◌, false≢true, true≢false}
 use Rattle.definition.specs.Words.{if◌then◌else◌}
-use Rattle.definition.specs.Cache040.{sameBool}
+use Rattle.definition.specs.Cache040.{same_bool}
 
 -- what holds of each side, where its test gives it, holds of the choice
-pub if-by : {A : Type 0} (P : A → Type 0) (b : Bool) (x y : A) → (b ≡ true → P x) → (b ≡ false → P y) → P (if b then x else y)
-if-by P true x y h k = h refl
-if-by P false x y h k = k refl
+pub if_by : {A : Type 0} (P : A → Type 0) (b : Bool) (x y : A) → (b ≡ true → P x) → (b ≡ false → P y) → P (if b then x else y)
+if_by P true x y h k = h refl
+if_by P false x y h k = k refl
 
-pub if-both : {A : Type 0} (P : A → Type 0) (b : Bool) (x y : A) → P x → P y → P (if b then x else y)
-if-both P b x y h k = if-by P b x y (λ _. h) (λ _. k)
+pub if_both : {A : Type 0} (P : A → Type 0) (b : Bool) (x y : A) → P x → P y → P (if b then x else y)
+if_both P b x y h k = if_by P b x y (λ _. h) (λ _. k)
 
 -- two choices by one test look alike through f where their sides do
-pub if-alike : {A B : Type 0} (f : A → B) (b : Bool) (x y x' y' : A) → (b ≡ true → f x ≡ f x') → (b ≡ false → f y ≡ f y')
+pub if_alike : {A B : Type 0} (f : A → B) (b : Bool) (x y x' y' : A) → (b ≡ true → f x ≡ f x') → (b ≡ false → f y ≡ f y')
     → f (if b then x else y) ≡ f (if b then x' else y')
-if-alike f true x y x' y' h k = h refl
-if-alike f false x y x' y' h k = k refl
+if_alike f true x y x' y' h k = h refl
+if_alike f false x y x' y' h k = k refl
 
 -- the same, given what the side that is taken gives
-pub if-given-by : {A B : Type 0} (Q : A → Type 0) (f : A → B) (b : Bool) (x y x' y' : A) → (b ≡ true → Q x → f x ≡ f x') → (b ≡ false → Q y → f y ≡ f y')
+pub if_given_by : {A B : Type 0} (Q : A → Type 0) (f : A → B) (b : Bool) (x y x' y' : A) → (b ≡ true → Q x → f x ≡ f x') → (b ≡ false → Q y → f y ≡ f y')
     → Q (if b then x else y) → f (if b then x else y) ≡ f (if b then x' else y')
-if-given-by Q f true x y x' y' h k q = h refl q
-if-given-by Q f false x y x' y' h k q = k refl q
+if_given_by Q f true x y x' y' h k q = h refl q
+if_given_by Q f false x y x' y' h k q = k refl q
 
-pub if-given : {A B : Type 0} (Q : A → Type 0) (f : A → B) (b : Bool) (x y x' y' : A) → (Q x → f x ≡ f x') → (Q y → f y ≡ f y')
+pub if_given : {A B : Type 0} (Q : A → Type 0) (f : A → B) (b : Bool) (x y x' y' : A) → (Q x → f x ≡ f x') → (Q y → f y ≡ f y')
     → Q (if b then x else y) → f (if b then x else y) ≡ f (if b then x' else y')
-if-given Q f b x y x' y' h k = if-given-by Q f b x y x' y' (λ _. h) (λ _. k)
+if_given Q f b x y x' y' h k = if_given_by Q f b x y x' y' (λ _. h) (λ _. k)
 
 -- ---- tests
 pub and_left : (a b : Bool) → (a && b) ≡ true → a ≡ true
@@ -49,8 +49,8 @@ pub or_right : (a b : Bool) → (a || b) ≡ false → b ≡ false
 or_right true b e = absurd (true≢false e)
 or_right false b e = e
 
-pub same_bool : (a b : Bool) → sameBool a b ≡ true → a ≡ b
-same_bool true true e = refl
-same_bool true false e = absurd (false≢true e)
-same_bool false true e = absurd (false≢true e)
-same_bool false false e = refl
+pub same_bool_lem : (a b : Bool) → same_bool a b ≡ true → a ≡ b
+same_bool_lem true true e = refl
+same_bool_lem true false e = absurd (false≢true e)
+same_bool_lem false true e = absurd (false≢true e)
+same_bool_lem false false e = refl

@@ -7,18 +7,18 @@ use mathlib.Core.Bool.{Bool, true, false, not, ◌&&◌}
 use lib.Dec.{eqb}
 use lib.ListN.{get_or, set, replicate}
 use Rattle.definition.specs.Memory.{Memory}
-use Rattle.definition.specs.Walk040.{walk040, pageBits, frame_of}
-use Rattle.definition.specs.Cache040.{Slot, Cache040, no_slot, empty040, slot_at, inserted040, emptied, flushedAll040, flushedFrame}
+use Rattle.definition.specs.Walk040.{walk040, page_bits, frame_of}
+use Rattle.definition.specs.Cache040.{Slot, Cache040, no_slot, empty040, slot_at, inserted040, emptied, flushed_all040, flushed_frame}
 use Rattle.definition.specs.declared.End040.TheVariants.{Resident}
 use Rattle.definition.specs.declared.Registers.{Registers}
-use Rattle.definition.proofs.Choice.{if-both}
-use Rattle.definition.proofs.Lists.{All, all-get, all_replicate, all_made}
+use Rattle.definition.proofs.Choice.{if_both}
+use Rattle.definition.proofs.Lists.{All, all_get, all_replicate, all_made}
 
 -- ---- what a call does to the cache
 -- a walk of this frame and privilege under g and over m found the page with this base, W and S
 pub record Walked040 (g : Registers) (m : Memory) (frame : ℕ) (supervisor : Bool) (base : ℕ) (wp sup : Bool) : Type 0 where
   pub address : ℕ
-  pub at : address / 2 ^ pageBits g.tc ≡ frame
+  pub at : address / 2 ^ page_bits g.tc ≡ frame
   pub field : ℕ
   pub end : (walk040 m g address supervisor).end ≡ Resident field wp sup
   pub allowed : (not supervisor && sup) ≡ false
@@ -26,14 +26,14 @@ pub record Walked040 (g : Registers) (m : Memory) (frame : ℕ) (supervisor : Bo
 
 -- the calls under g and over m keep I: a flush does, and an insert of what a walk found does
 pub record Keeps040 (g : Registers) (m : Memory) (I : Cache040 → Type 0) : Type 0 where
-  pub dropAll : (c : Cache040) → I c → I (flushedAll040 c)
-  pub drop : (c : Cache040) (frame : ℕ) → I c → I (flushedFrame c frame)
+  pub drop_all : (c : Cache040) → I c → I (flushed_all040 c)
+  pub drop : (c : Cache040) (frame : ℕ) → I c → I (flushed_frame c frame)
   pub insert : (c : Cache040) (frame : ℕ) (supervisor : Bool) (base : ℕ) (wp sup : Bool) → Walked040 g m frame supervisor base wp sup → I c
       → I (inserted040 c frame supervisor base wp sup)
 
 -- they keep what says nothing
-pub free-040 : (g : Registers) (m : Memory) → Keeps040 g m (λ c. Unit {0})
-free-040 g m = record { dropAll = λ c h. tt; drop = λ c frame h. tt; insert = λ c frame supervisor base wp sup w h. tt }
+pub free_040 : (g : Registers) (m : Memory) → Keeps040 g m (λ c. Unit {0})
+free_040 g m = record { drop_all = λ c h. tt; drop = λ c frame h. tt; insert = λ c frame supervisor base wp sup w h. tt }
 
 -- ---- what is kept of one slot is kept of all
 -- B speaks of the slot at an index, and says nothing of one that is not valid
@@ -54,38 +54,38 @@ abbrev pub Sound040 : (ℕ → Slot → Type 0) → Cache040 → Type 0
 Sound040 B c = Each B c.slots
 
 -- one slot is set
-set-each : (B : ℕ → Slot → Type 0) (l : List Slot) (v : ℕ) (x : Slot) → B v x → Each B l → Each B (set l v x)
-set-each B [] v x b h i = h i
-set-each B (y ∷ l) zero x b h zero = b
-set-each B (y ∷ l) zero x b h (suc i) = h (suc i)
-set-each B (y ∷ l) (suc v) x b h zero = h 0
-set-each B (y ∷ l) (suc v) x b h (suc i) = set-each (λ (i : ℕ). B (suc i)) l v x b (λ i. h (suc i)) i
+set_each : (B : ℕ → Slot → Type 0) (l : List Slot) (v : ℕ) (x : Slot) → B v x → Each B l → Each B (set l v x)
+set_each B [] v x b h i = h i
+set_each B (y ∷ l) zero x b h zero = b
+set_each B (y ∷ l) zero x b h (suc i) = h (suc i)
+set_each B (y ∷ l) (suc v) x b h zero = h 0
+set_each B (y ∷ l) (suc v) x b h (suc i) = set_each (λ (i : ℕ). B (suc i)) l v x b (λ i. h (suc i)) i
 
 -- a flush of all leaves no valid slot
-pub flushed-all-invalid : (c : Cache040) → All (λ (s : Slot). s.valid ≡ false) (flushedAll040 c).slots
-unfolding flushedAll040
-flushed-all-invalid c = all_made (λ (s : Slot). s.valid ≡ false) emptied (λ s. refl) c.slots
+pub flushed_all_invalid : (c : Cache040) → All (λ (s : Slot). s.valid ≡ false) (flushed_all040 c).slots
+unfolding flushed_all040
+flushed_all_invalid c = all_made (λ (s : Slot). s.valid ≡ false) emptied (λ s. refl) c.slots
 
 module _ (B : ℕ → Slot → Type 0) (o : OfSlots B) where
   -- none is valid
-  pub each-invalid : (l : List Slot) → All (λ (s : Slot). s.valid ≡ false) l → Each B l
-  each-invalid l h i = o.invalid i (get_or l i no_slot) (all-get (λ (s : Slot). s.valid ≡ false) l i no_slot refl h)
+  pub each_invalid : (l : List Slot) → All (λ (s : Slot). s.valid ≡ false) l → Each B l
+  each_invalid l h i = o.invalid i (get_or l i no_slot) (all_get (λ (s : Slot). s.valid ≡ false) l i no_slot refl h)
 
-  pub empty-sound : Sound040 B empty040
-  empty-sound = each-invalid (replicate 64 no_slot) (all_replicate (λ (s : Slot). s.valid ≡ false) 64 no_slot refl)
+  pub empty_sound : Sound040 B empty040
+  empty_sound = each_invalid (replicate 64 no_slot) (all_replicate (λ (s : Slot). s.valid ≡ false) 64 no_slot refl)
 
-  drop-frame-sound : (c : Cache040) (frame : ℕ) → Sound040 B c → Sound040 B (flushedFrame c frame)
-  unfolding flushedFrame
-  drop-frame-sound c frame h =
-      if-both (Sound040 B) (eqb (slot_at c frame).frame frame) _ c
-      (set-each B c.slots (frame % 64) (emptied (slot_at c frame)) (o.invalid (frame % 64) (emptied (slot_at c frame)) refl) h) h
+  drop_frame_sound : (c : Cache040) (frame : ℕ) → Sound040 B c → Sound040 B (flushed_frame c frame)
+  unfolding flushed_frame
+  drop_frame_sound c frame h =
+      if_both (Sound040 B) (eqb (slot_at c frame).frame frame) _ c
+      (set_each B c.slots (frame % 64) (emptied (slot_at c frame)) (o.invalid (frame % 64) (emptied (slot_at c frame)) refl) h) h
 
   -- the law: every call keeps it
-  pub sound-keeps : (g : Registers) (m : Memory) → New040 B g m → Keeps040 g m (Sound040 B)
+  pub sound_keeps : (g : Registers) (m : Memory) → New040 B g m → Keeps040 g m (Sound040 B)
   unfolding inserted040
-  sound-keeps g m new =
+  sound_keeps g m new =
       record {
-        dropAll = λ c h. each-invalid (flushedAll040 c).slots (flushed-all-invalid c);
-        drop = drop-frame-sound;
-        insert = λ c frame supervisor base wp sup w h. set-each B c.slots (frame % 64) _ (new frame supervisor base wp sup w) h;
+        drop_all = λ c h. each_invalid (flushed_all040 c).slots (flushed_all_invalid c);
+        drop = drop_frame_sound;
+        insert = λ c frame supervisor base wp sup w h. set_each B c.slots (frame % 64) _ (new frame supervisor base wp sup w) h;
       }

@@ -7,14 +7,14 @@ use lib.ListN.{set, replicate}
 use Rattle.definition.specs.Words.{any_of, all_of, count_of, first_of}
 use Rattle.definition.specs.Memory.{Memory, memory}
 use Rattle.definition.specs.Transparent.{transparent}
-use Rattle.definition.specs.Walk030.{read_of, widthsOf, walkFrom, shift_of}
+use Rattle.definition.specs.Walk030.{read_of, widths_of, walk_from, shift_of}
 use Rattle.definition.specs.Walk040.{walk040}
-use Rattle.definition.specs.Cache030.{matching, rested, touched, hitOf, afterHit, shifted, oldest, victim, inserted}
+use Rattle.definition.specs.Cache030.{matching, rested, touched, hit_of, after_hit, shifted, oldest, victim, inserted}
 use Rattle.definition.specs.Cache040.{hit040, inserted040}
-use Rattle.definition.specs.Refusal.{refusalOf}
-use Rattle.definition.specs.Translate.{Caches, emptyCaches, search030, translate030, translate040, inOrder, translate}
-use Rattle.definition.specs.Test.{testInOrder, test}
-use Rattle.definition.specs.Probe.{probeInOrder, probe}
+use Rattle.definition.specs.Refusal.{refusal_of}
+use Rattle.definition.specs.Translate.{Caches, empty_caches, search030, translate030, translate040, in_order, translate}
+use Rattle.definition.specs.Test.{test_in_order, test}
+use Rattle.definition.specs.Probe.{probe_in_order, probe}
 use Rattle.definition.specs.Calls.{Call, access, testing, probing, Line, A, F, T, N, calling}
 use Rattle.definition.specs.declared.Registers.{Registers}
 use Rattle.definition.specs.declared.Override.{Override}
@@ -24,7 +24,7 @@ use Rattle.definition.specs.declared.Shift.TheVariants.{Bits, NoPage}
 -- what is asked: a call, or the page shift that TC gives
 pub data Question : Type 0 where
   call : Call → Question
-  pageShift : Question
+  page_shift : Question
 
 -- what it must give: a call's line in the trace, or the page shift
 pub data Given : Type 0 where
@@ -38,18 +38,18 @@ pub record Row : Type 0 where
   pub asks : List (Question × Given)
 
 -- 4,200 longs from address 0 on, zero but where the row says
-abbrev pub longsOf : List (ℕ × ℕ) → List ℕ
-longsOf [] = replicate 4200 0
-longsOf (p ∷ l) = set (longsOf l) (p.0 / 4) p.1
+abbrev pub longs_of : List (ℕ × ℕ) → List ℕ
+longs_of [] = replicate 4200 0
+longs_of (p ∷ l) = set (longs_of l) (p.0 / 4) p.1
 
 -- the questions one after another, from these caches
 abbrev pub asked : Registers → Memory → Caches → List (Question × Given) → List Given
 asked g m c [] = []
-asked g m c ((pageShift, e) ∷ rest) = shift (shift_of g.tc) ∷ asked g m c rest
+asked g m c ((page_shift, e) ∷ rest) = shift (shift_of g.tc) ∷ asked g m c rest
 asked g m c ((call k, e) ∷ rest) = line (calling g m c k).line ∷ asked g m (calling g m c k).caches rest
 
 abbrev pub gives : Row → List Given
-gives r = asked r.registers (memory (longsOf r.longs) 0 []) emptyCaches r.asks
+gives r = asked r.registers (memory (longs_of r.longs) 0 []) empty_caches r.asks
 
 abbrev pub must : Row → List Given
 must r = map (λ (q : Question × Given). q.1) r.asks
@@ -108,22 +108,22 @@ on030 longs asks = row 30 0x80C07760 0x80000002 longs asks
 abbrev pub tree : ℕ → ℕ → List (ℕ × ℕ)
 tree second third = (0x1004, 0x2002) ∷ (0x2004, second) ∷ (0x3004, third) ∷ []
 
-abbrev pub shiftIs : ℕ → Shift → Row
-shiftIs tc s = row 30 tc 0x80000002 [] ((pageShift, shift s) ∷ [])
+abbrev pub shift_is : ℕ → Shift → Row
+shift_is tc s = row 30 tc 0x80000002 [] ((page_shift, shift s) ∷ [])
 
 -- example 12's pages: n of them from page i on, each mapped 100000 above itself
-abbrev pub countFrom : ℕ → ℕ → List ℕ
-countFrom i zero = []
-countFrom i (suc n) = i ∷ countFrom (i + 1) n
+abbrev pub count_from : ℕ → ℕ → List ℕ
+count_from i zero = []
+count_from i (suc n) = i ∷ count_from (i + 1) n
 
-abbrev pub pageLong : ℕ → ℕ × ℕ
-pageLong i = (0x3000 + 4 * i, 0x100001 + 0x1000 * i)
+abbrev pub page_long : ℕ → ℕ × ℕ
+page_long i = (0x3000 + 4 * i, 0x100001 + 0x1000 * i)
 
-abbrev pub pagesMapped : List (ℕ × ℕ)
-pagesMapped = (0x1000, 0x2002) ∷ (0x2000, 0x3002) ∷ map pageLong (countFrom 1 23)
+abbrev pub pages_mapped : List (ℕ × ℕ)
+pages_mapped = (0x1000, 0x2002) ∷ (0x2000, 0x3002) ∷ map page_long (count_from 1 23)
 
-abbrev pub readPage : Bool → ℕ → ℕ → Question × Given
-readPage recorded count i = (user (0x1000 * i) false recorded, line (A (0x100000 + 0x1000 * i) count))
+abbrev pub read_page : Bool → ℕ → ℕ → Question × Given
+read_page recorded count i = (user (0x1000 * i) false recorded, line (A (0x100000 + 0x1000 * i) count))
 
 abbrev pub here : ℕ → Question × Given
 here i = (call (probing false false false (0x1000 * i)), line (A (0x100000 + 0x1000 * i) 0))
@@ -132,10 +132,10 @@ abbrev pub gone : ℕ → Question × Given
 gone i = (call (probing false false false (0x1000 * i)), line N)
 
 -- pages 1 to 22 read, a hit on page 1, page 23 read, and then what the cache holds
-abbrev pub twentyThree : Bool → List (Question × Given) → Row
-twentyThree recorded held =
-    on030 pagesMapped
-    (map (readPage true 3) (countFrom 1 22) ++ (readPage recorded 0 1 ∷ readPage true 3 23 ∷ held))
+abbrev pub twenty_three : Bool → List (Question × Given) → Row
+twenty_three recorded held =
+    on030 pages_mapped
+    (map (read_page true 3) (count_from 1 22) ++ (read_page recorded 0 1 ∷ read_page true 3 23 ∷ held))
 
 -- ---- the table: the twelve examples by their numbers, some in several rows
 abbrev pub rows : List Row
@@ -155,20 +155,20 @@ rows =
     -- 8. CRP limit type 1: configuration fault; PTEST 8000, 1000.
     ∷ row 30 0x80C07760 0x80000001 (tree 0x3002 0x55001) (read (F 0 3 0x02041ABC 0) ∷ ptest 7 (T 0x8000 0x1000 0) ∷ [])
     -- 9. Widths 7, 0, 6: shift 25. IS 15, widths 15, 1: shift 1. Sum 32 or 0: none.
-    ∷ shiftIs 0x80C07060 (Bits 25)
-    ∷ shiftIs 0x800FF100 (Bits 1)
-    ∷ shiftIs 0x80008888 NoPage
-    ∷ shiftIs 0x80000000 NoPage
+    ∷ shift_is 0x80C07060 (Bits 25)
+    ∷ shift_is 0x800FF100 (Bits 1)
+    ∷ shift_is 0x80008888 NoPage
+    ∷ shift_is 0x80000000 NoPage
     -- 10. Family 40, TC 8000, 3004=55085: user write WriteProtect, user read SupervisorProtect.
     ∷ row 40 0x8000 0x80000002 (tree 0x3002 0x55085) (write (F 2 4 0x02041ABC 3) ∷ read (F 2 5 0x02041ABC 3) ∷ [])
     -- 11. Family 40, TC C000, 3000=55001: 00055ABC. The same with 3004=0, where an index by 17:12 would fault.
     ∷ row 40 0xC000 0x80000002 ((0x3000, 0x55001) ∷ tree 0x3002 0x55001) (read (A 0x55ABC 3) ∷ [])
     ∷ row 40 0xC000 0x80000002 ((0x3000, 0x55001) ∷ tree 0x3002 0) (read (A 0x55ABC 3) ∷ [])
     -- 12. Pages 1 to 22 inserted, recorded hit on 1, then 23: page 2 goes. Unrecorded: page 1 goes.
-    ∷ twentyThree true (here 1 ∷ gone 2 ∷ map here (countFrom 3 21))
-    ∷ twentyThree false (gone 1 ∷ map here (countFrom 2 22))
+    ∷ twenty_three true (here 1 ∷ gone 2 ∷ map here (count_from 3 21))
+    ∷ twenty_three false (gone 1 ∷ map here (count_from 2 22))
     ∷ []
 
-pub twelve-examples : map gives rows ≡ map must rows
-unfolding calling translate inOrder translate030 translate040 search030 transparent walkFrom read_of widthsOf walk040 any_of all_of count_of first_of refusalOf test testInOrder probe probeInOrder matching rested touched hitOf afterHit shifted oldest victim inserted hit040 inserted040
-twelve-examples = refl
+pub twelve_examples : map gives rows ≡ map must rows
+unfolding calling translate in_order translate030 translate040 search030 transparent walk_from read_of widths_of walk040 any_of all_of count_of first_of refusal_of test test_in_order probe probe_in_order matching rested touched hit_of after_hit shifted oldest victim inserted hit040 inserted040
+twelve_examples = refl

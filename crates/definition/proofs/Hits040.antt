@@ -6,11 +6,11 @@ use mathlib.Core.List.{List}
 use mathlib.Core.Bool.{Bool, true, false, not, ◌&&◌, false≢true}
 use borrow.Author.Tests.{eqb-true, not-true}
 use lib.Dec.{eqb}
-use Rattle.definition.specs.Registers.{asSupervisor}
+use Rattle.definition.specs.Registers.{as_supervisor}
 use Rattle.definition.specs.Memory.{Memory}
-use Rattle.definition.specs.Walk040.{Outcome040, walk040, pageBits, physical040}
-use Rattle.definition.specs.Cache040.{Slot, Cache040, empty040, slot_at, holds, forbids, slotHit, hit040}
-use Rattle.definition.specs.Translate.{Caches, emptyCaches, Translated, onEnd040, concluded040, joined, onHit040, translate040}
+use Rattle.definition.specs.Walk040.{Outcome040, walk040, page_bits, physical040}
+use Rattle.definition.specs.Cache040.{Slot, Cache040, empty040, slot_at, holds, forbids, slot_hit, hit040}
+use Rattle.definition.specs.Translate.{Caches, empty_caches, Translated, on_end040, concluded040, joined, on_hit040, translate040}
 use Rattle.definition.specs.declared.Access.{Access}
 use Rattle.definition.specs.declared.End040.{End040}
 use Rattle.definition.specs.declared.End040.TheVariants.{Resident, Absent, Lost}
@@ -18,38 +18,38 @@ use Rattle.definition.specs.declared.Hit.{Hit}
 use Rattle.definition.specs.declared.Hit.TheVariants.{At, Miss}
 use Rattle.definition.specs.declared.Registers.{Registers}
 use Rattle.definition.specs.declared.Translation.TheVariants.{Address}
-use Rattle.definition.proofs.Choice.{if-by, if-both, if-alike, and_left, and_right, or_left, same_bool}
+use Rattle.definition.proofs.Choice.{if_by, if_both, if_alike, and_left, and_right, or_left, same_bool_lem}
 use Rattle.definition.proofs.Agree.{Throughout}
-use Rattle.definition.proofs.Asked040.{asked-040}
-use Rattle.definition.proofs.Page040.{page-040, base-040}
+use Rattle.definition.proofs.Asked040.{asked_040}
+use Rattle.definition.proofs.Page040.{page_040, base_040}
 use Rattle.definition.proofs.Hits030.{no_hit}
-use Rattle.definition.proofs.Entries040.{Walked040, OfSlots, New040, Sound040, empty-sound}
+use Rattle.definition.proofs.Entries040.{Walked040, OfSlots, New040, Sound040, empty_sound}
 
 -- ---- what a search answers and asks for does not depend on the caches
-end-answer : (g : Registers) (a : Access) (c c' : Caches) (asked : List ℕ) (e : End040) → (onEnd040 g a c asked e).answer ≡ (onEnd040 g a c' asked e).answer
-end-answer g a c c' asked (Resident field wp sup) =
-    if-alike (λ (t : Translated). t.answer) (a.write && wp) _ _ _ _ (λ _. refl)
-    (λ _. if-alike (λ (t : Translated). t.answer) (not (asSupervisor a) && sup) _ _ _ _ (λ _. refl) (λ _. refl))
-end-answer g a c c' asked (Absent missing) = refl
-end-answer g a c c' asked (Lost at) = refl
+end_answer : (g : Registers) (a : Access) (c c' : Caches) (asked : List ℕ) (e : End040) → (on_end040 g a c asked e).answer ≡ (on_end040 g a c' asked e).answer
+end_answer g a c c' asked (Resident field wp sup) =
+    if_alike (λ (t : Translated). t.answer) (a.write && wp) _ _ _ _ (λ _. refl)
+    (λ _. if_alike (λ (t : Translated). t.answer) (not (as_supervisor a) && sup) _ _ _ _ (λ _. refl) (λ _. refl))
+end_answer g a c c' asked (Absent missing) = refl
+end_answer g a c c' asked (Lost at) = refl
 
-end-asked : (g : Registers) (a : Access) (c : Caches) (asked : List ℕ) (e : End040) → (onEnd040 g a c asked e).asked ≡ asked
-end-asked g a c asked (Resident field wp sup) =
-    if-both (λ (t : Translated). t.asked ≡ asked) (a.write && wp) _ _ refl
-    (if-both (λ (t : Translated). t.asked ≡ asked) (not (asSupervisor a) && sup) _ _ refl refl)
-end-asked g a c asked (Absent missing) = refl
-end-asked g a c asked (Lost at) = refl
+end_asked : (g : Registers) (a : Access) (c : Caches) (asked : List ℕ) (e : End040) → (on_end040 g a c asked e).asked ≡ asked
+end_asked g a c asked (Resident field wp sup) =
+    if_both (λ (t : Translated). t.asked ≡ asked) (a.write && wp) _ _ refl
+    (if_both (λ (t : Translated). t.asked ≡ asked) (not (as_supervisor a) && sup) _ _ refl refl)
+end_asked g a c asked (Absent missing) = refl
+end_asked g a c asked (Lost at) = refl
 
 -- what the walk of an access gives
 abbrev pub walked040 : Registers → Access → Memory → Outcome040
-walked040 g a m = walk040 m g a.address (asSupervisor a)
+walked040 g a m = walk040 m g a.address (as_supervisor a)
 
 module _ (g : Registers) (m : Memory) (a : Access) where
-  pub search-answer : (c c' : Caches) → (concluded040 g a c (walked040 g a m)).answer ≡ (concluded040 g a c' (walked040 g a m)).answer
-  search-answer c c' = end-answer g a c c' _ (walked040 g a m).end
+  pub search_answer : (c c' : Caches) → (concluded040 g a c (walked040 g a m)).answer ≡ (concluded040 g a c' (walked040 g a m)).answer
+  search_answer c c' = end_answer g a c c' _ (walked040 g a m).end
 
-  pub search-asked : (c : Caches) → (concluded040 g a c (walked040 g a m)).asked ≡ (walked040 g a m).asked
-  search-asked c = end-asked g a c _ (walked040 g a m).end
+  pub search_asked : (c : Caches) → (concluded040 g a c (walked040 g a m)).asked ≡ (walked040 g a m).asked
+  search_asked c = end_asked g a c _ (walked040 g a m).end
 
 -- a hit with this base has its walk over a memory of P, which permits it
 pub record Hits040 (g : Registers) (P : Memory → Type 0) (frame : ℕ) (supervisor : Bool) (base : ℕ) (write : Bool) : Type 0 where
@@ -67,8 +67,8 @@ Good040 g P i s =
     → Hits040 g P s.frame s.supervisor s.base write
 
 module _ (g : Registers) (P : Memory → Type 0) where
-  pub good-slots : OfSlots (Good040 g P)
-  good-slots = record { invalid = λ i s f a v. absurd (false≢true (sym f ∙ v)) }
+  pub good_slots : OfSlots (Good040 g P)
+  good_slots = record { invalid = λ i s f a v. absurd (false≢true (sym f ∙ v)) }
 
   -- what a walk finds is good
   pub good_new : (m : Memory) → P m → New040 (Good040 g P) g m
@@ -79,77 +79,77 @@ module _ (g : Registers) (P : Memory → Type 0) where
 pub record Met040 (s : Slot) (frame : ℕ) (supervisor : Bool) (base : ℕ) (write : Bool) : Type 0 where
   pub valid : s.valid ≡ true
   pub frame_is : s.frame ≡ frame
-  pub supervisor-is : s.supervisor ≡ supervisor
-  pub base-is : s.base ≡ base
+  pub supervisor_is : s.supervisor ≡ supervisor
+  pub base_is : s.base ≡ base
   pub permits : forbids supervisor write s ≡ false
 
-pub met-040 : (s : Slot) (frame : ℕ) (supervisor : Bool) (base : ℕ) (write : Bool) → slotHit frame supervisor write s ≡ At base
+pub met_040 : (s : Slot) (frame : ℕ) (supervisor : Bool) (base : ℕ) (write : Bool) → slot_hit frame supervisor write s ≡ At base
     → Met040 s frame supervisor base write
-met-040 s frame supervisor base write =
-    if-by (λ (hit : Hit). hit ≡ At base → Met040 s frame supervisor base write) (holds frame supervisor s && not (forbids supervisor write s)) _ _
+met_040 s frame supervisor base write =
+    if_by (λ (hit : Hit). hit ≡ At base → Met040 s frame supervisor base write) (holds frame supervisor s && not (forbids supervisor write s)) _ _
     (λ t h.
     let held = and_left (holds frame supervisor s) _ t in
     let key = and_right s.valid _ held in
     record {
       valid = and_left s.valid _ held;
       frame_is = eqb-true s.frame frame (and_left _ _ key);
-      supervisor-is = same_bool s.supervisor supervisor (and_right (eqb s.frame frame) _ key);
-      base-is = cc;
+      supervisor_is = same_bool_lem s.supervisor supervisor (and_right (eqb s.frame frame) _ key);
+      base_is = cc;
       permits = not-true (forbids supervisor write s) (and_right (holds frame supervisor s) _ t);
     })
     (λ f h. no_hit base h)
 
 module _ (g : Registers) (P : Memory → Type 0) where
-  pub hit-040 : (c : Cache040) (frame : ℕ) (supervisor : Bool) (base : ℕ) (write : Bool) → eqb g.family 30 ≡ false → Sound040 (Good040 g P) c
+  pub hit_040 : (c : Cache040) (frame : ℕ) (supervisor : Bool) (base : ℕ) (write : Bool) → eqb g.family 30 ≡ false → Sound040 (Good040 g P) c
       → hit040 c frame supervisor write ≡ At base → Hits040 g P frame supervisor base write
   unfolding hit040
-  hit-040 c frame supervisor base write family h e =
-      let met = met-040 (slot_at c frame) frame supervisor base write e in
+  hit_040 c frame supervisor base write family h e =
+      let met = met_040 (slot_at c frame) frame supervisor base write e in
       let permits = met.permits in
-      let hits = h (frame % 64) family met.valid write (rw met.supervisor-is permits) in
-      rw (met.frame_is, met.supervisor-is, met.base-is) at hits
+      let hits = h (frame % 64) family met.valid write (rw met.supervisor_is permits) in
+      rw (met.frame_is, met.supervisor_is, met.base_is) at hits
 
   -- ---- a hit answers as a search does
-  page-answer : (a : Access) (c : Caches) (field : ℕ) (wp sup : Bool) (o : Outcome040) → o.end ≡ Resident field wp sup → (a.write && wp) ≡ false
-      → (not (asSupervisor a) && sup) ≡ false → (concluded040 g a c o).answer ≡ Address (physical040 g.tc field a.address)
-  page-answer a c field wp sup o e f k = rw (e, f, k)
+  page_answer : (a : Access) (c : Caches) (field : ℕ) (wp sup : Bool) (o : Outcome040) → o.end ≡ Resident field wp sup → (a.write && wp) ≡ false
+      → (not (as_supervisor a) && sup) ≡ false → (concluded040 g a c o).answer ≡ Address (physical040 g.tc field a.address)
+  page_answer a c field wp sup o e f k = rw (e, f, k)
 
   module _ (m : Memory) (a : Access) (steady : Throughout P m (walked040 g a m).asked) where
-    hit-answer : (c : Caches) (base : ℕ) → Hits040 g P (a.address / 2 ^ pageBits g.tc) (asSupervisor a) base a.write
+    hit_answer : (c : Caches) (base : ℕ) → Hits040 g P (a.address / 2 ^ page_bits g.tc) (as_supervisor a) base a.write
         → Address (joined g.tc base a.address) ≡ (concluded040 g a c (walked040 g a m)).answer
-    hit-answer c base k =
+    hit_answer c base k =
         let w = k.walked in
-        let same : walked040 g a m ≡ walk040 k.over g w.address (asSupervisor a) =
-        asked-040 m k.over g a.address (asSupervisor a) (steady k.over k.seen)
-        ∙ page-040 k.over g a.address w.address (sym w.at) (asSupervisor a) in
+        let same : walked040 g a m ≡ walk040 k.over g w.address (as_supervisor a) =
+        asked_040 m k.over g a.address (as_supervisor a) (steady k.over k.seen)
+        ∙ page_040 k.over g a.address w.address (sym w.at) (as_supervisor a) in
         ap (λ (b : ℕ). Address (joined g.tc b a.address)) (sym w.based)
-        ∙ ap Address (base-040 g.tc w.field a.address)
-        ∙ sym (page-answer a c w.field k.wp k.sup (walk040 k.over g w.address (asSupervisor a)) w.end k.may w.allowed)
+        ∙ ap Address (base_040 g.tc w.field a.address)
+        ∙ sym (page_answer a c w.field k.wp k.sup (walk040 k.over g w.address (as_supervisor a)) w.end k.may w.allowed)
         ∙ ap (λ (o : Outcome040). (concluded040 g a c o).answer) (sym same)
 
     -- the law: with good slots a translation answers as a search from the empty cache
-    pub with-answer : (c : Caches) → eqb g.family 30 ≡ false → Sound040 (Good040 g P) c.c040
-        → (translate040 g a m c).answer ≡ (concluded040 g a emptyCaches (walked040 g a m)).answer
+    pub with_answer : (c : Caches) → eqb g.family 30 ≡ false → Sound040 (Good040 g P) c.c040
+        → (translate040 g a m c).answer ≡ (concluded040 g a empty_caches (walked040 g a m)).answer
     unfolding translate040
-    with-answer c family h = go (hit040 c.c040 (a.address / 2 ^ pageBits g.tc) (asSupervisor a) a.write) refl
+    with_answer c family h = go (hit040 c.c040 (a.address / 2 ^ page_bits g.tc) (as_supervisor a) a.write) refl
       where
-        go : (hit : Hit) → hit040 c.c040 (a.address / 2 ^ pageBits g.tc) (asSupervisor a) a.write ≡ hit
-            → (onHit040 g a m c hit).answer ≡ (concluded040 g a emptyCaches (walked040 g a m)).answer
+        go : (hit : Hit) → hit040 c.c040 (a.address / 2 ^ page_bits g.tc) (as_supervisor a) a.write ≡ hit
+            → (on_hit040 g a m c hit).answer ≡ (concluded040 g a empty_caches (walked040 g a m)).answer
         go (At base) e =
-            hit-answer emptyCaches base (hit-040 c.c040 (a.address / 2 ^ pageBits g.tc) (asSupervisor a) base a.write family h e)
-        go Miss e = search-answer g m a c emptyCaches
+            hit_answer empty_caches base (hit_040 c.c040 (a.address / 2 ^ page_bits g.tc) (as_supervisor a) base a.write family h e)
+        go Miss e = search_answer g m a c empty_caches
 
 -- ---- the cacheless walk: the empty cache has no slot to meet
-empty-misses : (frame : ℕ) (supervisor write : Bool) → hit040 empty040 frame supervisor write ≡ Miss
+empty_misses : (frame : ℕ) (supervisor write : Bool) → hit040 empty040 frame supervisor write ≡ Miss
 unfolding hit040
-empty-misses frame supervisor write =
-    rw (empty-sound (λ i s. s.valid ≡ false) (record { invalid = λ i s f. f }) (frame % 64))
+empty_misses frame supervisor write =
+    rw (empty_sound (λ i s. s.valid ≡ false) (record { invalid = λ i s f. f }) (frame % 64))
 
 module _ (g : Registers) (m : Memory) (a : Access) where
-  pub empty-answer : (translate040 g a m emptyCaches).answer ≡ (concluded040 g a emptyCaches (walked040 g a m)).answer
+  pub empty_answer : (translate040 g a m empty_caches).answer ≡ (concluded040 g a empty_caches (walked040 g a m)).answer
   unfolding translate040
-  empty-answer = rw (empty-misses (a.address / 2 ^ pageBits g.tc) (asSupervisor a) a.write)
+  empty_answer = rw (empty_misses (a.address / 2 ^ page_bits g.tc) (as_supervisor a) a.write)
 
-  pub empty-asked : (translate040 g a m emptyCaches).asked ≡ (walked040 g a m).asked
+  pub empty_asked : (translate040 g a m empty_caches).asked ≡ (walked040 g a m).asked
   unfolding translate040
-  empty-asked = rw (empty-misses (a.address / 2 ^ pageBits g.tc) (asSupervisor a) a.write) (search-asked g m a emptyCaches)
+  empty_asked = rw (empty_misses (a.address / 2 ^ page_bits g.tc) (as_supervisor a) a.write) (search_asked g m a empty_caches)

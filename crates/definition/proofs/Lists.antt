@@ -41,30 +41,30 @@ module _ {X : Type 0} (P : X → Type 0) where
   all_set (y ∷ l) zero x p a = (p, a.1)
   all_set (y ∷ l) (suc i) x p a = (a.0, all_set l i x p a.1)
 
-  pub all-get : (l : List X) (i : ℕ) (d : X) → P d → All P l → P (get_or l i d)
-  all-get [] i d p a = p
-  all-get (y ∷ l) zero d p a = a.0
-  all-get (y ∷ l) (suc i) d p a = all-get l i d p a.1
+  pub all_get : (l : List X) (i : ℕ) (d : X) → P d → All P l → P (get_or l i d)
+  all_get [] i d p a = p
+  all_get (y ∷ l) zero d p a = a.0
+  all_get (y ∷ l) (suc i) d p a = all_get l i d p a.1
 
   pub all_replicate : (n : ℕ) (x : X) → P x → All P (replicate n x)
   all_replicate zero x p = tt
   all_replicate (suc n) x p = (p, all_replicate n x p)
 
-  pub all-index : (l : List X) (d : X) → ((i : ℕ) → P (get_or l i d)) → All P l
-  all-index [] d h = tt
-  all-index (x ∷ l) d h = (h 0, all-index l d (λ i. h (suc i)))
+  pub all_index : (l : List X) (d : X) → ((i : ℕ) → P (get_or l i d)) → All P l
+  all_index [] d h = tt
+  all_index (x ∷ l) d h = (h 0, all_index l d (λ i. h (suc i)))
 
-  pub all-by : (Q : X → Type 0) → ((x : X) → P x → Q x) → (l : List X) → All P l → All Q l
-  all-by Q h [] a = tt
-  all-by Q h (x ∷ l) a = (h x a.0, all-by Q h l a.1)
+  pub all_by : (Q : X → Type 0) → ((x : X) → P x → Q x) → (l : List X) → All P l → All Q l
+  all_by Q h [] a = tt
+  all_by Q h (x ∷ l) a = (h x a.0, all_by Q h l a.1)
 
   pub all_both : (l r : List X) → All P l → All P r → All P (l ++ r)
   all_both [] r a b = b
   all_both (x ∷ l) r a b = (a.0, all_both l r a.1 b)
 
-  pub all-at : (l : List X) (x : X) → In x l → All P l → P x
-  all-at (y ∷ l) x (inl e) a = rw e a.0
-  all-at (y ∷ l) x (inr i) a = all-at l x i a.1
+  pub all_at : (l : List X) (x : X) → In x l → All P l → P x
+  all_at (y ∷ l) x (inl e) a = rw e a.0
+  all_at (y ∷ l) x (inr i) a = all_at l x i a.1
 
 pub all_map : {X Y : Type 0} (P : X → Type 0) (Q : Y → Type 0) (f : X → Y) → ((x : X) → P x → Q (f x)) → (l : List X) → All P l
     → All Q (map f l)
@@ -107,20 +107,20 @@ module _ {X : Type 0} (p : X → Bool) where
       go true e h k = e
       go false e h k = k (le_of_suc-le-suc h)
 
-  pub first-within : (l : List X) (x : X) → In x l → p x ≡ true → first_of p l < length l
+  pub first_within : (l : List X) (x : X) → In x l → p x ≡ true → first_of p l < length l
   unfolding first_of
-  first-within (y ∷ l) x (inl e) t = rw (← e, t) (suc-le-suc zero-le)
-  first-within (y ∷ l) x (inr i) t = go (p y) (first-within l x i t)
+  first_within (y ∷ l) x (inl e) t = rw (← e, t) (suc-le-suc zero-le)
+  first_within (y ∷ l) x (inr i) t = go (p y) (first_within l x i t)
     where
       go : (b : Bool) → first_of p l < length l → (if b then zero else suc (first_of p l)) < suc (length l)
       go true h = suc-le-suc zero-le
       go false h = suc-le-suc h
 
   -- none before it passes, and none at all where it is the list's end
-  pub first-least : (l : List X) (d : X) (j : ℕ) → j < first_of p l → p (get_or l j d) ≡ false
+  pub first_least : (l : List X) (d : X) (j : ℕ) → j < first_of p l → p (get_or l j d) ≡ false
   unfolding first_of
-  first-least [] d j h = absurd (not-suc-le-zero h)
-  first-least (x ∷ l) d j h = go (p x) refl j h (λ k. first-least l d k)
+  first_least [] d j h = absurd (not-suc-le-zero h)
+  first_least (x ∷ l) d j h = go (p x) refl j h (λ k. first_least l d k)
     where
       go : (b : Bool) → p x ≡ b → (j : ℕ) → j < (if b then zero else suc (first_of p l)) → ((k : ℕ) → k < first_of p l → p (get_or l k d) ≡ false)
           → p (get_or (x ∷ l) j d) ≡ false
@@ -133,12 +133,12 @@ module _ {X : Type 0} (p : X → Bool) where
     where
       choose : Dec (length l ≤ j) → p (get_or l j d) ≡ false
       choose (yes k) = rw (get_or-eq_default l d k) none
-      choose (no k) = first-least l d j (omega arith)
+      choose (no k) = first_least l d j (omega arith)
 
-  pub all-passed : (l : List X) → all_of p l ≡ true → All (λ (x : X). p x ≡ true) l
+  pub all_passed : (l : List X) → all_of p l ≡ true → All (λ (x : X). p x ≡ true) l
   unfolding all_of
-  all-passed [] e = tt
-  all-passed (x ∷ l) e = (and_left (p x) (all_of p l) e, all-passed l (and_right (p x) (all_of p l) e))
+  all_passed [] e = tt
+  all_passed (x ∷ l) e = (and_left (p x) (all_of p l) e, all_passed l (and_right (p x) (all_of p l) e))
 
   pub all_pass : (l : List X) → ((x : X) → In x l → p x ≡ true) → all_of p l ≡ true
   unfolding all_of
@@ -152,14 +152,14 @@ pub record Least {X : Type 0} (number : X → ℕ) (l : List X) (x : X) : Type 0
   pub lowest : (y : X) → In y l → number x ≤ number y
 
 module _ {X : Type 0} (number : X → ℕ) where
-  least-one : (x : X) → Least number (x ∷ []) x
-  least-one x = record { one = inl refl; lowest = below }
+  least_one : (x : X) → Least number (x ∷ []) x
+  least_one x = record { one = inl refl; lowest = below }
     where
       below : (y : X) → In y (x ∷ []) → number x ≤ number y
       below y (inl e) = rw e (le_refl (number x))
 
-  least-new : (x y : X) (l : List X) → number x ≤ number y → Least number l y → Least number (x ∷ l) x
-  least-new x y l h k = record { one = inl refl; lowest = below }
+  least_new : (x y : X) (l : List X) → number x ≤ number y → Least number l y → Least number (x ∷ l) x
+  least_new x y l h k = record { one = inl refl; lowest = below }
     where
       below : (z : X) → In z (x ∷ l) → number x ≤ number z
       below z (inl e) = rw e (le_refl (number x))
@@ -172,13 +172,13 @@ module _ {X : Type 0} (number : X → ℕ) where
       below z (inl e) = rw e h
       below z (inr i) = k.lowest z i
 
-  pub least-of : (x : X) (l : List X) → (y : X) × Least number (x ∷ l) y
-  least-of x [] = (x, least-one x)
-  least-of x (y ∷ l) = go (least-of y l)
+  pub least_of : (x : X) (l : List X) → (y : X) × Least number (x ∷ l) y
+  least_of x [] = (x, least_one x)
+  least_of x (y ∷ l) = go (least_of y l)
     where
       go : (z : X) × Least number (y ∷ l) z → (z : X) × Least number (x ∷ y ∷ l) z
       go k = choose (dec_le (number x) (number k.0))
         where
           choose : Dec (number x ≤ number k.0) → (z : X) × Least number (x ∷ y ∷ l) z
-          choose (yes h) = (x, least-new x k.0 (y ∷ l) h k.1)
+          choose (yes h) = (x, least_new x k.0 (y ∷ l) h k.1)
           choose (no h) = (k.0, least_kept x k.0 (y ∷ l) (omega arith) k.1)

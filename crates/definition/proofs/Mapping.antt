@@ -13,10 +13,10 @@ use lib.Pow.{pow_pos}
 use lib.Dec.{ltb, leb, eqb}
 use Rattle.definition.specs.Words.{if◌then◌else◌, bit_of}
 use Rattle.definition.specs.Memory.{Memory}
-use Rattle.definition.specs.Registers.{rootOf}
-use Rattle.definition.specs.Walk030.{entry_of, read_of, Step, steps, topIndex, Found, Outcome, ended, asking, deeper, guarded, onTarget, onTable, onDescriptor, walkFrom, start, walkSteps, stepsWith, walk030, everyLevel, low_of, widthsOf, used, is_of, sum_of}
-use Rattle.definition.specs.List.{pageAt, lostAt, seenTarget, table_at, seenBy, seenOf, entry_at, gather, rangesIn, noneLeft, tableRanges, entryRanges, rootTable, codeEntry, treeRanges, mapped, end_of, notTaken}
-use Rattle.definition.specs.Audit.{isAccessCode}
+use Rattle.definition.specs.Registers.{root_of}
+use Rattle.definition.specs.Walk030.{entry_of, read_of, Step, steps, top_index, Found, Outcome, ended, asking, deeper, guarded, on_target, on_table, on_descriptor, walk_from, start, walk_steps, steps_with, walk030, every_level, low_of, widths_of, used, is_of, sum_of}
+use Rattle.definition.specs.List.{page_at, lost_at, seen_target, table_at, seen_by, seen_of, entry_at, gather, ranges_in, none_left, table_ranges, entry_ranges, root_table, code_entry, tree_ranges, mapped, end_of, not_taken}
+use Rattle.definition.specs.Audit.{is_access_code}
 use Rattle.definition.specs.Walk030.{Descriptor, Whole, Lost}
 use Rattle.definition.specs.declared.End.{End}
 use Rattle.definition.specs.declared.End.TheVariants.{Page, Invalid, LevelStop, BusError, Config}
@@ -26,9 +26,9 @@ use Rattle.definition.specs.declared.Mapped.{Mapped}
 use Rattle.definition.specs.declared.Node.{Node}
 use Rattle.definition.specs.declared.Seen.{Seen}
 use Rattle.definition.specs.declared.Seen.TheVariants.{Nothing, One, Opens}
-use Rattle.definition.proofs.Choice.{if-both, or_left, or_right}
-use Rattle.definition.proofs.Stretches.{Aligned, every-address, offset, Stretch, stretch, size_is, Lies, lies, Fits, fits-most}
-use Rattle.definition.proofs.Ascending.{Between, nil, cons, in_order, between-gather, table-inside, entry-inside}
+use Rattle.definition.proofs.Choice.{if_both, or_left, or_right}
+use Rattle.definition.proofs.Stretches.{Aligned, every_address, offset, Stretch, stretch, size_is, Lies, lies, Fits, fits_most}
+use Rattle.definition.proofs.Ascending.{Between, nil, cons, in_order, between_gather, table_inside, entry_inside}
 
 -- ---- the ranges that have an address
 abbrev pub covers : ℕ → Mapped → Bool
@@ -39,18 +39,18 @@ covering a [] = []
 covering a (x ∷ xs) = if covers a x then x ∷ covering a xs else covering a xs
 
 -- the range of an address by a page's field, with the bits consumed, WP and S
-abbrev pub pageOver : ℕ → ℕ → ℕ → Bool → Bool → Mapped
-pageOver a field consumed wp sup =
+abbrev pub page_over : ℕ → ℕ → ℕ → Bool → Bool → Mapped
+page_over a field consumed wp sup =
     record { first = a - low_of a consumed; consumed = consumed; physical = field / 256 * 256; wp = wp; sup = sup; lost = false }
 
-abbrev pub lostOver : ℕ → ℕ → Mapped
-lostOver a consumed =
+abbrev pub lost_over : ℕ → ℕ → Mapped
+lost_over a consumed =
     record { first = a - low_of a consumed; consumed = consumed; physical = 0; wp = false; sup = false; lost = true }
 
 -- what a walk's end says of the ranges that have its address
 abbrev pub Said : ℕ → Bool → Bool → End → List Mapped → Type 0
-Said a wp sup (Page field consumed) xs = xs ≡ pageOver a field consumed wp sup ∷ []
-Said a wp sup (BusError at) xs = (consumed : ℕ) × (xs ≡ lostOver a consumed ∷ [])
+Said a wp sup (Page field consumed) xs = xs ≡ page_over a field consumed wp sup ∷ []
+Said a wp sup (BusError at) xs = (consumed : ℕ) × (xs ≡ lost_over a consumed ∷ [])
 Said a wp sup (Invalid indirect) xs = xs ≡ []
 Said a wp sup LevelStop xs = ⊥
 Said a wp sup Config xs = ⊥
@@ -60,10 +60,10 @@ Says a o xs = Said a o.found.wp o.found.sup o.end xs
 
 -- ---- lists in a row: only one of them can have the address
 module _ (a : ℕ) where
-  covering-append : (xs ys : List Mapped) → covering a (xs ++ ys) ≡ covering a xs ++ covering a ys
+  covering_append : (xs ys : List Mapped) → covering a (xs ++ ys) ≡ covering a xs ++ covering a ys
   unfolding covering
-  covering-append [] ys = refl
-  covering-append (x ∷ xs) ys = go (covers a x) (covering-append xs ys)
+  covering_append [] ys = refl
+  covering_append (x ∷ xs) ys = go (covers a x) (covering_append xs ys)
     where
       go : (b : Bool) → covering a (xs ++ ys) ≡ covering a xs ++ covering a ys
           → (if b then x ∷ covering a (xs ++ ys) else covering a (xs ++ ys)) ≡ (if b then x ∷ covering a xs else covering a xs) ++ covering a ys
@@ -85,24 +85,24 @@ module _ (a : ℕ) where
       let p = pow_pos (32 - x.consumed) in
       rw (le-leb x.first a (omega arith), le-ltb a (end_of x) (omega arith)) (behind h b)
 
-  covering-gather : (f : ℕ → List Mapped) (g : ℕ → ℕ) (j i n : ℕ) → ((k l : ℕ) → k ≤ l → g k ≤ g l) → ((k : ℕ) → k < i + n → Between (g k) (f k) (g (suc k)))
+  covering_gather : (f : ℕ → List Mapped) (g : ℕ → ℕ) (j i n : ℕ) → ((k l : ℕ) → k ≤ l → g k ≤ g l) → ((k : ℕ) → k < i + n → Between (g k) (f k) (g (suc k)))
       → g j ≤ a → a < g (suc j) → i ≤ j → j < i + n → covering a (gather f i n) ≡ covering a (f j)
   unfolding gather
-  covering-gather f g j i zero mono each lo hi l u = absurd (omega arith)
-  covering-gather f g j i (suc n) mono each lo hi l u = go (dec_le j i) (λ k. covering-gather f g j (suc i) n mono (λ x y. each x (omega arith)) lo hi k (omega arith))
+  covering_gather f g j i zero mono each lo hi l u = absurd (omega arith)
+  covering_gather f g j i (suc n) mono each lo hi l u = go (dec_le j i) (λ k. covering_gather f g j (suc i) n mono (λ x y. each x (omega arith)) lo hi k (omega arith))
     where
       go : Dec (j ≤ i) → (suc i ≤ j → covering a (gather f (suc i) n) ≡ covering a (f j)) → covering a (gather f i (suc n)) ≡ covering a (f j)
       go (yes q) next =
           let e : i ≡ j = omega arith in
-          let rest = between-gather f g (suc i) n (λ k y. each k (omega arith)) in
-          covering-append (f i) (gather f (suc i) n)
+          let rest = between_gather f g (suc i) n (λ k y. each k (omega arith)) in
+          covering_append (f i) (gather f (suc i) n)
           ∙ ap (λ (zs : List Mapped). covering a (f i) ++ zs) (before (rw e hi) rest)
           ∙ append-nil (covering a (f i))
           ∙ ap (λ (k : ℕ). covering a (f k)) e
       go (no q) next =
           let up : suc i ≤ j = omega arith in
           let past = mono (suc i) j up in
-          covering-append (f i) (gather f (suc i) n)
+          covering_append (f i) (gather f (suc i) n)
           ∙ ap (λ (zs : List Mapped). zs ++ covering a (gather f (suc i) n)) (behind (omega arith) (each i (omega arith)))
           ∙ next up
 
@@ -111,7 +111,7 @@ module _ (a : ℕ) where
 pub record Reached (a left : ℕ) (n : Node) (f : Found) : Type 0 where
   pub wp : f.wp ≡ n.wp
   pub sup : f.sup ≡ n.sup
-  pub levels : f.levels + left ≤ everyLevel
+  pub levels : f.levels + left ≤ every_level
   pub low : n.first ≤ a
   pub high : a < n.first + 2 ^ (32 - n.consumed)
   pub aligned : Aligned n.first n.consumed
@@ -124,40 +124,40 @@ both P false x y x' y' h k = k
 module _ (m : Memory) (a : ℕ) where
   -- the entry's one range has the address, and is the address's
   module _ (e : Node) (al : Aligned e.first e.consumed) (lo : e.first ≤ a) (hi : a < e.first + 2 ^ (32 - e.consumed)) where
-    first-is : e.first ≡ a - low_of a e.consumed
-    first-is =
+    first_is : e.first ≡ a - low_of a e.consumed
+    first_is =
         let o = offset e.first e.consumed a al lo hi in
         omega arith
 
-    its-page : (field : ℕ) (wp sup : Bool) → covering a (pageAt e field wp sup ∷ []) ≡ pageAt e field wp sup ∷ []
+    its_page : (field : ℕ) (wp sup : Bool) → covering a (page_at e field wp sup ∷ []) ≡ page_at e field wp sup ∷ []
     unfolding covering
-    its-page field wp sup = rw (le-leb e.first a lo, lt-ltb a (e.first + 2 ^ (32 - e.consumed)) hi)
+    its_page field wp sup = rw (le-leb e.first a lo, lt-ltb a (e.first + 2 ^ (32 - e.consumed)) hi)
 
-    its-lost : covering a (lostAt e ∷ []) ≡ lostOver a e.consumed ∷ []
+    its_lost : covering a (lost_at e ∷ []) ≡ lost_over a e.consumed ∷ []
     unfolding covering
-    its-lost = rw (le-leb e.first a lo, lt-ltb a (e.first + 2 ^ (32 - e.consumed)) hi, ← first-is)
+    its_lost = rw (le-leb e.first a lo, lt-ltb a (e.first + 2 ^ (32 - e.consumed)) hi, ← first_is)
 
   -- what the entry is, and what the walk makes of its descriptor
   abbrev Alike : (Node → List Mapped) → Outcome → Seen → Type 0
-  Alike next o z = Says a o (covering a (rangesIn next z))
+  Alike next o z = Says a o (covering a (ranges_in next z))
 
-  page-alike : (next : Node → List Mapped) (left : ℕ) (e : Node) (f : Found) (field : ℕ) (wp sup : Bool) → Reached a left e f
-      → Said a (f.wp || wp) (f.sup || sup) (Page field e.consumed) (covering a (rangesIn next (One (pageAt e field wp sup))))
-  page-alike next left e f field wp sup r =
-      its-page e r.aligned r.low r.high field wp sup
-      ∙ rw (r.wp, r.sup, ← first-is e r.aligned r.low r.high)
+  page_alike : (next : Node → List Mapped) (left : ℕ) (e : Node) (f : Found) (field : ℕ) (wp sup : Bool) → Reached a left e f
+      → Said a (f.wp || wp) (f.sup || sup) (Page field e.consumed) (covering a (ranges_in next (One (page_at e field wp sup))))
+  page_alike next left e f field wp sup r =
+      its_page e r.aligned r.low r.high field wp sup
+      ∙ rw (r.wp, r.sup, ← first_is e r.aligned r.low r.high)
 
-  lost-alike : (next : Node → List Mapped) (left : ℕ) (e : Node) (f : Found) (at : ℕ) → Reached a left e f
-      → Said a f.wp f.sup (BusError at) (covering a (rangesIn next (One (lostAt e))))
-  lost-alike next left e f at r = (e.consumed, its-lost e r.aligned r.low r.high)
+  lost_alike : (next : Node → List Mapped) (left : ℕ) (e : Node) (f : Found) (at : ℕ) → Reached a left e f
+      → Said a f.wp f.sup (BusError at) (covering a (ranges_in next (One (lost_at e))))
+  lost_alike next left e f at r = (e.consumed, its_lost e r.aligned r.low r.high)
 
-  target-alike : (next : Node → List Mapped) (left : ℕ) (e : Node) (f : Found) (at : ℕ) (d : Descriptor) → Reached a left e f
-      → Alike next (onTarget e.consumed at f d) (seenTarget e d)
+  target_alike : (next : Node → List Mapped) (left : ℕ) (e : Node) (f : Found) (at : ℕ) (d : Descriptor) → Reached a left e f
+      → Alike next (on_target e.consumed at f d) (seen_target e d)
   unfolding covering
-  target-alike next left e f at (Lost lost n) r = lost-alike next left e f lost r
-  target-alike next left e f at (Whole kind field wp sup n) r =
-      both (λ (o : End) (z : Seen). Said a (f.wp || wp) (f.sup || sup) o (covering a (rangesIn next z))) (eqb kind 1) _ _ _ _
-      (page-alike next left e f field wp sup r) refl
+  target_alike next left e f at (Lost lost n) r = lost_alike next left e f lost r
+  target_alike next left e f at (Whole kind field wp sup n) r =
+      both (λ (o : End) (z : Seen). Said a (f.wp || wp) (f.sup || sup) o (covering a (ranges_in next z))) (eqb kind 1) _ _ _ _
+      (page_alike next left e f field wp sup r) refl
 
   -- what the walk has found after a descriptor of the entry's own level
   after : (left : ℕ) (e : Node) (f : Found) (at : ℕ) (n : List ℕ) → Reached a (suc left) e f → Reached a left e (deeper (asking at n f))
@@ -173,48 +173,48 @@ module _ (m : Memory) (a : ℕ) where
   -- tables with these levels from them on are as the walk says
   abbrev Tables : List ℕ → Type 0
   Tables ws = (t : Node) (f : Found) → Fits ws t.consumed → Reached a (length ws) t f
-      → Says a (walkFrom m everyLevel (steps a t.consumed ws) t.at t.long f) (covering a (tableRanges m ws t))
+      → Says a (walk_from m every_level (steps a t.consumed ws) t.at t.long f) (covering a (table_ranges m ws t))
 
-  table-alike : (w : ℕ) (ws : List ℕ) (e : Node) (f : Found) (kind field : ℕ) (wp sup : Bool) → Tables (w ∷ ws) → Fits (w ∷ ws) e.consumed
+  table_alike : (w : ℕ) (ws : List ℕ) (e : Node) (f : Found) (kind field : ℕ) (wp sup : Bool) → Tables (w ∷ ws) → Fits (w ∷ ws) e.consumed
       → Reached a (length (w ∷ ws)) e f
-      → Alike (λ (u : Node). tableRanges m (w ∷ ws) u)
-      (onTable m e.consumed kind field wp sup f (steps a e.consumed (w ∷ ws)) (λ t l g. walkFrom m everyLevel (steps a e.consumed (w ∷ ws)) t l g))
+      → Alike (λ (u : Node). table_ranges m (w ∷ ws) u)
+      (on_table m e.consumed kind field wp sup f (steps a e.consumed (w ∷ ws)) (λ t l g. walk_from m every_level (steps a e.consumed (w ∷ ws)) t l g))
       (Opens (table_at e kind field wp sup))
-  table-alike w ws e f kind field wp sup below h r =
+  table_alike w ws e f kind field wp sup below h r =
       below (table_at e kind field wp sup) (guarded wp sup f) h (opened (length (w ∷ ws)) e f kind field wp sup r)
 
-  kind-alike : (ws : List ℕ) (e : Node) (f : Found) (kind field : ℕ) (wp sup : Bool) → (noneLeft ws ≡ false → Tables ws) → Fits ws e.consumed
+  kind_alike : (ws : List ℕ) (e : Node) (f : Found) (kind field : ℕ) (wp sup : Bool) → (none_left ws ≡ false → Tables ws) → Fits ws e.consumed
       → Reached a (length ws) e f
-      → Alike (λ (u : Node). tableRanges m ws u)
-      (onTable m e.consumed kind field wp sup f (steps a e.consumed ws) (λ t l g. walkFrom m everyLevel (steps a e.consumed ws) t l g))
-      (if noneLeft ws then seenTarget e (read_of m (field / 4 * 4) (eqb kind 3)) else Opens (table_at e kind field wp sup))
-  kind-alike [] e f kind field wp sup below h r = target-alike _ 0 e f (field / 4 * 4) (read_of m (field / 4 * 4) (eqb kind 3)) r
-  kind-alike (w ∷ ws) e f kind field wp sup below h r = table-alike w ws e f kind field wp sup (below refl) h r
+      → Alike (λ (u : Node). table_ranges m ws u)
+      (on_table m e.consumed kind field wp sup f (steps a e.consumed ws) (λ t l g. walk_from m every_level (steps a e.consumed ws) t l g))
+      (if none_left ws then seen_target e (read_of m (field / 4 * 4) (eqb kind 3)) else Opens (table_at e kind field wp sup))
+  kind_alike [] e f kind field wp sup below h r = target_alike _ 0 e f (field / 4 * 4) (read_of m (field / 4 * 4) (eqb kind 3)) r
+  kind_alike (w ∷ ws) e f kind field wp sup below h r = table_alike w ws e f kind field wp sup (below refl) h r
 
-  descriptor-alike : (ws : List ℕ) (e : Node) (f : Found) (d : Descriptor) → (noneLeft ws ≡ false → Tables ws) → Fits ws e.consumed
+  descriptor_alike : (ws : List ℕ) (e : Node) (f : Found) (d : Descriptor) → (none_left ws ≡ false → Tables ws) → Fits ws e.consumed
       → Reached a (suc (length ws)) e f
-      → Alike (λ (u : Node). tableRanges m ws u)
-      (onDescriptor m e.consumed e.at f (steps a e.consumed ws) (λ t l g. walkFrom m everyLevel (steps a e.consumed ws) t l g) d)
-      (seenBy m (noneLeft ws) e d)
+      → Alike (λ (u : Node). table_ranges m ws u)
+      (on_descriptor m e.consumed e.at f (steps a e.consumed ws) (λ t l g. walk_from m every_level (steps a e.consumed ws) t l g) d)
+      (seen_by m (none_left ws) e d)
   unfolding covering
-  descriptor-alike ws e f (Lost lost n) below h r = lost-alike (λ (u : Node). tableRanges m ws u) (suc (length ws)) e f lost r
-  descriptor-alike ws e f (Whole kind field wp sup n) below h r =
-      both (Alike (λ (u : Node). tableRanges m ws u)) (eqb kind 1) _ _ _ _
-      (page-alike (λ (u : Node). tableRanges m ws u) (suc (length ws)) e f field wp sup r)
-      (both (Alike (λ (u : Node). tableRanges m ws u)) (ltb kind 2) _ _ _ _ refl
-      (kind-alike ws e (deeper (asking e.at n f)) kind field wp sup below h (after (length ws) e f e.at n r)))
+  descriptor_alike ws e f (Lost lost n) below h r = lost_alike (λ (u : Node). table_ranges m ws u) (suc (length ws)) e f lost r
+  descriptor_alike ws e f (Whole kind field wp sup n) below h r =
+      both (Alike (λ (u : Node). table_ranges m ws u)) (eqb kind 1) _ _ _ _
+      (page_alike (λ (u : Node). table_ranges m ws u) (suc (length ws)) e f field wp sup r)
+      (both (Alike (λ (u : Node). table_ranges m ws u)) (ltb kind 2) _ _ _ _ refl
+      (kind_alike ws e (deeper (asking e.at n f)) kind field wp sup below h (after (length ws) e f e.at n r)))
 
-  entry-says : (ws : List ℕ) (e : Node) (f : Found) → (noneLeft ws ≡ false → Tables ws) → Fits ws e.consumed → Reached a (suc (length ws)) e f
-      → Says a (onDescriptor m e.consumed e.at f (steps a e.consumed ws) (λ t l g. walkFrom m everyLevel (steps a e.consumed ws) t l g)
-      (read_of m e.at e.long)) (covering a (entryRanges m ws e))
-  unfolding seenOf
-  entry-says ws e f below h r = descriptor-alike ws e f (read_of m e.at e.long) below h r
+  entry_says : (ws : List ℕ) (e : Node) (f : Found) → (none_left ws ≡ false → Tables ws) → Fits ws e.consumed → Reached a (suc (length ws)) e f
+      → Says a (on_descriptor m e.consumed e.at f (steps a e.consumed ws) (λ t l g. walk_from m every_level (steps a e.consumed ws) t l g)
+      (read_of m e.at e.long)) (covering a (entry_ranges m ws e))
+  unfolding seen_of
+  entry_says ws e f below h r = descriptor_alike ws e f (read_of m e.at e.long) below h r
 
   -- of a table's entries only the one that the walk's index names has the address
   only : (w : ℕ) (ws : List ℕ) (t : Node) → Fits (w ∷ ws) t.consumed → Aligned t.first t.consumed → (at : Lies t.first t.consumed w a)
-      → covering a (gather (λ (i : ℕ). entryRanges m ws (entry_at t w i)) 0 (2 ^ w)) ≡ covering a (entryRanges m ws (entry_at t w at.j))
+      → covering a (gather (λ (i : ℕ). entry_ranges m ws (entry_at t w i)) 0 (2 ^ w)) ≡ covering a (entry_ranges m ws (entry_at t w at.j))
   only w ws t h al at =
-      covering-gather a (λ (i : ℕ). entryRanges m ws (entry_at t w i)) start at.j 0 (2 ^ w) mono each at.from to (omega arith) (omega (arith, at.below))
+      covering_gather a (λ (i : ℕ). entry_ranges m ws (entry_at t w i)) start at.j 0 (2 ^ w) mono each at.from to (omega arith) (omega (arith, at.below))
     where
       start : ℕ → ℕ
       start j = t.first + j * 2 ^ (32 - (t.consumed + w))
@@ -227,88 +227,88 @@ module _ (m : Memory) (a : ℕ) where
           let p = mul-le-mul_right (2 ^ (32 - (t.consumed + w))) u in
           omega arith
 
-      each : (k : ℕ) → k < 0 + 2 ^ w → Between (start k) (entryRanges m ws (entry_at t w k)) (start (suc k))
+      each : (k : ℕ) → k < 0 + 2 ^ w → Between (start k) (entry_ranges m ws (entry_at t w k)) (start (suc k))
       each k l =
-          subst (λ (n : ℕ). Between (start k) (entryRanges m ws (entry_at t w k)) n) (next k)
-          (entry-inside m ws (entry_at t w k) h.1 (stretch t.first t.consumed w k al (fits-most ws (t.consumed + w) h.1) (omega arith)).aligned)
+          subst (λ (n : ℕ). Between (start k) (entry_ranges m ws (entry_at t w k)) n) (next k)
+          (entry_inside m ws (entry_at t w k) h.1 (stretch t.first t.consumed w k al (fits_most ws (t.consumed + w) h.1) (omega arith)).aligned)
 
       to : a < start (suc at.j)
       to = rw (← next at.j) at.to
 
-  level-says : (w : ℕ) (ws : List ℕ) → (noneLeft ws ≡ false → Tables ws) → Tables (w ∷ ws)
-  unfolding walkFrom tableRanges
-  level-says w ws below t f h r =
+  level_says : (w : ℕ) (ws : List ℕ) → (none_left ws ≡ false → Tables ws) → Tables (w ∷ ws)
+  unfolding walk_from table_ranges
+  level_says w ws below t f h r =
       let al = r.aligned in
-      let most = fits-most ws (t.consumed + w) h.1 in
+      let most = fits_most ws (t.consumed + w) h.1 in
       let at = lies t.first t.consumed w a al h.0 most r.low r.high in
       let st = stretch t.first t.consumed w at.j al most at.below in
       let levels = r.levels in
-      rw (lt-leb everyLevel f.levels (omega arith), at.index, only w ws t h al at)
-      (entry-says ws (entry_at t w at.j) f below h.1
+      rw (lt-leb every_level f.levels (omega arith), at.index, only w ws t h al at)
+      (entry_says ws (entry_at t w at.j) f below h.1
       (record { wp = r.wp; sup = r.sup; levels = levels; low = at.from; high = at.to; aligned = st.aligned }))
 
   -- the law of a table: the ranges of its tree that have an address of its stretch are what the walk from it says
-  pub tables-say : (ws : List ℕ) → noneLeft ws ≡ false → Tables ws
-  tables-say [] e = absurd (true≢false e)
-  tables-say (w ∷ ws) e = level-says w ws (tables-say ws)
+  pub tables_say : (ws : List ℕ) → none_left ws ≡ false → Tables ws
+  tables_say [] e = absurd (true≢false e)
+  tables_say (w ∷ ws) e = level_says w ws (tables_say ws)
 
 -- ---- a tree
-eqb-some : (w : ℕ) → eqb w 0 ≡ false → 0 < w
-eqb-some w e = let n = eqb-false w 0 e in omega arith
+eqb_some : (w : ℕ) → eqb w 0 ≡ false → 0 < w
+eqb_some w e = let n = eqb-false w 0 e in omega arith
 
 -- each width up to the first zero is some, and where all of them fit an address they fit one after the other
-pub used-fits : (ws : List ℕ) (c : ℕ) → c + sum_of (used ws) ≤ 32 → Fits (used ws) c
-used-fits [] c h = omega arith
-used-fits (w ∷ ws) c h = go (eqb w 0) refl h (λ k. used-fits ws (c + w) k)
+pub used_fits : (ws : List ℕ) (c : ℕ) → c + sum_of (used ws) ≤ 32 → Fits (used ws) c
+used_fits [] c h = omega arith
+used_fits (w ∷ ws) c h = go (eqb w 0) refl h (λ k. used_fits ws (c + w) k)
   where
     go : (b : Bool) → eqb w 0 ≡ b → c + sum_of (if b then [] else w ∷ used ws) ≤ 32 → (c + w + sum_of (used ws) ≤ 32 → Fits (used ws) (c + w))
         → Fits (if b then [] else w ∷ used ws) c
     go true e k next = omega arith
-    go false e k next = (eqb-some w e, next (omega arith))
+    go false e k next = (eqb_some w e, next (omega arith))
 
-used-length : (ws : List ℕ) → length (used ws) ≤ length ws
-used-length [] = omega arith
-used-length (w ∷ ws) =
-    let r = used-length ws in
-    if-both (λ (l : List ℕ). length l ≤ suc (length ws)) (eqb w 0) [] (w ∷ used ws) (omega arith) (omega arith)
+used_length : (ws : List ℕ) → length (used ws) ≤ length ws
+used_length [] = omega arith
+used_length (w ∷ ws) =
+    let r = used_length ws in
+    if_both (λ (l : List ℕ). length l ≤ suc (length ws)) (eqb w 0) [] (w ∷ used ws) (omega arith) (omega arith)
 
-some_left : (us : List ℕ) → (sum_of us ≡ 0 → ⊥) → noneLeft us ≡ false
+some_left : (us : List ℕ) → (sum_of us ≡ 0 → ⊥) → none_left us ≡ false
 some_left [] n = absurd (n refl)
 some_left (w ∷ ws) n = refl
 
 module _ (m : Memory) (a : ℕ) (low : a < 2 ^ 32) (root : Root) (typed : ltb (root.limit % 4) 2 ≡ false) (code : ℕ) where
-  at-root : (left : ℕ) (n : Node) → (n.first ≡ 0) × (n.consumed ≡ 0) × (n.wp ≡ false) × (n.sup ≡ false) → left ≤ everyLevel
+  at_root : (left : ℕ) (n : Node) → (n.first ≡ 0) × (n.consumed ≡ 0) × (n.wp ≡ false) × (n.sup ≡ false) → left ≤ every_level
       → Reached a left n (start root.address)
-  at-root left n (f, c, w, s) l =
-      record { wp = sym w; sup = sym s; levels = omega arith; low = rw f (omega arith); high = rw (f, c) low; aligned = rw (f, c) every-address }
+  at_root left n (f, c, w, s) l =
+      record { wp = sym w; sup = sym s; levels = omega arith; low = rw f (omega arith); high = rw (f, c) low; aligned = rw (f, c) every_address }
 
-  tree-says : (coded : Bool) (us : List ℕ) → noneLeft us ≡ false → Fits us 0 → length us ≤ 4
-      → Says a (walkSteps m root everyLevel (stepsWith coded code a 0 us))
-      (covering a (if coded then entryRanges m us (codeEntry (rootTable root) code) else tableRanges m us (rootTable root)))
-  unfolding walkFrom
-  tree-says true us some h l =
+  tree_says : (coded : Bool) (us : List ℕ) → none_left us ≡ false → Fits us 0 → length us ≤ 4
+      → Says a (walk_steps m root every_level (steps_with coded code a 0 us))
+      (covering a (if coded then entry_ranges m us (code_entry (root_table root) code) else table_ranges m us (root_table root)))
+  unfolding walk_from
+  tree_says true us some h l =
       rw typed
-      (entry-says m a us (codeEntry (rootTable root) code) (start root.address) (tables-say m a us) h
-      (at-root (suc (length us)) (codeEntry (rootTable root) code) (refl, refl, refl, refl) (omega arith)))
-  tree-says false [] some h l = absurd (true≢false some)
-  tree-says false (w ∷ ws) some h l =
+      (entry_says m a us (code_entry (root_table root) code) (start root.address) (tables_say m a us) h
+      (at_root (suc (length us)) (code_entry (root_table root) code) (refl, refl, refl, refl) (omega arith)))
+  tree_says false [] some h l = absurd (true≢false some)
+  tree_says false (w ∷ ws) some h l =
       rw typed
-      (tables-say m a (w ∷ ws) refl (rootTable root) (start root.address) h
-      (at-root (suc (length ws)) (rootTable root) (refl, refl, refl, refl) (omega arith)))
+      (tables_say m a (w ∷ ws) refl (root_table root) (start root.address) h
+      (at_root (suc (length ws)) (root_table root) (refl, refl, refl, refl) (omega arith)))
 
 -- what the lister takes
 pub record Taken (g : Registers) (code : ℕ) : Type 0 where
   pub family : eqb g.family 30 ≡ true
-  pub access : isAccessCode code ≡ true
+  pub access : is_access_code code ≡ true
   pub skips : is_of g.tc ≡ 0
-  pub some : sum_of (used (widthsOf g.tc)) ≡ 0 → ⊥
-  pub most : sum_of (used (widthsOf g.tc)) ≤ 32
-  pub typed : ltb ((rootOf g code).limit % 4) 2 ≡ false
+  pub some : sum_of (used (widths_of g.tc)) ≡ 0 → ⊥
+  pub most : sum_of (used (widths_of g.tc)) ≤ 32
+  pub typed : ltb ((root_of g code).limit % 4) 2 ≡ false
 
-pub taken : (g : Registers) (code : ℕ) → notTaken g code ≡ false → Taken g code
+pub taken : (g : Registers) (code : ℕ) → not_taken g code ≡ false → Taken g code
 taken g code e =
-    let sum = sum_of (used (widthsOf g.tc)) in
-    let k = none-of-six (not (eqb g.family 30)) (not (isAccessCode code)) (not (eqb (is_of g.tc) 0)) (eqb sum 0) (ltb 32 sum) (ltb ((rootOf g code).limit % 4) 2) e in
+    let sum = sum_of (used (widths_of g.tc)) in
+    let k = none_of_six (not (eqb g.family 30)) (not (is_access_code code)) (not (eqb (is_of g.tc) 0)) (eqb sum 0) (ltb 32 sum) (ltb ((root_of g code).limit % 4) 2) e in
     record {
       family = not-false _ k.0;
       access = not-false _ k.1;
@@ -318,8 +318,8 @@ taken g code e =
       typed = k.5;
     }
   where
-    none-of-six : (a b c d e f : Bool) → (a || b || c || d || e || f) ≡ false → (a ≡ false) × (b ≡ false) × (c ≡ false) × (d ≡ false) × (e ≡ false) × (f ≡ false)
-    none-of-six a b c d e f h =
+    none_of_six : (a b c d e f : Bool) → (a || b || c || d || e || f) ≡ false → (a ≡ false) × (b ≡ false) × (c ≡ false) × (d ≡ false) × (e ≡ false) × (f ≡ false)
+    none_of_six a b c d e f h =
         let five = or_left (a || b || c || d || e) f h in
         let four = or_left (a || b || c || d) e five in
         let three = or_left (a || b || c) d four in
@@ -327,23 +327,23 @@ taken g code e =
         (or_left a b two, or_right a b two, or_right (a || b) c three, or_right (a || b || c) d four, or_right (a || b || c || d) e five, or_right (a || b || c || d || e) f h)
 
 module _ (g : Registers) (m : Memory) (code : ℕ) (t : Taken g code) where
-  fits : Fits (used (widthsOf g.tc)) 0
+  fits : Fits (used (widths_of g.tc)) 0
   fits =
       let h = t.most in
-      used-fits (widthsOf g.tc) 0 (omega arith)
+      used_fits (widths_of g.tc) 0 (omega arith)
 
   -- the theorem: the ranges that have an address are what its walk finds
-  pub mapped-says : (a : ℕ) → a < 2 ^ 32 → Says a (walk030 m g a code everyLevel) (covering a (mapped g m code))
-  unfolding treeRanges widthsOf
-  mapped-says a low =
+  pub mapped_says : (a : ℕ) → a < 2 ^ 32 → Says a (walk030 m g a code every_level) (covering a (mapped g m code))
+  unfolding tree_ranges widths_of
+  mapped_says a low =
       rw t.skips
-      (tree-says m a low (rootOf g code) t.typed code (bit_of g.tc 24) (used (widthsOf g.tc))
-      (some_left (used (widthsOf g.tc)) t.some) fits (used-length (widthsOf g.tc)))
+      (tree_says m a low (root_of g code) t.typed code (bit_of g.tc 24) (used (widths_of g.tc))
+      (some_left (used (widths_of g.tc)) t.some) fits (used_length (widths_of g.tc)))
 
   -- the theorem: the ranges ascend, and none overlaps the next
-  pub mapped-ascends : Between 0 (mapped g m code) (2 ^ 32)
-  unfolding treeRanges
-  mapped-ascends =
-      if-both (λ (xs : List Mapped). Between 0 xs (2 ^ 32)) (bit_of g.tc 24) _ _
-      (entry-inside m (used (widthsOf g.tc)) (codeEntry (rootTable (rootOf g code)) code) fits every-address)
-      (table-inside m (used (widthsOf g.tc)) (rootTable (rootOf g code)) fits every-address)
+  pub mapped_ascends : Between 0 (mapped g m code) (2 ^ 32)
+  unfolding tree_ranges
+  mapped_ascends =
+      if_both (λ (xs : List Mapped). Between 0 xs (2 ^ 32)) (bit_of g.tc 24) _ _
+      (entry_inside m (used (widths_of g.tc)) (code_entry (root_table (root_of g code)) code) fits every_address)
+      (table_inside m (used (widths_of g.tc)) (root_table (root_of g code)) fits every_address)

@@ -14,13 +14,13 @@ use lib.Pow.{split}
 use lib.ListN.{length, get_or, set, replicate}
 use Rattle.definition.specs.Words.{if◌then◌else◌, bit_of, first_of}
 use Rattle.definition.specs.Registers.{on}
-use Rattle.definition.specs.Memory.{Memory, inRanges, inside, fetchOf}
-use Rattle.definition.specs.Walk040.{Outcome040, onLong, rootAt, pointerAt, pageAt, onPage, on_entry, walk040, pageBits, frame_of}
-use Rattle.definition.specs.Cache030.{Entry, Cache030, noEntry, empty030, matches, matching, stamped, rested, touched, found, afterHit, dropped, shifted, victim, inserted, dropIf}
+use Rattle.definition.specs.Memory.{Memory, in_ranges, inside, fetch_of}
+use Rattle.definition.specs.Walk040.{Outcome040, on_long, root_at, pointer_at, page_at, on_page, on_entry, walk040, page_bits, frame_of}
+use Rattle.definition.specs.Cache030.{Entry, Cache030, no_entry, empty030, matches, matching, stamped, rested, touched, found, after_hit, dropped, shifted, victim, inserted, drop_if}
 use Rattle.definition.specs.Cache040.{Slot, Cache040, empty040}
 use Rattle.definition.specs.Translate.{Caches}
-use Rattle.definition.specs.Audit.{firstOfPage, auditFrom}
-use Rattle.definition.proofs.Replay.{Reached, start, then-call, Longs32}
+use Rattle.definition.specs.Audit.{first_of_page, audit_from}
+use Rattle.definition.proofs.Replay.{Reached, start, then_call, Longs32}
 use Rattle.definition.specs.declared.Audit.{Audit}
 use Rattle.definition.specs.declared.Registers.{Registers}
 use Rattle.definition.specs.declared.Fetched.{Fetched}
@@ -28,17 +28,17 @@ use Rattle.definition.specs.declared.Fetched.TheVariants.{Long, Failed}
 use Rattle.definition.specs.declared.End040.{End040}
 use Rattle.definition.specs.declared.End040.TheVariants.{Resident, Absent, Lost}
 use Rattle.definition.specs.declared.FaultCause.{FaultCause}
-use Rattle.definition.proofs.Choice.{if-by, if-both}
-use Rattle.definition.proofs.Lists.{all-get, all_replicate, first_passes, none_passes}
+use Rattle.definition.proofs.Choice.{if_by, if_both}
+use Rattle.definition.proofs.Lists.{all_get, all_replicate, first_passes, none_passes}
 use Rattle.definition.proofs.Hits030.{key_of}
-use Rattle.definition.proofs.Entries030.{Keeps030, free-030}
-use Rattle.definition.proofs.Entries040.{free-040, OfSlots, New040, Sound040, empty-sound, sound-keeps}
-use Rattle.definition.proofs.Entries.{Both, Keeps, calling-keeps}
-use Rattle.definition.proofs.Stale.{Wrong, entry_at, named-030, stale-is-wrong, slotIn, named-040, stale-is-wrong-040}
+use Rattle.definition.proofs.Entries030.{Keeps030, free_030}
+use Rattle.definition.proofs.Entries040.{free_040, OfSlots, New040, Sound040, empty_sound, sound_keeps}
+use Rattle.definition.proofs.Entries.{Both, Keeps, calling_keeps}
+use Rattle.definition.proofs.Stale.{Wrong, entry_at, named_030, stale_is_wrong, slot_in, named_040, stale_is_wrong_040}
 
 -- ---- the entry at i
 abbrev at : List Entry → ℕ → Entry
-at l i = get_or l i noEntry
+at l i = get_or l i no_entry
 
 -- a valid entry has the key and base of one that was there before
 record Same (e b : Entry) : Type 0 where
@@ -52,8 +52,8 @@ record Neat (l : List Entry) : Type 0 where
   single : (i j : ℕ) → (at l i).valid ≡ true → (at l j).valid ≡ true → (at l i).code ≡ (at l j).code → (at l i).page ≡ (at l j).page → i ≡ j
   small : (i : ℕ) → (at l i).valid ≡ true → (at l i).base < 2 ^ 32
 
-neat-by : (l l' : List Entry) → ((i : ℕ) → (at l' i).valid ≡ true → Same (at l' i) (at l i)) → Neat l → Neat l'
-neat-by l l' k h =
+neat_by : (l l' : List Entry) → ((i : ℕ) → (at l' i).valid ≡ true → Same (at l' i) (at l i)) → Neat l → Neat l'
+neat_by l l' k h =
     record {
       single = λ i j v w c p.
           let a = k i v in
@@ -62,11 +62,11 @@ neat-by l l' k h =
       small = λ i v. let a = k i v in rw a.base (h.small i a.valid);
     }
 
-map-keeps : (f : Entry → Entry) → ((e : Entry) → (f e).valid ≡ true → Same (f e) e) → (l : List Entry) (i : ℕ) → (at (map f l) i).valid ≡ true
+map_keeps : (f : Entry → Entry) → ((e : Entry) → (f e).valid ≡ true → Same (f e) e) → (l : List Entry) (i : ℕ) → (at (map f l) i).valid ≡ true
     → Same (at (map f l) i) (at l i)
-map-keeps f k [] i v = absurd (false≢true v)
-map-keeps f k (x ∷ l) zero v = k x v
-map-keeps f k (x ∷ l) (suc i) v = map-keeps f k l i v
+map_keeps f k [] i v = absurd (false≢true v)
+map_keeps f k (x ∷ l) zero v = k x v
+map_keeps f k (x ∷ l) (suc i) v = map_keeps f k l i v
 
 self : (e : Entry) → e.valid ≡ true → Same e e
 self e v = record { valid = v; code = refl; page = refl; base = refl }
@@ -83,9 +83,9 @@ set_keeps l i x h k =
     ⊎_elim (λ s v. rw (s.0, s.1) (h (rw s.0 at v))) (λ s v. rw s (self (at l k) (rw s at v))) (set_at l i x k)
 
 -- a new entry, where none but the one that it replaces has its key
-set-neat : (l : List Entry) (v : ℕ) (x : Entry) → x.base < 2 ^ 32
+set_neat : (l : List Entry) (v : ℕ) (x : Entry) → x.base < 2 ^ 32
     → ((j : ℕ) → (at l j).valid ≡ true → (at l j).code ≡ x.code → (at l j).page ≡ x.page → j ≡ v) → Neat l → Neat (set l v x)
-set-neat l v x low only h =
+set_neat l v x low only h =
     record {
       single = λ i j. two i j (set_at l v x i) (set_at l v x j);
       small = λ i. ⊎_elim (λ k w. rw k.0 low) (λ k w. rw k (h.small i (rw k at w))) (set_at l v x i);
@@ -104,110 +104,110 @@ set-neat l v x low only h =
     two i j (inr a) (inr b) va vb c p = h.single i j (rw a at va) (rw b at vb) (rw (a, b) at c) (rw (a, b) at p)
 
 -- ---- each change of the cache
-stamped-same : (n : ℕ) (e : Entry) → (stamped n e).valid ≡ true → Same (stamped n e) e
-stamped-same n e v = record { valid = v; code = refl; page = refl; base = refl }
+stamped_same : (n : ℕ) (e : Entry) → (stamped n e).valid ≡ true → Same (stamped n e) e
+stamped_same n e v = record { valid = v; code = refl; page = refl; base = refl }
 
-dropped-same : (e : Entry) → (dropped e).valid ≡ true → Same (dropped e) e
-dropped-same e v = absurd (false≢true v)
+dropped_same : (e : Entry) → (dropped e).valid ≡ true → Same (dropped e) e
+dropped_same e v = absurd (false≢true v)
 
-mapped-neat : (f : Entry → Entry) → ((e : Entry) → (f e).valid ≡ true → Same (f e) e) → (l : List Entry) → Neat l → Neat (map f l)
-mapped-neat f k l h = neat-by l (map f l) (map-keeps f k l) h
+mapped_neat : (f : Entry → Entry) → ((e : Entry) → (f e).valid ≡ true → Same (f e) e) → (l : List Entry) → Neat l → Neat (map f l)
+mapped_neat f k l h = neat_by l (map f l) (map_keeps f k l) h
 
 abbrev Neat030 : Cache030 → Type 0
 Neat030 c = Neat c.entries
 
-rested-keeps : (c : Cache030) (i : ℕ) → (at (rested c).entries i).valid ≡ true → Same (at (rested c).entries i) (at c.entries i)
+rested_keeps : (c : Cache030) (i : ℕ) → (at (rested c).entries i).valid ≡ true → Same (at (rested c).entries i) (at c.entries i)
 unfolding rested
-rested-keeps c i =
-    if-both (λ (d : Cache030). (at d.entries i).valid ≡ true → Same (at d.entries i) (at c.entries i)) (eqb c.clock (2 ^ 64 - 1)) _ _
-    (map-keeps _ (λ e. stamped-same _ e) c.entries i) (self (at c.entries i))
+rested_keeps c i =
+    if_both (λ (d : Cache030). (at d.entries i).valid ≡ true → Same (at d.entries i) (at c.entries i)) (eqb c.clock (2 ^ 64 - 1)) _ _
+    (map_keeps _ (λ e. stamped_same _ e) c.entries i) (self (at c.entries i))
 
-rested-neat : (c : Cache030) → Neat030 c → Neat030 (rested c)
-rested-neat c h = neat-by c.entries (rested c).entries (rested-keeps c) h
+rested_neat : (c : Cache030) → Neat030 c → Neat030 (rested c)
+rested_neat c h = neat_by c.entries (rested c).entries (rested_keeps c) h
 
-touched-neat : (c : Cache030) (i : ℕ) → Neat030 c → Neat030 (touched c i)
+touched_neat : (c : Cache030) (i : ℕ) → Neat030 c → Neat030 (touched c i)
 unfolding touched
-touched-neat c i h =
-    if-both Neat030 (eqb i c.recent) _ _ h
-    (neat-by (rested c).entries _ (set_keeps (rested c).entries i _ (λ v. stamped-same _ (at (rested c).entries i) v)) (rested-neat c h))
+touched_neat c i h =
+    if_both Neat030 (eqb i c.recent) _ _ h
+    (neat_by (rested c).entries _ (set_keeps (rested c).entries i _ (λ v. stamped_same _ (at (rested c).entries i) v)) (rested_neat c h))
 
-after-hit-neat : (c : Cache030) (recorded : Bool) (code page s : ℕ) → Neat030 c → Neat030 (afterHit c recorded code page s)
-unfolding afterHit
-after-hit-neat c recorded code page s h =
-    if-both Neat030 (recorded && found c code page s) _ _ (touched-neat c (matching c code page) h) h
+after_hit_neat : (c : Cache030) (recorded : Bool) (code page s : ℕ) → Neat030 c → Neat030 (after_hit c recorded code page s)
+unfolding after_hit
+after_hit_neat c recorded code page s h =
+    if_both Neat030 (recorded && found c code page s) _ _ (touched_neat c (matching c code page) h) h
 
-shifted-neat : (c : Cache030) (s : ℕ) → Neat030 c → Neat030 (shifted c s)
+shifted_neat : (c : Cache030) (s : ℕ) → Neat030 c → Neat030 (shifted c s)
 unfolding shifted
-shifted-neat c s h = if-both Neat030 (eqb c.shift s) _ _ h (mapped-neat dropped dropped-same c.entries h)
+shifted_neat c s h = if_both Neat030 (eqb c.shift s) _ _ h (mapped_neat dropped dropped_same c.entries h)
 
 -- an entry that passes is found
-first_below : (p : Entry → Bool) (l : List Entry) (j : ℕ) → p noEntry ≡ false → p (at l j) ≡ true → first_of p l < length l
+first_below : (p : Entry → Bool) (l : List Entry) (j : ℕ) → p no_entry ≡ false → p (at l j) ≡ true → first_of p l < length l
 first_below p l j f t = choose (dec_le (length l) (first_of p l))
   where
     choose : Dec (length l ≤ first_of p l) → first_of p l < length l
-    choose (yes h) = absurd (false≢true (sym (none_passes p l noEntry f h j) ∙ t))
+    choose (yes h) = absurd (false≢true (sym (none_passes p l no_entry f h j) ∙ t))
     choose (no h) = omega arith
 
 by_key : (code page : ℕ) (e : Entry) → e.valid ≡ true → e.code ≡ code → e.page ≡ page → matches code page e ≡ true
 by_key code page e v c p = rw (v, eq-eqb e.code code c, eq-eqb e.page page p)
 
 -- an insert takes the place of the entry that has its key
-takes-own : (l : List Entry) (code page j : ℕ) → Neat l → (at l j).valid ≡ true → (at l j).code ≡ code → (at l j).page ≡ page → j ≡ victim l code page
+takes_own : (l : List Entry) (code page j : ℕ) → Neat l → (at l j).valid ≡ true → (at l j).code ≡ code → (at l j).page ≡ page → j ≡ victim l code page
 unfolding victim
-takes-own l code page j h v c p =
+takes_own l code page j h v c p =
     let t = by_key code page (at l j) v c p in
     let b = first_below (matches code page) l j refl t in
-    let k = key_of code page (at l (first_of (matches code page) l)) (first_passes (matches code page) l noEntry b) in
+    let k = key_of code page (at l (first_of (matches code page) l)) (first_passes (matches code page) l no_entry b) in
     rw (lt-ltb (first_of (matches code page) l) (length l) b)
     (h.single j (first_of (matches code page) l) v k.0 (c ∙ sym k.1.0) (p ∙ sym k.1.1))
 
-inserted-neat : (c : Cache030) (code page s base : ℕ) (wp : Bool) → base < 2 ^ 32 → Neat030 c → Neat030 (inserted c code page s base wp)
+inserted_neat : (c : Cache030) (code page s base : ℕ) (wp : Bool) → base < 2 ^ 32 → Neat030 c → Neat030 (inserted c code page s base wp)
 unfolding inserted
-inserted-neat c code page s base wp low h =
-    let k = shifted-neat c s h in
-    set-neat (rested (shifted c s)).entries (victim (shifted c s).entries code page) _ low
+inserted_neat c code page s base wp low h =
+    let k = shifted_neat c s h in
+    set_neat (rested (shifted c s)).entries (victim (shifted c s).entries code page) _ low
     (λ j v e p.
-    let z = rested-keeps (shifted c s) j v in
-    takes-own (shifted c s).entries code page j k z.valid (sym z.code ∙ e) (sym z.page ∙ p))
-    (rested-neat (shifted c s) k)
+    let z = rested_keeps (shifted c s) j v in
+    takes_own (shifted c s).entries code page j k z.valid (sym z.code ∙ e) (sym z.page ∙ p))
+    (rested_neat (shifted c s) k)
 
-drop-neat : (p : Entry → Bool) (c : Cache030) → Neat030 c → Neat030 (dropIf p c)
-drop-neat p c h =
-    mapped-neat (λ (e : Entry). if p e then dropped e else e)
-    (λ e. if-both (λ (d : Entry). d.valid ≡ true → Same d e) (p e) (dropped e) e (dropped-same e) (self e)) c.entries h
+drop_neat : (p : Entry → Bool) (c : Cache030) → Neat030 c → Neat030 (drop_if p c)
+drop_neat p c h =
+    mapped_neat (λ (e : Entry). if p e then dropped e else e)
+    (λ e. if_both (λ (d : Entry). d.valid ≡ true → Same d e) (p e) (dropped e) e (dropped_same e) (self e)) c.entries h
 
 -- its own key finds it
-finds-own : (c : Cache030) (i : ℕ) → Neat030 c → (at c.entries i).valid ≡ true → matching c (at c.entries i).code (at c.entries i).page ≡ i
+finds_own : (c : Cache030) (i : ℕ) → Neat030 c → (at c.entries i).valid ≡ true → matching c (at c.entries i).code (at c.entries i).page ≡ i
 unfolding matching
-finds-own c i h v =
-    if-by (λ (n : ℕ). n ≡ i) (matches (at c.entries i).code (at c.entries i).page (at c.entries c.recent)) _ _
+finds_own c i h v =
+    if_by (λ (n : ℕ). n ≡ i) (matches (at c.entries i).code (at c.entries i).page (at c.entries c.recent)) _ _
     (λ t.
     let k = key_of (at c.entries i).code (at c.entries i).page (at c.entries c.recent) t in
     h.single c.recent i k.0 v k.1.0 k.1.1)
     (λ f.
     let p = matches (at c.entries i).code (at c.entries i).page in
     let b = first_below p c.entries i refl (by_key (at c.entries i).code (at c.entries i).page (at c.entries i) v refl refl) in
-    let k = key_of (at c.entries i).code (at c.entries i).page (at c.entries (first_of p c.entries)) (first_passes p c.entries noEntry b) in
+    let k = key_of (at c.entries i).code (at c.entries i).page (at c.entries (first_of p c.entries)) (first_passes p c.entries no_entry b) in
     h.single (first_of p c.entries) i k.0 v k.1.0 k.1.1)
 
 -- every call keeps it
-neat-keeps : (g : Registers) (m : Memory) → Keeps030 g m Neat030
-neat-keeps g m =
+neat_keeps : (g : Registers) (m : Memory) → Keeps030 g m Neat030
+neat_keeps g m =
     record {
-      look = after-hit-neat;
-      drop = drop-neat;
-      insert = λ c code page s base wp l w h. inserted-neat c code page s base wp (omega (arith, w.based)) h;
+      look = after_hit_neat;
+      drop = drop_neat;
+      insert = λ c code page s base wp l w h. inserted_neat c code page s base wp (omega (arith, w.based)) h;
     }
 
-empty-at : (i : ℕ) → (at (replicate 22 noEntry) i).valid ≡ false
-empty-at i =
-    all-get (λ (e : Entry). e.valid ≡ false) (replicate 22 noEntry) i noEntry refl (all_replicate (λ (e : Entry). e.valid ≡ false) 22 noEntry refl)
+empty_at : (i : ℕ) → (at (replicate 22 no_entry) i).valid ≡ false
+empty_at i =
+    all_get (λ (e : Entry). e.valid ≡ false) (replicate 22 no_entry) i no_entry refl (all_replicate (λ (e : Entry). e.valid ≡ false) 22 no_entry refl)
 
-empty-neat : Neat030 empty030
-empty-neat =
+empty_neat : Neat030 empty030
+empty_neat =
     record {
-      single = λ i j v w c p. absurd (false≢true (sym (empty-at i) ∙ v));
-      small = λ i v. absurd (false≢true (sym (empty-at i) ∙ v));
+      single = λ i j v w c p. absurd (false≢true (sym (empty_at i) ∙ v));
+      small = λ i v. absurd (false≢true (sym (empty_at i) ∙ v));
     }
 
 -- ---- a walk over longs of 32 bits finds a page of 32 bits
@@ -224,39 +224,39 @@ abbrev Ends : Outcome040 → Type 0
 Ends o = Fits o.end
 
 module _ (m : Memory) (l : Longs32 m) where
-  fetch-fits : (at : ℕ) → FitsIn (fetchOf m at)
-  fetch-fits at = if-both FitsIn (inside m.longs m.base at && not (inRanges m.ranges at)) _ _ (l.each ((at - m.base) / 4)) tt
+  fetch_fits : (at : ℕ) → FitsIn (fetch_of m at)
+  fetch_fits at = if_both FitsIn (inside m.longs m.base at && not (in_ranges m.ranges at)) _ _ (l.each ((at - m.base) / 4)) tt
 
-  long-fits : (at : ℕ) (before : List ℕ) (next : ℕ → List ℕ → Outcome040) → ((x : ℕ) (asked : List ℕ) → x < 2 ^ 32 → Ends (next x asked)) → (r : Fetched) → FitsIn r
-      → Ends (onLong at before next r)
-  long-fits at before next h (Long x) f = h x _ f
-  long-fits at before next h Failed f = tt
+  long_fits : (at : ℕ) (before : List ℕ) (next : ℕ → List ℕ → Outcome040) → ((x : ℕ) (asked : List ℕ) → x < 2 ^ 32 → Ends (next x asked)) → (r : Fetched) → FitsIn r
+      → Ends (on_long at before next r)
+  long_fits at before next h (Long x) f = h x _ f
+  long_fits at before next h Failed f = tt
 
-  page-fits : (tables : Bool) (missing : FaultCause) (page : ℕ) (asked : List ℕ) → page < 2 ^ 32 → Ends (onPage tables missing page asked)
-  page-fits tables missing page asked f = if-both Fits (eqb (page % 4) 0) (Absent missing) (Resident page (tables || bit_of page 2) (bit_of page 7)) tt f
+  page_fits : (tables : Bool) (missing : FaultCause) (page : ℕ) (asked : List ℕ) → page < 2 ^ 32 → Ends (on_page tables missing page asked)
+  page_fits tables missing page asked f = if_both Fits (eqb (page % 4) 0) (Absent missing) (Resident page (tables || bit_of page 2) (bit_of page 7)) tt f
 
-  entry-fits : (tables : Bool) (page : ℕ) (asked : List ℕ) → page < 2 ^ 32 → Ends (on_entry m tables page asked)
-  entry-fits tables page asked f =
-      if-both Ends (eqb (page % 4) 2) _ _
-      (long-fits (page / 4 * 4) asked _ (λ x asked f. page-fits tables _ x asked f) (fetchOf m (page / 4 * 4)) (fetch-fits (page / 4 * 4)))
-      (page-fits tables _ page asked f)
+  entry_fits : (tables : Bool) (page : ℕ) (asked : List ℕ) → page < 2 ^ 32 → Ends (on_entry m tables page asked)
+  entry_fits tables page asked f =
+      if_both Ends (eqb (page % 4) 2) _ _
+      (long_fits (page / 4 * 4) asked _ (λ x asked f. page_fits tables _ x asked f) (fetch_of m (page / 4 * 4)) (fetch_fits (page / 4 * 4)))
+      (page_fits tables _ page asked f)
 
-  walk-fits : (g : Registers) (address : ℕ) (supervisor : Bool) → Ends (walk040 m g address supervisor)
+  walk_fits : (g : Registers) (address : ℕ) (supervisor : Bool) → Ends (walk040 m g address supervisor)
   unfolding walk040
-  walk-fits g address supervisor =
-      long-fits (rootAt g supervisor address) [] _
+  walk_fits g address supervisor =
+      long_fits (root_at g supervisor address) [] _
       (λ root asked f.
-      if-both Ends (ltb (root % 4) 2) _ _ tt
-      (long-fits (pointerAt root address) asked _
+      if_both Ends (ltb (root % 4) 2) _ _ tt
+      (long_fits (pointer_at root address) asked _
       (λ pointer asked f.
-      if-both Ends (ltb (pointer % 4) 2) _ _ tt
-      (long-fits (pageAt g.tc pointer address) asked _ (λ page asked f. entry-fits (bit_of root 2 || bit_of pointer 2) page asked f)
-      (fetchOf m (pageAt g.tc pointer address)) (fetch-fits (pageAt g.tc pointer address))))
-      (fetchOf m (pointerAt root address)) (fetch-fits (pointerAt root address))))
-      (fetchOf m (rootAt g supervisor address)) (fetch-fits (rootAt g supervisor address))
+      if_both Ends (ltb (pointer % 4) 2) _ _ tt
+      (long_fits (page_at g.tc pointer address) asked _ (λ page asked f. entry_fits (bit_of root 2 || bit_of pointer 2) page asked f)
+      (fetch_of m (page_at g.tc pointer address)) (fetch_fits (page_at g.tc pointer address))))
+      (fetch_of m (pointer_at root address)) (fetch_fits (pointer_at root address))))
+      (fetch_of m (root_at g supervisor address)) (fetch_fits (root_at g supervisor address))
 
 frame_small : (tc field : ℕ) → field < 2 ^ 32 → frame_of tc field < 2 ^ 32
-frame_small tc field f = omega (arith, split field (pageBits tc))
+frame_small tc field f = omega (arith, split field (page_bits tc))
 
 -- ---- the slot at i
 -- a valid slot stands in its own place, is no user's with S, and has a base of 32 bits
@@ -271,46 +271,46 @@ Placed i s = s.valid ≡ true → InPlace i s
 placed : OfSlots Placed
 placed = record { invalid = λ i s f v. absurd (false≢true (sym f ∙ v)) }
 
-fits-at : (tc : ℕ) (e : End040) (field : ℕ) (wp sup : Bool) → Fits e → e ≡ Resident field wp sup → frame_of tc field < 2 ^ 32
-fits-at tc (Resident x w s) field wp sup f e = let z : x ≡ field = cc in frame_small tc field (rw z at f)
-fits-at tc (Absent missing) field wp sup f e = let z : ◌≡◌ {A = ℕ} 0 1 = cc in absurd (omega arith)
-fits-at tc (Lost at) field wp sup f e = let z : ◌≡◌ {A = ℕ} 0 1 = cc in absurd (omega arith)
+fits_at : (tc : ℕ) (e : End040) (field : ℕ) (wp sup : Bool) → Fits e → e ≡ Resident field wp sup → frame_of tc field < 2 ^ 32
+fits_at tc (Resident x w s) field wp sup f e = let z : x ≡ field = cc in frame_small tc field (rw z at f)
+fits_at tc (Absent missing) field wp sup f e = let z : ◌≡◌ {A = ℕ} 0 1 = cc in absurd (omega arith)
+fits_at tc (Lost at) field wp sup f e = let z : ◌≡◌ {A = ℕ} 0 1 = cc in absurd (omega arith)
 
-placed-new : (g : Registers) (m : Memory) → Longs32 m → New040 Placed g m
-placed-new g m l frame supervisor base wp sup w v =
-    let f = fits-at g.tc _ w.field wp sup (walk-fits m l g w.address supervisor) w.end in
+placed_new : (g : Registers) (m : Memory) → Longs32 m → New040 Placed g m
+placed_new g m l frame supervisor base wp sup w v =
+    let f = fits_at g.tc _ w.field wp sup (walk_fits m l g w.address supervisor) w.end in
     record { place = refl; user = w.allowed; small = rw w.based at f }
 
 -- ---- what calls reach
 module _ (M : Memory → Type 0) (I : Cache030 → Type 0) (J : Cache040 → Type 0) (h : I empty030) (k : J empty040)
     (keeps : (g : Registers) (m : Memory) → M m → Keeps I J g m) where
-  reached-keeps : (c : Caches) → Reached M c → Both I J c
-  reached-keeps _ start = record { in030 = h; in040 = k }
-  reached-keeps _ (then-call g m call {c} p r) = calling-keeps I J g m (keeps g m p) c (reached-keeps c r) call
+  reached_keeps : (c : Caches) → Reached M c → Both I J c
+  reached_keeps _ start = record { in030 = h; in040 = k }
+  reached_keeps _ (then_call g m call {c} p r) = calling_keeps I J g m (keeps g m p) c (reached_keeps c r) call
 
-reached-neat : (M : Memory → Type 0) (c : Caches) → Reached M c → Neat030 c.c030
-reached-neat M c r =
-    (reached-keeps M Neat030 (λ d. Unit {0}) empty-neat tt (λ g m p. record { in030 = neat-keeps g m; in040 = free-040 g m }) c r).in030
+reached_neat : (M : Memory → Type 0) (c : Caches) → Reached M c → Neat030 c.c030
+reached_neat M c r =
+    (reached_keeps M Neat030 (λ d. Unit {0}) empty_neat tt (λ g m p. record { in030 = neat_keeps g m; in040 = free_040 g m }) c r).in030
 
-reached-placed : (c : Caches) → Reached Longs32 c → Sound040 Placed c.c040
-reached-placed c r =
-    (reached-keeps Longs32 (λ d. Unit {0}) (Sound040 Placed) tt (empty-sound Placed placed)
-    (λ g m l. record { in030 = free-030 g m; in040 = sound-keeps Placed placed g m (placed-new g m l) }) c r).in040
+reached_placed : (c : Caches) → Reached Longs32 c → Sound040 Placed c.c040
+reached_placed c r =
+    (reached_keeps Longs32 (λ d. Unit {0}) (Sound040 Placed) tt (empty_sound Placed placed)
+    (λ g m l. record { in030 = free_030 g m; in040 = sound_keeps Placed placed g m (placed_new g m l) }) c r).in040
 
 -- the law: of caches that calls made from the empty ones, whatever the registers and memories were, an entry that the audit names is wrong
-pub reached-stale-is-wrong : (g : Registers) (m : Memory) (M : Memory → Type 0) (c : Caches) (from i : ℕ) → Reached M c → auditFrom g m c from ≡ Audit.Stale030 i
-    → on g ≡ true → Wrong g m c (bit_of (entry_at c i).code 2) (eqb ((entry_at c i).code % 4) 2) (firstOfPage (entry_at c i).page c.c030.shift)
-reached-stale-is-wrong g m M c from i r e o =
-    let h = reached-neat M c r in
-    let v = (named-030 g m c from i e).valid in
-    stale-is-wrong g m c from i e (finds-own c.c030 i h v) (h.small i v) o
+pub reached_stale_is_wrong : (g : Registers) (m : Memory) (M : Memory → Type 0) (c : Caches) (from i : ℕ) → Reached M c → audit_from g m c from ≡ Audit.Stale030 i
+    → on g ≡ true → Wrong g m c (bit_of (entry_at c i).code 2) (eqb ((entry_at c i).code % 4) 2) (first_of_page (entry_at c i).page c.c030.shift)
+reached_stale_is_wrong g m M c from i r e o =
+    let h = reached_neat M c r in
+    let v = (named_030 g m c from i e).valid in
+    stale_is_wrong g m c from i e (finds_own c.c030 i h v) (h.small i v) o
 
 -- and so is a slot, over memories of longs of 32 bits
-pub reached-stale-is-wrong-040 : (g : Registers) (m : Memory) (c : Caches) (from i : ℕ) (instruction : Bool) → Reached Longs32 c → Longs32 m
-    → auditFrom g m c from ≡ Audit.Stale040 i → on g ≡ true
-    → Wrong g m c (slotIn c i).supervisor instruction (firstOfPage (slotIn c i).frame (pageBits g.tc))
-reached-stale-is-wrong-040 g m c from i instruction r l e o =
-    let h = reached-placed c r i (named-040 g m c from i e).valid in
-    stale-is-wrong-040 g m c from i e h.user
-    (λ field wp sup f. fits-at g.tc _ field wp sup (walk-fits m l g (firstOfPage (slotIn c i).frame (pageBits g.tc)) (slotIn c i).supervisor) f)
+pub reached_stale_is_wrong_040 : (g : Registers) (m : Memory) (c : Caches) (from i : ℕ) (instruction : Bool) → Reached Longs32 c → Longs32 m
+    → audit_from g m c from ≡ Audit.Stale040 i → on g ≡ true
+    → Wrong g m c (slot_in c i).supervisor instruction (first_of_page (slot_in c i).frame (page_bits g.tc))
+reached_stale_is_wrong_040 g m c from i instruction r l e o =
+    let h = reached_placed c r i (named_040 g m c from i e).valid in
+    stale_is_wrong_040 g m c from i e h.user
+    (λ field wp sup f. fits_at g.tc _ field wp sup (walk_fits m l g (first_of_page (slot_in c i).frame (page_bits g.tc)) (slot_in c i).supervisor) f)
     instruction h.place h.small o

@@ -5,7 +5,7 @@ use mathlib.Core.List.{List, [], ◌∷◌}
 use native.Mathlib.Omega.{arith}
 use native.Mathlib.Nat.{mul-le-mul_right, suc-mul, mul_assoc, add-mul, mod-lt}
 use lib.Pow.{pow-add, pow_pos, high, low, shr_lt, split}
-use Rattle.definition.specs.Walk030.{topIndex}
+use Rattle.definition.specs.Walk030.{top_index}
 use Rattle.definition.proofs.Page030.{index_is}
 
 -- a stretch of 2^(32 - consumed) addresses that is aligned to its size, and ends within the 4 GiB
@@ -14,8 +14,8 @@ pub record Aligned (first consumed : ℕ) : Type 0 where
   pub is : first ≡ q * 2 ^ (32 - consumed)
   pub top : first + 2 ^ (32 - consumed) ≤ 2 ^ 32
 
-pub every-address : Aligned 0 0
-every-address = record { q = 0; is = refl; top = omega arith }
+pub every_address : Aligned 0 0
+every_address = record { q = 0; is = refl; top = omega arith }
 
 -- an address of an aligned stretch, by its distance from the first
 pub offset : (first consumed a : ℕ) → Aligned first consumed → first ≤ a → a < first + 2 ^ (32 - consumed) → a % 2 ^ (32 - consumed) ≡ a - first
@@ -65,7 +65,7 @@ stretch first consumed w j al h l = go (32 - (consumed + w)) refl
 pub record Lies (first consumed w a : ℕ) : Type 0 where
   pub j : ℕ
   pub below : j < 2 ^ w
-  pub index : topIndex a consumed w ≡ j
+  pub index : top_index a consumed w ≡ j
   pub from : first + j * 2 ^ (32 - (consumed + w)) ≤ a
   pub to : a < first + j * 2 ^ (32 - (consumed + w)) + 2 ^ (32 - (consumed + w))
 
@@ -97,8 +97,8 @@ abbrev pub Fits : List ℕ → ℕ → Type 0
 Fits [] consumed = consumed ≤ 32
 Fits (w ∷ ws) consumed = (0 < w) × Fits ws (consumed + w)
 
-pub fits-most : (ws : List ℕ) (consumed : ℕ) → Fits ws consumed → consumed ≤ 32
-fits-most [] c h = h
-fits-most (w ∷ ws) c h =
-    let r = fits-most ws (c + w) h.1 in
+pub fits_most : (ws : List ℕ) (consumed : ℕ) → Fits ws consumed → consumed ≤ 32
+fits_most [] c h = h
+fits_most (w ∷ ws) c h =
+    let r = fits_most ws (c + w) h.1 in
     omega arith

@@ -7,10 +7,10 @@ use Rattle.definition.specs.Words.{if◌then◌else◌, all_of}
 use Rattle.definition.specs.Memory.{Memory}
 use Rattle.definition.specs.Cache030.{Entry}
 use Rattle.definition.specs.Cache040.{Slot}
-use Rattle.definition.specs.Refusal.{refusalOf}
-use Rattle.definition.specs.Translate.{Caches, emptyCaches, Translated, translate, translateChecks, cacheless}
-use Rattle.definition.specs.Calls.{access, loading, testing, probing, flushingAll, flushingCode, flushingPage, flushingFrame}
-use Rattle.definition.proofs.Replay.{Moment, watched, other, memoryAt, after, In}
+use Rattle.definition.specs.Refusal.{refusal_of}
+use Rattle.definition.specs.Translate.{Caches, empty_caches, Translated, translate, translate_checks, cacheless}
+use Rattle.definition.specs.Calls.{access, loading, testing, probing, flushing_all, flushing_code, flushing_page, flushing_frame}
+use Rattle.definition.proofs.Replay.{Moment, watched, other, memory_at, after, In}
 use Rattle.definition.proofs.Lists.{All}
 use Rattle.definition.proofs.Agree.{Agree}
 use Rattle.definition.specs.declared.Registers.{Registers}
@@ -23,35 +23,35 @@ pub data Turn : Type 0 where
   under : Registers → Moment → Turn
 
 -- moments under one set of registers
-abbrev pub turnsOf : Registers → List Moment → List Turn
-turnsOf g l = map (under g) l
+abbrev pub turns_of : Registers → List Moment → List Turn
+turns_of g l = map (under g) l
 
 -- the caches after a turn, and after turns
 abbrev pub after_turn : Caches → Turn → Caches
 after_turn c (under g now) = after g c now
 
-unfoldable pub afterTurns : Caches → List Turn → Caches
-afterTurns c [] = c
-afterTurns c (t ∷ rest) = afterTurns (after_turn c t) rest
+unfoldable pub after_turns : Caches → List Turn → Caches
+after_turns c [] = c
+after_turns c (t ∷ rest) = after_turns (after_turn c t) rest
 
 -- the answers of the watched accesses, in order
-unfoldable pub answersThrough : Caches → List Turn → List Translation
-answersThrough c [] = []
-answersThrough c (under g (watched a m) ∷ rest) = (translate g a m c).answer ∷ answersThrough (after g c (watched a m)) rest
-answersThrough c (under g (other call m) ∷ rest) = answersThrough (after g c (other call m)) rest
+unfoldable pub answers_through : Caches → List Turn → List Translation
+answers_through c [] = []
+answers_through c (under g (watched a m) ∷ rest) = (translate g a m c).answer ∷ answers_through (after g c (watched a m)) rest
+answers_through c (under g (other call m) ∷ rest) = answers_through (after g c (other call m)) rest
 
 -- ---- epochs
 -- one of the flushes
-abbrev pub isFlush : Moment → Bool
-isFlush (watched a m) = false
-isFlush (other (access a) m) = false
-isFlush (other (loading code write address) m) = false
-isFlush (other (testing code write level address) m) = false
-isFlush (other (probing own instruction write address) m) = false
-isFlush (other flushingAll m) = true
-isFlush (other (flushingCode code mask) m) = true
-isFlush (other (flushingPage code mask address) m) = true
-isFlush (other (flushingFrame frame) m) = true
+abbrev pub is_flush : Moment → Bool
+is_flush (watched a m) = false
+is_flush (other (access a) m) = false
+is_flush (other (loading code write address) m) = false
+is_flush (other (testing code write level address) m) = false
+is_flush (other (probing own instruction write address) m) = false
+is_flush (other flushing_all m) = true
+is_flush (other (flushing_code code mask) m) = true
+is_flush (other (flushing_page code mask address) m) = true
+is_flush (other (flushing_frame frame) m) = true
 
 -- 'leaves no valid entry in either cache'
 unfoldable pub vacant : Caches → Bool
@@ -67,28 +67,28 @@ abbrev pub source : Registers → Memory → Source
 source g m = record { registers = g; memory = m }
 
 -- nothing else adds an entry
-abbrev pub sourcesIn : Turn → List Source
-sourcesIn (under g (watched a m)) = source g m ∷ []
-sourcesIn (under g (other (access a) m)) = source g m ∷ []
-sourcesIn (under g (other (loading code write address) m)) = source g m ∷ []
-sourcesIn (under g (other (testing code write level address) m)) = []
-sourcesIn (under g (other (probing own instruction write address) m)) = []
-sourcesIn (under g (other flushingAll m)) = []
-sourcesIn (under g (other (flushingCode code mask) m)) = []
-sourcesIn (under g (other (flushingPage code mask address) m)) = []
-sourcesIn (under g (other (flushingFrame frame) m)) = []
+abbrev pub sources_in : Turn → List Source
+sources_in (under g (watched a m)) = source g m ∷ []
+sources_in (under g (other (access a) m)) = source g m ∷ []
+sources_in (under g (other (loading code write address) m)) = source g m ∷ []
+sources_in (under g (other (testing code write level address) m)) = []
+sources_in (under g (other (probing own instruction write address) m)) = []
+sources_in (under g (other flushing_all m)) = []
+sources_in (under g (other (flushing_code code mask) m)) = []
+sources_in (under g (other (flushing_page code mask address) m)) = []
+sources_in (under g (other (flushing_frame frame) m)) = []
 
 -- 'An epoch starts .. after each call that leaves no valid entry in either cache'
-abbrev pub startsAfter : Caches → Turn → Bool
-startsAfter c t = vacant (after_turn c t)
+abbrev pub starts_after : Caches → Turn → Bool
+starts_after c t = vacant (after_turn c t)
 
 -- the accesses and PLOADs of the epoch so far
-unfoldable pub sinceAfter : List Source → Caches → Turn → List Source
-sinceAfter since c t = if startsAfter c t then [] else sourcesIn t ++ since
+unfoldable pub since_after : List Source → Caches → Turn → List Source
+since_after since c t = if starts_after c t then [] else sources_in t ++ since
 
-unfoldable pub sinceAll : List Source → Caches → List Turn → List Source
-sinceAll since c [] = since
-sinceAll since c (t ∷ rest) = sinceAll (sinceAfter since c t) (after_turn c t) rest
+unfoldable pub since_all : List Source → Caches → List Turn → List Source
+since_all since c [] = since
+since_all since c (t ∷ rest) = since_all (since_after since c t) (after_turn c t) rest
 
 -- ---- watched accesses
 -- an access as it is made: under these registers, over this memory
@@ -104,8 +104,8 @@ made g a m = record { registers = g; access = a; memory = m }
 abbrev pub walk_of : Made → Translated
 walk_of w = cacheless w.registers w.access w.memory
 
-abbrev pub walkAnswer : Made → Translation
-walkAnswer w = (walk_of w).answer
+abbrev pub walk_answer : Made → Translation
+walk_answer w = (walk_of w).answer
 
 -- a watched access, with the accesses and PLOADs before it in its epoch
 pub record Watch : Type 0 where
@@ -115,19 +115,19 @@ pub record Watch : Type 0 where
 abbrev pub watch : Made → List Source → Watch
 watch w since = record { made = w; since = since }
 
-unfoldable pub watchesFrom : Caches → List Source → List Turn → List Watch
-watchesFrom c since [] = []
-watchesFrom c since (under g (watched a m) ∷ rest) =
-    watch (made g a m) since ∷ watchesFrom (after g c (watched a m)) (sinceAfter since c (under g (watched a m))) rest
-watchesFrom c since (under g (other call m) ∷ rest) =
-    watchesFrom (after g c (other call m)) (sinceAfter since c (under g (other call m))) rest
+unfoldable pub watches_from : Caches → List Source → List Turn → List Watch
+watches_from c since [] = []
+watches_from c since (under g (watched a m) ∷ rest) =
+    watch (made g a m) since ∷ watches_from (after g c (watched a m)) (since_after since c (under g (watched a m))) rest
+watches_from c since (under g (other call m) ∷ rest) =
+    watches_from (after g c (other call m)) (since_after since c (under g (other call m))) rest
 
 -- ---- a replay from the empty caches: 'An epoch starts at the replay's start'
-abbrev pub answersOf : List Turn → List Translation
-answersOf l = answersThrough emptyCaches l
+abbrev pub answers_of : List Turn → List Translation
+answers_of l = answers_through empty_caches l
 
-abbrev pub watchesOf : List Turn → List Watch
-watchesOf l = watchesFrom emptyCaches [] l
+abbrev pub watches_of : List Turn → List Watch
+watches_of l = watches_from empty_caches [] l
 
 -- ---- the premises
 -- two memories read alike along the list of an access's cacheless walk: the one relation that all of this speaks through
@@ -155,7 +155,7 @@ pub record Same (w w' : Watch) : Type 0 where
 
 -- (A) it isn't refused
 abbrev pub Allowed : Watch → Type 0
-Allowed w = refusalOf (translateChecks w.made.registers w.made.access w.made.memory emptyCaches) ≡ 0
+Allowed w = refusal_of (translate_checks w.made.registers w.made.access w.made.memory empty_caches) ≡ 0
 
 -- (E) and (A) of all the watched accesses of a replay
 pub record Kept (l : List Watch) : Type 0 where
@@ -163,47 +163,47 @@ pub record Kept (l : List Watch) : Type 0 where
   pub allowed : All Allowed l
 
 -- ---- the request's own words
-abbrev pub registersIn : Turn → Registers
-registersIn (under g now) = g
+abbrev pub registers_in : Turn → Registers
+registers_in (under g now) = g
 
-abbrev pub memoryIn : Turn → Memory
-memoryIn (under g now) = memoryAt now
+abbrev pub memory_in : Turn → Memory
+memory_in (under g now) = memory_at now
 
 -- 'a flush that empties both caches'
 abbrev pub empties : Caches → Turn → Bool
-empties c (under g now) = isFlush now && vacant (after g c now)
+empties c (under g now) = is_flush now && vacant (after g c now)
 
 -- 'access, PLOAD or probe'
-abbrev pub isUse : Turn → Bool
-isUse (under g (watched a m)) = true
-isUse (under g (other (access a) m)) = true
-isUse (under g (other (loading code write address) m)) = true
-isUse (under g (other (testing code write level address) m)) = false
-isUse (under g (other (probing own instruction write address) m)) = true
-isUse (under g (other flushingAll m)) = false
-isUse (under g (other (flushingCode code mask) m)) = false
-isUse (under g (other (flushingPage code mask address) m)) = false
-isUse (under g (other (flushingFrame frame) m)) = false
+abbrev pub is_use : Turn → Bool
+is_use (under g (watched a m)) = true
+is_use (under g (other (access a) m)) = true
+is_use (under g (other (loading code write address) m)) = true
+is_use (under g (other (testing code write level address) m)) = false
+is_use (under g (other (probing own instruction write address) m)) = true
+is_use (under g (other flushing_all m)) = false
+is_use (under g (other (flushing_code code mask) m)) = false
+is_use (under g (other (flushing_page code mask address) m)) = false
+is_use (under g (other (flushing_frame frame) m)) = false
 
 -- such a flush comes 'before the next access, PLOAD or probe'
 unfoldable pub FlushFirst : Caches → List Turn → Type 0
 FlushFirst c [] = Unit {0}
-FlushFirst c (t ∷ rest) = (empties c t ≡ true) ⊎ ((isUse t ≡ false) × FlushFirst (after_turn c t) rest)
+FlushFirst c (t ∷ rest) = (empties c t ≡ true) ⊎ ((is_use t ≡ false) × FlushFirst (after_turn c t) rest)
 
-abbrev pub madeIn : Turn → List Made
-madeIn (under g (watched a m)) = made g a m ∷ []
-madeIn (under g (other call m)) = []
+abbrev pub made_in : Turn → List Made
+made_in (under g (watched a m)) = made g a m ∷ []
+made_in (under g (other call m)) = []
 
 -- the watched accesses 'made before the next such flush'
-unfoldable pub untilFlush : Caches → List Turn → List Made
-untilFlush c [] = []
-untilFlush c (t ∷ rest) = if empties c t then [] else madeIn t ++ untilFlush (after_turn c t) rest
+unfoldable pub until_flush : Caches → List Turn → List Made
+until_flush c [] = []
+until_flush c (t ∷ rest) = if empties c t then [] else made_in t ++ until_flush (after_turn c t) rest
 
 -- from a turn to the next neither the registers change nor a watched long: 'one that the cacheless walk of a watched access made before the next such
 -- flush fetches'
 pub record Unchanged (coming : List Made) (t next : Turn) : Type 0 where
-  pub registers : registersIn t ≡ registersIn next
-  pub reads : (w : Made) → In w coming → AlikeFor w (memoryIn t) (memoryIn next)
+  pub registers : registers_in t ≡ registers_in next
+  pub reads : (w : Made) → In w coming → AlikeFor w (memory_in t) (memory_in next)
 
 -- 'Registers and watched longs may now change between calls, if a flush that empties both caches comes after each such change and before the next access,
 -- PLOAD or probe.'
@@ -211,5 +211,5 @@ unfoldable pub ChangesFlushed : Caches → List Turn → Type 0
 ChangesFlushed c [] = Unit {0}
 ChangesFlushed c (t ∷ []) = Unit {0}
 ChangesFlushed c (t ∷ next ∷ rest) =
-    (Unchanged (untilFlush (after_turn c t) (next ∷ rest)) t next ⊎ FlushFirst (after_turn c t) (next ∷ rest))
+    (Unchanged (until_flush (after_turn c t) (next ∷ rest)) t next ⊎ FlushFirst (after_turn c t) (next ∷ rest))
     × ChangesFlushed (after_turn c t) (next ∷ rest)

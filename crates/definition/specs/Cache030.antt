@@ -19,16 +19,16 @@ pub record Cache030 : Type 0 where
   pub shift : ℕ
 
 -- 'every number 0'
-abbrev pub noEntry : Entry
-noEntry = record { valid = false; code = 0; page = 0; base = 0; wp = false; stamp = 0 }
+abbrev pub no_entry : Entry
+no_entry = record { valid = false; code = 0; page = 0; base = 0; wp = false; stamp = 0 }
 
 -- 'the empty caches that a replay starts from also have every number 0'
 abbrev pub empty030 : Cache030
-empty030 = record { entries = replicate 22 noEntry; recent = 0; clock = 0; shift = 0 }
+empty030 = record { entries = replicate 22 no_entry; recent = 0; clock = 0; shift = 0 }
 
 -- with other entries
-abbrev pub withEntries : List Entry → Cache030 → Cache030
-withEntries es c = record { entries = es; recent = c.recent; clock = c.clock; shift = c.shift }
+abbrev pub with_entries : List Entry → Cache030 → Cache030
+with_entries es c = record { entries = es; recent = c.recent; clock = c.clock; shift = c.shift }
 
 -- ---- matching
 -- 'keyed by the walk's code .. and page'
@@ -38,7 +38,7 @@ matches code page e = e.valid && (eqb e.code code && eqb e.page page)
 -- 'Matching tries the most recent entry, then the lowest index.' The number of entries where none matches
 unfoldable pub matching : Cache030 → ℕ → ℕ → ℕ
 matching c code page =
-    if matches code page (get_or c.entries c.recent noEntry)
+    if matches code page (get_or c.entries c.recent no_entry)
     then c.recent
     else first_of (matches code page) c.entries
 
@@ -68,7 +68,7 @@ unfoldable pub touched : Cache030 → ℕ → Cache030
 touched c i =
     if eqb i c.recent
     then c
-    else put_at (rested c) i (λ (n : ℕ). stamped n (get_or (rested c).entries i noEntry))
+    else put_at (rested c) i (λ (n : ℕ). stamped n (get_or (rested c).entries i no_entry))
 
 -- ---- look up
 -- 'A different shift misses'
@@ -76,20 +76,20 @@ abbrev pub found : Cache030 → ℕ → ℕ → ℕ → Bool
 found c code page shift = eqb c.shift shift && ltb (matching c code page) (length c.entries)
 
 -- the entry that matches
-abbrev pub entryFor : Cache030 → ℕ → ℕ → Entry
-entryFor c code page = get_or c.entries (matching c code page) noEntry
+abbrev pub entry_for : Cache030 → ℕ → ℕ → Entry
+entry_for c code page = get_or c.entries (matching c code page) no_entry
 
 -- 'WP .. makes a write miss'
 abbrev pub permitted : Bool → Entry → Hit
 permitted write e = if write && e.wp then Miss else At e.base
 
 -- the base of the page's entry, unless 'WP .. makes a write miss'
-unfoldable pub hitOf : Cache030 → ℕ → ℕ → ℕ → Bool → Hit
-hitOf c code page shift write = if found c code page shift then permitted write (entryFor c code page) else Miss
+unfoldable pub hit_of : Cache030 → ℕ → ℕ → ℕ → Bool → Hit
+hit_of c code page shift write = if found c code page shift then permitted write (entry_for c code page) else Miss
 
 -- the cache after it: a recorded hit is a use, 'even if WP then makes a write miss'
-unfoldable pub afterHit : Cache030 → Bool → ℕ → ℕ → ℕ → Cache030
-afterHit c recorded code page shift =
+unfoldable pub after_hit : Cache030 → Bool → ℕ → ℕ → ℕ → Cache030
+after_hit c recorded code page shift =
     if recorded && found c code page shift then touched c (matching c code page) else c
 
 -- ---- insert
@@ -98,15 +98,15 @@ abbrev pub dropped : Entry → Entry
 dropped e = record { valid = false; code = e.code; page = e.page; base = e.base; wp = e.wp; stamp = e.stamp }
 
 -- all of them marked invalid
-abbrev pub allDropped : List Entry → List Entry
-allDropped l = map dropped l
+abbrev pub all_dropped : List Entry → List Entry
+all_dropped l = map dropped l
 
 -- 'A different shift misses, and an insert then empties first.'
 unfoldable pub shifted : Cache030 → ℕ → Cache030
 shifted c shift =
     if eqb c.shift shift
     then c
-    else record { entries = allDropped c.entries; recent = c.recent; clock = c.clock; shift = shift }
+    else record { entries = all_dropped c.entries; recent = c.recent; clock = c.clock; shift = shift }
 
 -- 'the smallest stamp, lowest index among equals'
 unfoldable pub oldest : List Entry → ℕ
@@ -129,20 +129,20 @@ inserted c code page shift base wp =
 
 -- ---- flushes
 -- 'Flushes only mark invalid'
-abbrev pub dropIf : (Entry → Bool) → Cache030 → Cache030
-dropIf p c = withEntries (map (λ (e : Entry). if p e then dropped e else e) c.entries) c
+abbrev pub drop_if : (Entry → Bool) → Cache030 → Cache030
+drop_if p c = with_entries (map (λ (e : Entry). if p e then dropped e else e) c.entries) c
 
 -- 'empties both': this one
-unfoldable pub flushedAll : Cache030 → Cache030
-flushedAll c = withEntries (allDropped c.entries) c
+unfoldable pub flushed_all : Cache030 → Cache030
+flushed_all c = with_entries (all_dropped c.entries) c
 
 -- 'A flush drops entries whose code agrees on the mask's bits ..'
-unfoldable pub flushedCode : Cache030 → ℕ → ℕ → Cache030
-flushedCode c code mask = dropIf (λ (e : Entry). agrees e.code code mask) c
+unfoldable pub flushed_code : Cache030 → ℕ → ℕ → Cache030
+flushed_code c code mask = drop_if (λ (e : Entry). agrees e.code code mask) c
 
 -- '.. and, for a page, whose page is the address's at the stored shift (shift 0: none).'
-unfoldable pub flushedPage : Cache030 → ℕ → ℕ → ℕ → Cache030
-flushedPage c code mask address =
+unfoldable pub flushed_page : Cache030 → ℕ → ℕ → ℕ → Cache030
+flushed_page c code mask address =
     if eqb c.shift 0
     then c
-    else dropIf (λ (e : Entry). agrees e.code code mask && eqb e.page (address / 2 ^ c.shift)) c
+    else drop_if (λ (e : Entry). agrees e.code code mask && eqb e.page (address / 2 ^ c.shift)) c

@@ -28,26 +28,26 @@ abbrev pub slot_at : Cache040 → ℕ → Slot
 slot_at c frame = get_or c.slots (frame % 64) no_slot
 
 -- the two are the same privilege
-abbrev pub sameBool : Bool → Bool → Bool
-sameBool true b = b
-sameBool false b = not b
+abbrev pub same_bool : Bool → Bool → Bool
+same_bool true b = b
+same_bool false b = not b
 
 -- 'key frame .. and supervisor'
 abbrev pub holds : ℕ → Bool → Slot → Bool
-holds frame supervisor s = s.valid && (eqb s.frame frame && sameBool s.supervisor supervisor)
+holds frame supervisor s = s.valid && (eqb s.frame frame && same_bool s.supervisor supervisor)
 
 -- 'protection forbids': a write by W, a user by S
 abbrev pub forbids : Bool → Bool → Slot → Bool
 forbids supervisor write s = write && s.wp || not supervisor && s.sup
 
 -- 'A hit that protection forbids is a miss.'
-abbrev pub slotHit : ℕ → Bool → Bool → Slot → Hit
-slotHit frame supervisor write s =
+abbrev pub slot_hit : ℕ → Bool → Bool → Slot → Hit
+slot_hit frame supervisor write s =
     if holds frame supervisor s && not (forbids supervisor write s) then At s.base else Miss
 
 -- the base of the frame's slot
 unfoldable pub hit040 : Cache040 → ℕ → Bool → Bool → Hit
-hit040 c frame supervisor write = slotHit frame supervisor write (slot_at c frame)
+hit040 c frame supervisor write = slot_hit frame supervisor write (slot_at c frame)
 
 -- a page takes its slot, whatever was there
 unfoldable pub inserted040 : Cache040 → ℕ → Bool → ℕ → Bool → Bool → Cache040
@@ -61,12 +61,12 @@ abbrev pub emptied : Slot → Slot
 emptied s = record { valid = false; frame = s.frame; supervisor = s.supervisor; base = s.base; wp = s.wp; sup = s.sup }
 
 -- 'empties both': this one
-unfoldable pub flushedAll040 : Cache040 → Cache040
-flushedAll040 c = record { slots = map emptied c.slots }
+unfoldable pub flushed_all040 : Cache040 → Cache040
+flushed_all040 c = record { slots = map emptied c.slots }
 
 -- 'A page flush drops that frame for either privilege.'
-unfoldable pub flushedFrame : Cache040 → ℕ → Cache040
-flushedFrame c frame =
+unfoldable pub flushed_frame : Cache040 → ℕ → Cache040
+flushed_frame c frame =
     if eqb (slot_at c frame).frame frame
     then record { slots = set c.slots (frame % 64) (emptied (slot_at c frame)) }
     else c

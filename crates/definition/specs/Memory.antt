@@ -17,23 +17,23 @@ abbrev pub within : ℕ → ℕ → ℕ → Bool
 within first last b = leb first b && leb b last
 
 -- 'any of its four bytes lies in a range', of the long at `at` and one range
-unfoldable pub touchesOf : ℕ → ℕ → ℕ → Bool
-touchesOf first last at =
+unfoldable pub touches_of : ℕ → ℕ → ℕ → Bool
+touches_of first last at =
     within first last at || within first last (at + 1) || within first last (at + 2) || within first last (at + 3)
 
 -- of the long at `at` and all of them
-abbrev pub inRanges : List Range → ℕ → Bool
-inRanges ranges at = any_of (λ (r : Range). touchesOf r.first r.last at) ranges
+abbrev pub in_ranges : List Range → ℕ → Bool
+in_ranges ranges at = any_of (λ (r : Range). touches_of r.first r.last at) ranges
 
 -- the long at `at` is one of the longs. Once check 2 has passed, (at - base) % 4 is 0 at every long that a walk asks for
 abbrev pub inside : List ℕ → ℕ → ℕ → Bool
 inside longs base at = leb base at && eqb ((at - base) % 4) 0 && ltb ((at - base) / 4) (length longs)
 
 -- 'A long fails if it lies outside the longs or any of its four bytes lies in a range.'
-abbrev pub fetchWith : List ℕ → ℕ → ℕ → Bool → Fetched
-fetchWith longs base at hit =
+abbrev pub fetch_with : List ℕ → ℕ → ℕ → Bool → Fetched
+fetch_with longs base at hit =
     if inside longs base at && not hit then Long (get_or longs ((at - base) / 4) 0) else Failed
 
 -- what asking for the long at `at` gives
-abbrev pub fetchOf : Memory → ℕ → Fetched
-fetchOf m at = fetchWith m.longs m.base at (inRanges m.ranges at)
+abbrev pub fetch_of : Memory → ℕ → Fetched
+fetch_of m at = fetch_with m.longs m.base at (in_ranges m.ranges at)

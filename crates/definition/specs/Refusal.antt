@@ -5,53 +5,53 @@ use Rattle.definition.specs.Cache030.{Cache030}
 use Rattle.definition.specs.Types.{Range, Override}
 
 -- 1: 'family not 30, 40, 60'
-abbrev pub noFamily : ℕ → Bool
-noFamily family = not (eqb family 30 || eqb family 40 || eqb family 60)
+abbrev pub no_family : ℕ → Bool
+no_family family = not (eqb family 30 || eqb family 40 || eqb family 60)
 
 -- 2: 'base not a multiple of 4, or base + 4 x longs above 2^32'
-abbrev pub badBase : Memory → Bool
-badBase m = not (eqb (m.base % 4) 0 && leb (m.base + 4 * length m.longs) (2 ^ 32))
+abbrev pub bad_base : Memory → Bool
+bad_base m = not (eqb (m.base % 4) 0 && leb (m.base + 4 * length m.longs) (2 ^ 32))
 
 -- 2: 'program: a store outside the longs or not aligned', at longs from 0 on
-abbrev pub badStore : List ℕ → ℕ → Bool
-badStore longs address = not (eqb (address % 4) 0 && ltb address (4 * length longs))
+abbrev pub bad_store : List ℕ → ℕ → Bool
+bad_store longs address = not (eqb (address % 4) 0 && ltb address (4 * length longs))
 
 -- 3: 'a range whose first is above its last'
 abbrev pub crossed : Range → Bool
 crossed r = ltb r.last r.first
 
 -- of any of the ranges
-abbrev pub badRange : Memory → Bool
-badRange m = any_of crossed m.ranges
+abbrev pub bad_range : Memory → Bool
+bad_range m = any_of crossed m.ranges
 
 -- 4: '030 cache with most-recent index above 21 or shift above 31'
-abbrev pub badCache : Cache030 → Bool
-badCache c = ltb 21 c.recent || ltb 31 c.shift
+abbrev pub bad_cache : Cache030 → Bool
+bad_cache c = ltb 21 c.recent || ltb 31 c.shift
 
 -- 5: 'override, function code, mask or PTEST level above 7'
-abbrev pub aboveSeven : ℕ → Bool
-aboveSeven n = ltb 7 n
+abbrev pub above_seven : ℕ → Bool
+above_seven n = ltb 7 n
 
 -- of an override
-abbrev pub badOverride : Override → Bool
-badOverride Override.Plain = false
-badOverride (Override.Code code) = aboveSeven code
+abbrev pub bad_override : Override → Bool
+bad_override Override.Plain = false
+bad_override (Override.Code code) = above_seven code
 
 -- 5: '040 page frame of 2^20 or more'
-abbrev pub badFrame : ℕ → Bool
-badFrame frame = leb (2 ^ 20) frame
+abbrev pub bad_frame : ℕ → Bool
+bad_frame frame = leb (2 ^ 20) frame
 
 -- 6: 'PLOAD or PTEST on family 40 or 60'
 abbrev pub not030 : ℕ → Bool
 not030 family = eqb family 40 || eqb family 60
 
 -- how many ranges the program keeps
-abbrev pub mostRanges : ℕ
-mostRanges = 16
+abbrev pub most_ranges : ℕ
+most_ranges = 16
 
 -- 8: 'program: a seventeenth range'
-abbrev pub noRoom : List Range → Bool
-noRoom ranges = leb mostRanges (length ranges)
+abbrev pub no_room : List Range → Bool
+no_room ranges = leb most_ranges (length ranges)
 
 -- what applies to a call, by number. 'Only checks on what a call takes apply to it': the others are false
 pub record Checks : Type 0 where
@@ -78,9 +78,9 @@ abbrev pub check : Bool → ℕ → Check
 check applies number = record { applies = applies; number = number }
 
 -- the number of the first that applies, 0 where none does
-abbrev pub firstThat : List Check → ℕ
-firstThat [] = 0
-firstThat (k ∷ ks) = if k.applies then k.number else firstThat ks
+abbrev pub first_that : List Check → ℕ
+first_that [] = 0
+first_that (k ∷ ks) = if k.applies then k.number else first_that ks
 
 -- 'the order 1, 6, 5, 2, 3, 4, 8'
 abbrev pub ordered : Checks → List Check
@@ -95,9 +95,9 @@ ordered k =
     ∷ []
 
 -- 'Where several apply, the first in the order .. is given; none is given otherwise.'
-unfoldable pub refusalOf : Checks → ℕ
-refusalOf k = firstThat (ordered k)
+unfoldable pub refusal_of : Checks → ℕ
+refusal_of k = first_that (ordered k)
 
 -- a call's answer, or its refusal
 abbrev pub unless : {A : Type 0} → Checks → (ℕ → A) → A → A
-unless k refused answer = if eqb (refusalOf k) 0 then answer else refused (refusalOf k)
+unless k refused answer = if eqb (refusal_of k) 0 then answer else refused (refusal_of k)

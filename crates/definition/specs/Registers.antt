@@ -3,8 +3,8 @@ use Rattle.definition.specs.Words.{ℕ, ◌%◌, Bool, true, false, ◌&&◌, eq
 use Rattle.definition.specs.Types.{Registers, Root, Access, Override}
 
 -- 'Registers', in the order of document 01: the family, the two flags, and 11 longs
-abbrev pub allRegisters : ℕ → Bool → Bool → ℕ → ℕ → ℕ → ℕ → ℕ → ℕ → ℕ → ℕ → ℕ → ℕ → ℕ → Registers
-allRegisters family present enabled tc climit caddress slimit saddress tt0 tt1 itt0 itt1 dtt0 dtt1 =
+abbrev pub all_registers : ℕ → Bool → Bool → ℕ → ℕ → ℕ → ℕ → ℕ → ℕ → ℕ → ℕ → ℕ → ℕ → ℕ → Registers
+all_registers family present enabled tc climit caddress slimit saddress tt0 tt1 itt0 itt1 dtt0 dtt1 =
     record {
       family = family;
       present = present;
@@ -32,36 +32,36 @@ code_of true false = 5
 code_of true true = 6
 
 -- 'An override replaces supervisor by bit 2 ..'
-abbrev pub supervisorBy : Override → Bool → Bool
-supervisorBy Override.Plain supervisor = supervisor
-supervisorBy (Override.Code code) supervisor = bit_of code 2
+abbrev pub supervisor_by : Override → Bool → Bool
+supervisor_by Override.Plain supervisor = supervisor
+supervisor_by (Override.Code code) supervisor = bit_of code 2
 
 -- '.. and instruction by "low two bits are 2".'
-abbrev pub instructionBy : Override → Bool → Bool
-instructionBy Override.Plain instruction = instruction
-instructionBy (Override.Code code) instruction = eqb (code % 4) 2
+abbrev pub instruction_by : Override → Bool → Bool
+instruction_by Override.Plain instruction = instruction
+instruction_by (Override.Code code) instruction = eqb (code % 4) 2
 
 -- an access's privilege, its override taken in
-abbrev pub asSupervisor : Access → Bool
-asSupervisor a = supervisorBy a.code a.supervisor
+abbrev pub as_supervisor : Access → Bool
+as_supervisor a = supervisor_by a.code a.supervisor
 
 -- and whether it is an instruction's
-abbrev pub asInstruction : Access → Bool
-asInstruction a = instructionBy a.code a.instruction
+abbrev pub as_instruction : Access → Bool
+as_instruction a = instruction_by a.code a.instruction
 
 -- 'The 68030 walk uses code 1, 2, 5 or 6 again: overrides 0 and 3 as 1, 4 and 7 as 5.'
-abbrev pub walkCode : Access → ℕ
-walkCode a = code_of (asSupervisor a) (asInstruction a)
+abbrev pub walk_code : Access → ℕ
+walk_code a = code_of (as_supervisor a) (as_instruction a)
 
 -- 'The code compared .. is the override, else from the CPU's own state and instruction'
-abbrev pub comparedBy : Override → Bool → Bool → ℕ
-comparedBy Override.Plain own instruction = code_of own instruction
-comparedBy (Override.Code code) own instruction = code
+abbrev pub compared_by : Override → Bool → Bool → ℕ
+compared_by Override.Plain own instruction = code_of own instruction
+compared_by (Override.Code code) own instruction = code
 
 -- of an access
-abbrev pub comparedCode : Access → ℕ
-comparedCode a = comparedBy a.code a.own a.instruction
+abbrev pub compared_code : Access → ℕ
+compared_code a = compared_by a.code a.own a.instruction
 
 -- 'SRP is used if TC bit 25 is set and code bit 2 is set; else CRP.'
-abbrev pub rootOf : Registers → ℕ → Root
-rootOf g code = if bit_of g.tc 25 && bit_of code 2 then g.srp else g.crp
+abbrev pub root_of : Registers → ℕ → Root
+root_of g code = if bit_of g.tc 25 && bit_of code 2 then g.srp else g.crp

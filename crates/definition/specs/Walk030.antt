@@ -1,7 +1,7 @@
 -- Document 01, 'The 68030 walk': the levels that TC, the address and the code settle, and what walking them finds.
 use Rattle.definition.specs.Words.{ℕ, ◌+◌, ◌-◌, ◌*◌, ◌/◌, ◌%◌, ◌^◌, List, [], ◌∷◌, ◌++◌, Bool, true, false, ◌&&◌, ◌||◌, ltb, leb, eqb, if◌then◌else◌, bit_of}
-use Rattle.definition.specs.Memory.{Memory, fetchOf}
-use Rattle.definition.specs.Registers.{rootOf}
+use Rattle.definition.specs.Memory.{Memory, fetch_of}
+use Rattle.definition.specs.Registers.{root_of}
 use Rattle.definition.specs.Types.{Fetched, Long, Failed, End, Page, Invalid, LevelStop, BusError, Config, Registers, Root, Shift, Bits, NoPage}
 
 -- ---- descriptors
@@ -25,23 +25,23 @@ short_of at (Long first) = Whole (first % 4) first (bit_of first 2) false (at �
 short_of at Failed = Lost at (at ∷ [])
 
 -- '.. long ones two; .. S in bit 8 of the first long of a long one; the address field is the last long', the one at `next`
-abbrev pub onSecond : ℕ → ℕ → ℕ → Fetched → Descriptor
-onSecond first at next (Long second) = Whole (first % 4) second (bit_of first 2) (bit_of first 8) (at ∷ next ∷ [])
-onSecond first at next Failed = Lost next (at ∷ next ∷ [])
+abbrev pub on_second : ℕ → ℕ → ℕ → Fetched → Descriptor
+on_second first at next (Long second) = Whole (first % 4) second (bit_of first 2) (bit_of first 8) (at ∷ next ∷ [])
+on_second first at next Failed = Lost next (at ∷ next ∷ [])
 
 -- by its first long: the second is asked for where the first was given
-abbrev pub longOf : Memory → ℕ → Fetched → Descriptor
-longOf m at (Long first) = onSecond first at (entry_of at 1 false) (fetchOf m (entry_of at 1 false))
-longOf m at Failed = Lost at (at ∷ [])
+abbrev pub long_of : Memory → ℕ → Fetched → Descriptor
+long_of m at (Long first) = on_second first at (entry_of at 1 false) (fetch_of m (entry_of at 1 false))
+long_of m at Failed = Lost at (at ∷ [])
 
 -- the descriptor at `at`, short or long
 unfoldable pub read_of : Memory → ℕ → Bool → Descriptor
-read_of m at long = if long then longOf m at (fetchOf m at) else short_of at (fetchOf m at)
+read_of m at long = if long then long_of m at (fetch_of m at) else short_of at (fetch_of m at)
 
 -- ---- levels
 -- 'the four index widths TIA, TIB, TIC and TID (TC nibbles 15:12 to 3:0)'
-unfoldable pub widthsOf : ℕ → List ℕ
-widthsOf tc = tc / 2 ^ 12 % 16 ∷ tc / 2 ^ 8 % 16 ∷ tc / 2 ^ 4 % 16 ∷ tc % 16 ∷ []
+unfoldable pub widths_of : ℕ → List ℕ
+widths_of tc = tc / 2 ^ 12 % 16 ∷ tc / 2 ^ 8 % 16 ∷ tc / 2 ^ 4 % 16 ∷ tc % 16 ∷ []
 
 -- 'stopping at the first zero'
 abbrev pub used : List ℕ → List ℕ
@@ -53,8 +53,8 @@ abbrev pub is_of : ℕ → ℕ
 is_of tc = tc / 2 ^ 16 % 16
 
 -- 'An index is the address shifted left by (consumed mod 32), bits lost, then right by 32 - width.'
-abbrev pub topIndex : ℕ → ℕ → ℕ → ℕ
-topIndex address consumed width = address * 2 ^ (consumed % 32) % 2 ^ 32 / 2 ^ (32 - width)
+abbrev pub top_index : ℕ → ℕ → ℕ → ℕ
+top_index address consumed width = address * 2 ^ (consumed % 32) % 2 ^ 32 / 2 ^ (32 - width)
 
 -- one level: its index, and the bits consumed after it
 pub record Step : Type 0 where
@@ -65,16 +65,16 @@ pub record Step : Type 0 where
 abbrev pub steps : ℕ → ℕ → List ℕ → List Step
 steps address consumed [] = []
 steps address consumed (w ∷ ws) =
-    record { index = topIndex address consumed w; consumed = consumed + w } ∷ steps address (consumed + w) ws
+    record { index = top_index address consumed w; consumed = consumed + w } ∷ steps address (consumed + w) ws
 
 -- 'TC bit 24 adds a function-code level first, indexed by the code and consuming nothing.'
-abbrev pub stepsWith : Bool → ℕ → ℕ → ℕ → List ℕ → List Step
-stepsWith true code address consumed ws = record { index = code; consumed = consumed } ∷ steps address consumed ws
-stepsWith false code address consumed ws = steps address consumed ws
+abbrev pub steps_with : Bool → ℕ → ℕ → ℕ → List ℕ → List Step
+steps_with true code address consumed ws = record { index = code; consumed = consumed } ∷ steps address consumed ws
+steps_with false code address consumed ws = steps address consumed ws
 
 -- the levels of a walk
 abbrev pub steps_of : ℕ → ℕ → ℕ → List Step
-steps_of tc address code = stepsWith (bit_of tc 24) code address (is_of tc) (used (widthsOf tc))
+steps_of tc address code = steps_with (bit_of tc 24) code address (is_of tc) (used (widths_of tc))
 
 -- ---- walking
 -- what a walk has found so far: WP, S, the levels, the last descriptor's address, and the address of each long that it asked for
@@ -111,33 +111,33 @@ abbrev pub by_kind : {A : Type 0} → ℕ → A → A → A → A
 by_kind kind invalid page table = if eqb kind 1 then page else if ltb kind 2 then invalid else table
 
 -- 'must be type 1, adds its own WP and S even if it isn't .., and counts no level'
-abbrev pub onTarget : ℕ → ℕ → Found → Descriptor → Outcome
-onTarget consumed at f (Lost lost asked) = ended (BusError lost) (asking at asked f)
-onTarget consumed at f (Whole kind field wp sup asked) =
+abbrev pub on_target : ℕ → ℕ → Found → Descriptor → Outcome
+on_target consumed at f (Lost lost asked) = ended (BusError lost) (asking at asked f)
+on_target consumed at f (Whole kind field wp sup asked) =
     ended (if eqb kind 1 then Page field consumed else Invalid true) (guarded wp sup (asking at asked f))
 
 -- 'Types 2 and 3 name the next table, short or long, at field & FFFFFFF0. On the last level they are indirect: the target is at field & FFFFFFFC, in that format' .. '(the indirect one adds none)'
-abbrev pub onTable : Memory → ℕ → ℕ → ℕ → Bool → Bool → Found → List Step → (ℕ → Bool → Found → Outcome) → Outcome
-onTable m consumed kind field wp sup f [] next =
-    onTarget consumed (field / 4 * 4) f (read_of m (field / 4 * 4) (eqb kind 3))
-onTable m consumed kind field wp sup f (step ∷ rest) next = next (field / 16 * 16) (eqb kind 3) (guarded wp sup f)
+abbrev pub on_table : Memory → ℕ → ℕ → ℕ → Bool → Bool → Found → List Step → (ℕ → Bool → Found → Outcome) → Outcome
+on_table m consumed kind field wp sup f [] next =
+    on_target consumed (field / 4 * 4) f (read_of m (field / 4 * 4) (eqb kind 3))
+on_table m consumed kind field wp sup f (step ∷ rest) next = next (field / 16 * 16) (eqb kind 3) (guarded wp sup f)
 
 -- 'The walk ends at the first descriptor that decides'; 'WP and S add up over all but type 0'; 'A failing fetch isn't in N.'
-abbrev pub onDescriptor : Memory → ℕ → ℕ → Found → List Step → (ℕ → Bool → Found → Outcome) → Descriptor → Outcome
-onDescriptor m consumed at f rest next (Lost lost asked) = ended (BusError lost) (asking at asked f)
-onDescriptor m consumed at f rest next (Whole kind field wp sup asked) =
+abbrev pub on_descriptor : Memory → ℕ → ℕ → Found → List Step → (ℕ → Bool → Found → Outcome) → Descriptor → Outcome
+on_descriptor m consumed at f rest next (Lost lost asked) = ended (BusError lost) (asking at asked f)
+on_descriptor m consumed at f rest next (Whole kind field wp sup asked) =
     by_kind kind
     (ended (Invalid false) (deeper (asking at asked f)))
     (ended (Page field consumed) (guarded wp sup (deeper (asking at asked f))))
-    (onTable m consumed kind field wp sup (deeper (asking at asked f)) rest next)
+    (on_table m consumed kind field wp sup (deeper (asking at asked f)) rest next)
 
 -- 'at most that many levels'. No level left does not come up: the last one ends or is indirect
-unfoldable pub walkFrom : Memory → ℕ → List Step → ℕ → Bool → Found → Outcome
-walkFrom m limit [] table long f = ended Config f
-walkFrom m limit (step ∷ rest) table long f =
+unfoldable pub walk_from : Memory → ℕ → List Step → ℕ → Bool → Found → Outcome
+walk_from m limit [] table long f = ended Config f
+walk_from m limit (step ∷ rest) table long f =
     if leb limit f.levels
     then ended LevelStop f
-    else onDescriptor m step.consumed (entry_of table step.index long) f rest (λ t l g. walkFrom m limit rest t l g)
+    else on_descriptor m step.consumed (entry_of table step.index long) f rest (λ t l g. walk_from m limit rest t l g)
     (read_of m (entry_of table step.index long) long)
 
 -- 'the unmasked root address for configuration'
@@ -145,24 +145,24 @@ abbrev pub start : ℕ → Found
 start at = record { wp = false; sup = false; levels = 0; last = at; asked = [] }
 
 -- 'Root type is limit bits 1:0: 2 short, 3 long, 0 or 1 a configuration fault. The table is at address & FFFFFFF0'; 'No level at all is a configuration fault too.'
-abbrev pub walkSteps : Memory → Root → ℕ → List Step → Outcome
-walkSteps m root limit [] = ended Config (start root.address)
-walkSteps m root limit (step ∷ rest) =
+abbrev pub walk_steps : Memory → Root → ℕ → List Step → Outcome
+walk_steps m root limit [] = ended Config (start root.address)
+walk_steps m root limit (step ∷ rest) =
     if ltb (root.limit % 4) 2
     then ended Config (start root.address)
-    else walkFrom m limit (step ∷ rest) (root.address / 16 * 16) (eqb (root.limit % 4) 3) (start root.address)
+    else walk_from m limit (step ∷ rest) (root.address / 16 * 16) (eqb (root.limit % 4) 3) (start root.address)
 
 -- a walk by TC and its root
-abbrev pub outcomeOf : Memory → ℕ → Root → ℕ → ℕ → ℕ → Outcome
-outcomeOf m tc root address code limit = walkSteps m root limit (steps_of tc address code)
+abbrev pub outcome_of : Memory → ℕ → Root → ℕ → ℕ → ℕ → Outcome
+outcome_of m tc root address code limit = walk_steps m root limit (steps_of tc address code)
 
 -- a walk by the registers, of at most so many levels
 abbrev pub walk030 : Memory → Registers → ℕ → ℕ → ℕ → Outcome
-walk030 m g address code limit = outcomeOf m g.tc (rootOf g code) address code limit
+walk030 m g address code limit = outcome_of m g.tc (root_of g code) address code limit
 
 -- as many levels as any walk can have: the function code's and four widths
-abbrev pub everyLevel : ℕ
-everyLevel = 5
+abbrev pub every_level : ℕ
+every_level = 5
 
 -- ---- the physical address
 -- 'the low 32 - consumed bits of the address (0 if consumed is 32 or more)'
@@ -170,8 +170,8 @@ abbrev pub low_of : ℕ → ℕ → ℕ
 low_of address consumed = address % 2 ^ (32 - consumed)
 
 -- 'Physical = (field & FFFFFF00) + the low 32 - consumed bits of the address .., wrapping.'
-abbrev pub physicalOf : ℕ → ℕ → ℕ → ℕ
-physicalOf field consumed address = (field / 256 * 256 + low_of address consumed) % 2 ^ 32
+abbrev pub physical_of : ℕ → ℕ → ℕ → ℕ
+physical_of field consumed address = (field / 256 * 256 + low_of address consumed) % 2 ^ 32
 
 -- ---- the page shift
 -- 'that sum'
@@ -180,9 +180,9 @@ sum_of [] = 0
 sum_of (w ∷ ws) = w + sum_of ws
 
 -- 'The page shift is 32 - (IS + levels up to the first zero) if that sum is 1 to 31; else nothing is cached.'
-abbrev pub shiftFrom : ℕ → Shift
-shiftFrom sum = if leb 1 sum && leb sum 31 then Bits (32 - sum) else NoPage
+abbrev pub shift_from : ℕ → Shift
+shift_from sum = if leb 1 sum && leb sum 31 then Bits (32 - sum) else NoPage
 
 -- the page shift that TC gives
 abbrev pub shift_of : ℕ → Shift
-shift_of tc = shiftFrom (is_of tc + sum_of (used (widthsOf tc)))
+shift_of tc = shift_from (is_of tc + sum_of (used (widths_of tc)))

@@ -1,6 +1,6 @@
 // What a call is given and what it answers: the structs and enums that every crate shares. Their meaning is in specs/.
 ghost use Rattle.std.specs.Prelude.{◌≡◌};
-ghost use Rattle.definition.specs.Answers.{kindNumber, causeNumber};
+ghost use Rattle.definition.specs.Answers.{kind_number, cause_number};
 
 // A root pointer: its limit long, whose low two bits are its type, and its address long.
 #[derive(Drop)]
@@ -212,7 +212,7 @@ pub enum Listed {
 
 // A fault kind's number.
 pub fn kind_number(k: FaultKind) -> u32
-    ensures { result ≡ kindNumber k }
+    ensures { result ≡ kind_number k }
 {
     match k {
         FaultKind::ConfigurationError => 0,
@@ -224,7 +224,7 @@ pub fn kind_number(k: FaultKind) -> u32
 
 // A fault cause's number.
 pub fn cause_number(c: FaultCause) -> u32
-    ensures { result ≡ causeNumber c }
+    ensures { result ≡ cause_number c }
 {
     match c {
         FaultCause::PointerA => 0,

@@ -5,11 +5,11 @@ use Rattle.std.specs.Prelude.{ℕ, Bool, List, [], ◌∷◌}
 use Rattle.definition.specs.Memory.{Memory}
 use Rattle.definition.specs.Translate.{translate}
 use Rattle.definition.specs.Load.{load}
-use Rattle.definition.specs.Flush.{flushAll, flushCode, flushPage, flushFrame}
+use Rattle.definition.specs.Flush.{flush_all, flush_code, flush_page, flush_frame}
 use Rattle.definition.specs.Calls as calls
 use Rattle.definition.specs.Calls.{Call}
 use Rattle.definition.proofs.Replay.{Moment, watched, other}
-use Rattle.definition.proofs.Turns.{Turn, under, turnsOf}
+use Rattle.definition.proofs.Turns.{Turn, under, turns_of}
 use Rattle.definition.specs.declared.Registers.{Registers}
 use Rattle.definition.specs.declared.Access.{Access}
 use Rattle.definition.specs.declared.Translation.{Translation}
@@ -28,12 +28,12 @@ pub data PairPasses (g : Registers) (m : Memory) (x : CachePair) : Call → Cach
       → PairPasses g m x (calls.loading code write address) r.caches
   tests : (code : ℕ) (write : Bool) (level address : ℕ) → PairPasses g m x (calls.testing code write level address) x
   probes : (own instruction write : Bool) (address : ℕ) → PairPasses g m x (calls.probing own instruction write address) x
-  flushesAll : (r : Flushed) → FlushedBy (flushAll (pair_of x)) r → PairPasses g m x calls.flushingAll r.caches
-  flushesCode : (code mask : ℕ) (r : Flushed) → FlushedBy (flushCode code mask (pair_of x)) r
-      → PairPasses g m x (calls.flushingCode code mask) r.caches
-  flushesPage : (code mask address : ℕ) (r : Flushed) → FlushedBy (flushPage code mask address (pair_of x)) r
-      → PairPasses g m x (calls.flushingPage code mask address) r.caches
-  flushesFrame : (frame : ℕ) (r : Flushed) → FlushedBy (flushFrame frame (pair_of x)) r → PairPasses g m x (calls.flushingFrame frame) r.caches
+  flushes_all : (r : Flushed) → FlushedBy (flush_all (pair_of x)) r → PairPasses g m x calls.flushing_all r.caches
+  flushes_code : (code mask : ℕ) (r : Flushed) → FlushedBy (flush_code code mask (pair_of x)) r
+      → PairPasses g m x (calls.flushing_code code mask) r.caches
+  flushes_page : (code mask address : ℕ) (r : Flushed) → FlushedBy (flush_page code mask address (pair_of x)) r
+      → PairPasses g m x (calls.flushing_page code mask address) r.caches
+  flushes_frame : (frame : ℕ) (r : Flushed) → FlushedBy (flush_frame frame (pair_of x)) r → PairPasses g m x (calls.flushing_frame frame) r.caches
 
 -- calls at these turns, from the pair x to the pair y, each under its own registers: the answers that the watched ones gave, in order
 pub data PairLinks : CachePair → List Turn → List Translation → CachePair → Type 0 where
@@ -46,4 +46,4 @@ pub data PairLinks : CachePair → List Turn → List Translation → CachePair 
 
 -- the same at these moments under one set of registers
 pub record PairChain (g : Registers) (x : CachePair) (l : List Moment) (answers : List Translation) (y : CachePair) : Type 0 where
-  pub links : PairLinks x (turnsOf g l) answers y
+  pub links : PairLinks x (turns_of g l) answers y

@@ -1,10 +1,10 @@
 // The four flushes of document 01 in place, over arrays that the caller keeps: all of both caches, by code and mask, by code, mask and page, and a 68040 frame.
 ghost use Rattle.definition.specs.Cache030.{Cache030};
 ghost use Rattle.definition.specs.Cache040.{Cache040};
-ghost use Rattle.definition.specs.Flush.{flushAll, flushCode, flushPage, flushFrame};
-ghost use Rattle.cache.specs.Atc030.{cacheOf};
-ghost use Rattle.cache.specs.Atc040.{cache040Of};
-ghost use Rattle.cache.specs.Pair.{cachesOf, pairWith};
+ghost use Rattle.definition.specs.Flush.{flush_all, flush_code, flush_page, flush_frame};
+ghost use Rattle.cache.specs.Atc030.{cache_of};
+ghost use Rattle.cache.specs.Atc040.{cache040_of};
+ghost use Rattle.cache.specs.Pair.{caches_of, pair_with};
 ghost use Rattle.flush.specs.Flushed.{FlushedIn, FlushedIn030, FlushedIn040};
 
 use cache::atc030::Atc030;
@@ -14,7 +14,7 @@ use definition::Flush;
 
 // Empties both caches that the caller keeps.
 pub fn flush_all_in(c030: &mut Atc030, c040: &mut Atc040) -> Flush
-    ensures { FlushedIn (flushAll (cachesOf c030.old c040.old)) result c030.new c040.new }
+    ensures { FlushedIn (flush_all (caches_of c030.old c040.old)) result c030.new c040.new }
 {
     checks::lengths(c030, c040);
     let four = atc030::bad_cache(c030);
@@ -29,7 +29,7 @@ pub fn flush_all_in(c030: &mut Atc030, c040: &mut Atc040) -> Flush
 
 // Drops the entries whose code agrees on the mask's bits.
 pub fn flush_code_in(c030: &mut Atc030, code: u32, mask: u32) -> Flush
-    ensures { (k : Cache040) → FlushedIn030 (flushCode code mask (pairWith (cacheOf c030.old) k)) k result c030.new }
+    ensures { (k : Cache040) → FlushedIn030 (flush_code code mask (pair_with (cache_of c030.old) k)) k result c030.new }
 {
     checks::sized(c030);
     let four = atc030::bad_cache(c030);
@@ -43,7 +43,7 @@ pub fn flush_code_in(c030: &mut Atc030, code: u32, mask: u32) -> Flush
 
 // Drops those of them whose page is the address's.
 pub fn flush_page_in(c030: &mut Atc030, code: u32, mask: u32, address: u32) -> Flush
-    ensures { (k : Cache040) → FlushedIn030 (flushPage code mask address (pairWith (cacheOf c030.old) k)) k result c030.new }
+    ensures { (k : Cache040) → FlushedIn030 (flush_page code mask address (pair_with (cache_of c030.old) k)) k result c030.new }
 {
     checks::sized(c030);
     let four = atc030::bad_cache(c030);
@@ -57,7 +57,7 @@ pub fn flush_page_in(c030: &mut Atc030, code: u32, mask: u32, address: u32) -> F
 
 // Drops a 68040 frame for either privilege.
 pub fn flush_frame_in(c040: &mut Atc040, frame: u32) -> Flush
-    ensures { (c : Cache030) → FlushedIn040 (flushFrame frame (pairWith c (cache040Of c040.old))) c result c040.new }
+    ensures { (c : Cache030) → FlushedIn040 (flush_frame frame (pair_with c (cache040_of c040.old))) c result c040.new }
 {
     checks::sized(c040);
     let n = checks::first_refusal(false, false, checks::bad_frame(frame), false, false, false);

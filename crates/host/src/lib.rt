@@ -5,16 +5,16 @@ ghost use Rattle.std.specs.Prelude.{◌≡◌};
 ghost use Rattle.definition.specs.Words.{bit_of};
 ghost use Rattle.definition.specs.Cache030.{Cache030};
 ghost use Rattle.definition.specs.Cache040.{Cache040};
-ghost use Rattle.definition.specs.Translate.{emptyCaches, translate as translateOf};
+ghost use Rattle.definition.specs.Translate.{empty_caches, translate as translateOf};
 ghost use Rattle.definition.specs.Load.{load as load_of};
 ghost use Rattle.definition.specs.Test.{test as test_of};
 ghost use Rattle.definition.specs.Memory.{memory};
 ghost use Rattle.definition.specs.Probe.{probe as probeOf};
-ghost use Rattle.definition.specs.Flush.{flushAll, flushCode, flushPage, flushFrame};
-ghost use Rattle.cache.specs.Atc030.{cacheOf};
-ghost use Rattle.cache.specs.Atc040.{cache040Of};
-ghost use Rattle.cache.specs.Pair.{cachesOf, pairWith};
-ghost use Rattle.numbers.specs.Numbers.{registersOf, accessOf, probeNumbers, TranslatedTo, LoadedTo, testedNumbers, FlushedTo};
+ghost use Rattle.definition.specs.Flush.{flush_all, flush_code, flush_page, flush_frame};
+ghost use Rattle.cache.specs.Atc030.{cache_of};
+ghost use Rattle.cache.specs.Atc040.{cache040_of};
+ghost use Rattle.cache.specs.Pair.{caches_of, pair_with};
+ghost use Rattle.numbers.specs.Numbers.{registers_of, access_of, probe_numbers, TranslatedTo, LoadedTo, tested_numbers, FlushedTo};
 
 use cache::atc030::Atc030;
 use cache::atc040::Atc040;
@@ -27,7 +27,7 @@ use numbers::{
 // The empty caches: every number 0.
 #[unsafe(no_mangle)]
 pub extern "C" fn mmu_empty(c030: &mut Atc030, c040: &mut Atc040)
-    ensures { cachesOf c030.new c040.new ≡ emptyCaches }
+    ensures { caches_of c030.new c040.new ≡ empty_caches }
 {
     *c030 = [0; 69];
     *c040 = [0; 128];
@@ -47,7 +47,7 @@ pub extern "C" fn mmu_translate(
     address: u32,
     out: &mut [u32; 5],
 )
-    ensures { TranslatedTo (translateOf (registersOf registers.now) (accessOf flags code address) (memory longs.now base ranges.now) (cachesOf c030.old c040.old)) out.new (cachesOf c030.new c040.new) }
+    ensures { TranslatedTo (translateOf (registers_of registers.now) (access_of flags code address) (memory longs.now base ranges.now) (caches_of c030.old c040.old)) out.new (caches_of c030.new c040.new) }
 {
     let g = registers_of(registers);
     let a = access_of(flags, code, address);
@@ -69,7 +69,7 @@ pub extern "C" fn mmu_load(
     address: u32,
     out: &mut [u32; 5],
 )
-    ensures { (k : Cache040) → LoadedTo (load_of (registersOf registers.now) code write address (memory longs.now base ranges.now) (pairWith (cacheOf c030.old) k)) out.new (cacheOf c030.new) }
+    ensures { (k : Cache040) → LoadedTo (load_of (registers_of registers.now) code write address (memory longs.now base ranges.now) (pair_with (cache_of c030.old) k)) out.new (cache_of c030.new) }
 {
     let g = registers_of(registers);
     let crossed = any_crossed(ranges);
@@ -90,7 +90,7 @@ pub extern "C" fn mmu_test(
     address: u32,
     out: &mut [u32; 5],
 )
-    ensures { out.new ≡ testedNumbers (test_of (registersOf registers.now) code write level address (memory longs.now base ranges.now)) }
+    ensures { out.new ≡ tested_numbers (test_of (registers_of registers.now) code write level address (memory longs.now base ranges.now)) }
 {
     let g = registers_of(registers);
     let crossed = any_crossed(ranges);
@@ -108,7 +108,7 @@ pub extern "C" fn mmu_probe(
     address: u32,
     out: &mut [u32; 5],
 )
-    ensures { out.new ≡ probeNumbers (probeOf (registersOf registers.now) (bit_of flags 3) (bit_of flags 2) (bit_of flags 0) address (cachesOf c030.now c040.now)) }
+    ensures { out.new ≡ probe_numbers (probeOf (registers_of registers.now) (bit_of flags 3) (bit_of flags 2) (bit_of flags 0) address (caches_of c030.now c040.now)) }
 {
     let g = registers_of(registers);
     let own = memory::bits::bit(flags, 3);
@@ -121,7 +121,7 @@ pub extern "C" fn mmu_probe(
 // Empties both caches.
 #[unsafe(no_mangle)]
 pub extern "C" fn mmu_flush_all(c030: &mut Atc030, c040: &mut Atc040) -> u32
-    ensures { FlushedTo (flushAll (cachesOf c030.old c040.old)) result (cachesOf c030.new c040.new) }
+    ensures { FlushedTo (flush_all (caches_of c030.old c040.old)) result (caches_of c030.new c040.new) }
 {
     let f = flush::flush_all_in(c030, c040);
     flush_number(f)
@@ -130,7 +130,7 @@ pub extern "C" fn mmu_flush_all(c030: &mut Atc030, c040: &mut Atc040) -> u32
 // Drops the 68030 entries whose code agrees on the mask's bits.
 #[unsafe(no_mangle)]
 pub extern "C" fn mmu_flush_code(c030: &mut Atc030, code: u32, mask: u32) -> u32
-    ensures { (k : Cache040) → FlushedTo (flushCode code mask (pairWith (cacheOf c030.old) k)) result (pairWith (cacheOf c030.new) k) }
+    ensures { (k : Cache040) → FlushedTo (flush_code code mask (pair_with (cache_of c030.old) k)) result (pair_with (cache_of c030.new) k) }
 {
     let f = flush::flush_code_in(c030, code, mask);
     flush_number(f)
@@ -139,7 +139,7 @@ pub extern "C" fn mmu_flush_code(c030: &mut Atc030, code: u32, mask: u32) -> u32
 // Drops those of them whose page is the address's.
 #[unsafe(no_mangle)]
 pub extern "C" fn mmu_flush_page(c030: &mut Atc030, code: u32, mask: u32, address: u32) -> u32
-    ensures { (k : Cache040) → FlushedTo (flushPage code mask address (pairWith (cacheOf c030.old) k)) result (pairWith (cacheOf c030.new) k) }
+    ensures { (k : Cache040) → FlushedTo (flush_page code mask address (pair_with (cache_of c030.old) k)) result (pair_with (cache_of c030.new) k) }
 {
     let f = flush::flush_page_in(c030, code, mask, address);
     flush_number(f)
@@ -148,7 +148,7 @@ pub extern "C" fn mmu_flush_page(c030: &mut Atc030, code: u32, mask: u32, addres
 // Drops a 68040 frame for either privilege.
 #[unsafe(no_mangle)]
 pub extern "C" fn mmu_flush_frame(c040: &mut Atc040, frame: u32) -> u32
-    ensures { (c : Cache030) → FlushedTo (flushFrame frame (pairWith c (cache040Of c040.old))) result (pairWith c (cache040Of c040.new)) }
+    ensures { (c : Cache030) → FlushedTo (flush_frame frame (pair_with c (cache040_of c040.old))) result (pair_with c (cache040_of c040.new)) }
 {
     let f = flush::flush_frame_in(c040, frame);
     flush_number(f)

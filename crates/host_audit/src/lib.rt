@@ -3,9 +3,9 @@
 // A call that is lent the ranges is thin: its proof is a walk by hand, which tools/ prints.
 ghost use Rattle.std.specs.Prelude.{◌≡◌};
 ghost use Rattle.definition.specs.Memory.{memory};
-ghost use Rattle.definition.specs.Audit.{auditFrom, finding as findingOf};
-ghost use Rattle.cache.specs.Pair.{cachesOf};
-ghost use Rattle.numbers.specs.Numbers.{registersOf, auditNumbers, findingNumbers};
+ghost use Rattle.definition.specs.Audit.{audit_from, finding as findingOf};
+ghost use Rattle.cache.specs.Pair.{caches_of};
+ghost use Rattle.numbers.specs.Numbers.{registers_of, audit_numbers, finding_numbers};
 
 use audit::finding;
 use cache::atc030::Atc030;
@@ -25,7 +25,7 @@ pub extern "C" fn mmu_audit(
     from: u32,
     out: &mut [u32; 5],
 )
-    ensures { out.new ≡ auditNumbers (auditFrom (registersOf registers.now) (memory longs.now base ranges.now) (cachesOf c030.now c040.now) from) }
+    ensures { out.new ≡ audit_numbers (audit_from (registers_of registers.now) (memory longs.now base ranges.now) (caches_of c030.now c040.now) from) }
 {
     let g = registers_of(registers);
     let a = audit::audit_lent(c030, c040, longs, base, ranges, g, from);
@@ -45,7 +45,7 @@ pub extern "C" fn mmu_finding(
     write: bool,
     out: &mut [u32; 10],
 )
-    ensures { out.new ≡ findingNumbers (findingOf (registersOf registers.now) (memory longs.now base ranges.now) (cachesOf c030.now c040.now) index write) }
+    ensures { out.new ≡ finding_numbers (findingOf (registers_of registers.now) (memory longs.now base ranges.now) (caches_of c030.now c040.now) index write) }
 {
     let g = registers_of(registers);
     let f = finding::finding_lent(c030, c040, longs, base, ranges, g, index, write);

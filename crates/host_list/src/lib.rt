@@ -3,16 +3,16 @@
 ghost use Rattle.std.specs.Prelude.{◌≡◌, length};
 ghost use Rattle.definition.specs.Memory.{memory};
 ghost use Rattle.definition.specs.List.{list as list_of};
-ghost use Rattle.list.specs.Numbers.{pairsOf};
-ghost use Rattle.numbers.specs.Numbers.{registersOf};
-ghost use Rattle.host_list.specs.Numbers.{listNumbers, ListedAs};
+ghost use Rattle.list.specs.Numbers.{pairs_of};
+ghost use Rattle.numbers.specs.Numbers.{registers_of};
+ghost use Rattle.host_list.specs.Numbers.{list_numbers, ListedAs};
 
 use definition::Listed;
 use numbers::registers_of;
 
 // A list's: 0 where all are listed, 1 with the address to go on from; and how many were written.
 fn tell_list(answer: &mut [u64; 3], l: Listed)
-    ensures { answer.new ≡ listNumbers l }
+    ensures { answer.new ≡ list_numbers l }
 {
     match l {
         Listed::All(count) => {
@@ -40,7 +40,7 @@ pub extern "C" fn mmu_list(
     out: &mut [u64],
     answer: &mut [u64; 3],
 )
-    ensures { ListedAs (list_of (registersOf registers.now) (memory longs.now base (pairsOf ranges.now)) code from (length out.old)) out.old out.new answer.new }
+    ensures { ListedAs (list_of (registers_of registers.now) (memory longs.now base (pairs_of ranges.now)) code from (length out.old)) out.old out.new answer.new }
 {
     let g = registers_of(registers);
     let l = list::list(longs, base, ranges, g, code, from, out);

@@ -18,19 +18,19 @@ use Rattle.definition.specs.declared.Access.{Access}
 use Rattle.definition.specs.declared.Translation.{Translation}
 use Rattle.definition.specs.declared.Load.{Load}
 use Rattle.definition.specs.declared.Test.{Test}
-use Rattle.cache.specs.Pair.{pairWith}
-use Rattle.translate.specs.Stages.{translateGiven, shownTranslated}
+use Rattle.cache.specs.Pair.{pair_with}
+use Rattle.translate.specs.Stages.{translate_given, shown_translated}
 use Rattle.translate.specs.InPlace.{AnsweredIn}
-use Rattle.load.specs.Loaded.{loadGiven, shownLoaded, LoadedIn}
-use Rattle.test.specs.Tested.{testGiven, shownTested, TestedIn}
-use Rattle.kept.specs.Front.{ofSixteen}
+use Rattle.load.specs.Loaded.{load_given, shown_loaded, LoadedIn}
+use Rattle.test.specs.Tested.{test_given, shown_tested, TestedIn}
+use Rattle.kept.specs.Front.{of_sixteen}
 
 -- the first n of sixteen
-module _ {X : Type 0} (n : ℕ) (xs : List X) (l : length xs ≡ 16) {k : ℕ} (e : k ≡ ofSixteen n) where
+module _ {X : Type 0} (n : ℕ) (xs : List X) (l : length xs ≡ 16) {k : ℕ} (e : k ≡ of_sixteen n) where
   few : k ≤ 16
   few = rw e (go (dec_le n 16))
     where
-      go : Dec (n ≤ 16) → ofSixteen n ≤ 16
+      go : Dec (n ≤ 16) → of_sixteen n ≤ 16
       go (yes h) = rw (le-leb n 16 h) h
       go (no h) = rw (lt-leb n 16 (omega arith)) (omega arith)
 
@@ -43,23 +43,23 @@ module _ {X : Type 0} (n : ℕ) (xs : List X) (l : length xs ≡ 16) {k : ℕ} (
   pub firsts : take k xs ≡ take n xs
   firsts = rw e (go (dec_le n 16))
     where
-      go : Dec (n ≤ 16) → take (ofSixteen n) xs ≡ take n xs
+      go : Dec (n ≤ 16) → take (of_sixteen n) xs ≡ take n xs
       go (yes h) = rw (le-leb n 16 h)
       go (no h) = rw (lt-leb n 16 (omega arith)) (take_all 16 xs (omega arith) ∙ sym (take_all n xs (omega arith)))
 
 -- a call over the same ranges
 module _ (longs : List ℕ) (base : ℕ) {xs ys : List Range} (e : xs ≡ ys) (crossed : Bool) (g : Registers) where
   pub translates : (a : Access) (c : Caches) {t : Translation} {n : ℕ} {c030 c040 : List ℕ}
-      → AnsweredIn (shownTranslated (translateGiven crossed g a (memory longs base xs) c)) t n c030 c040
-      → AnsweredIn (shownTranslated (translateGiven crossed g a (memory longs base ys) c)) t n c030 c040
+      → AnsweredIn (shown_translated (translate_given crossed g a (memory longs base xs) c)) t n c030 c040
+      → AnsweredIn (shown_translated (translate_given crossed g a (memory longs base ys) c)) t n c030 c040
   translates a c k = rw (← e) k
 
   pub loads : (code : ℕ) (write : Bool) (address : ℕ) (c : Cache030) {l : Load} {n : ℕ} {c030 : List ℕ}
-      → ((k : Cache040) → LoadedIn (shownLoaded (loadGiven crossed g code write address (memory longs base xs) (pairWith c k))) l n c030)
-      → (k : Cache040) → LoadedIn (shownLoaded (loadGiven crossed g code write address (memory longs base ys) (pairWith c k))) l n c030
+      → ((k : Cache040) → LoadedIn (shown_loaded (load_given crossed g code write address (memory longs base xs) (pair_with c k))) l n c030)
+      → (k : Cache040) → LoadedIn (shown_loaded (load_given crossed g code write address (memory longs base ys) (pair_with c k))) l n c030
   loads code write address c f k = rw (← e) (f k)
 
   pub tests : (code : ℕ) (write : Bool) (level address : ℕ) {t : Test} {n : ℕ}
-      → TestedIn (shownTested (testGiven crossed g code write level address (memory longs base xs))) t n
-      → TestedIn (shownTested (testGiven crossed g code write level address (memory longs base ys))) t n
+      → TestedIn (shown_tested (test_given crossed g code write level address (memory longs base xs))) t n
+      → TestedIn (shown_tested (test_given crossed g code write level address (memory longs base ys))) t n
   tests code write level address k = rw (← e) k

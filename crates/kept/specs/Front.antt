@@ -2,5 +2,5 @@
 use Rattle.std.specs.Prelude.{ℕ, leb}
 use Rattle.definition.specs.Words.{if◌then◌else◌}
 
-abbrev pub ofSixteen : ℕ → ℕ
-ofSixteen n = if leb n 16 then n else 16
+abbrev pub of_sixteen : ℕ → ℕ
+of_sixteen n = if leb n 16 then n else 16

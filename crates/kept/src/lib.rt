@@ -9,13 +9,13 @@ ghost use Rattle.definition.specs.Walk030.{walk030};
 ghost use Rattle.definition.specs.Walk040.{walk040};
 ghost use Rattle.walk030.specs.Walked.{shown};
 ghost use Rattle.walk040.specs.Walked.{shown040};
-ghost use Rattle.cache.specs.Atc030.{cacheOf};
-ghost use Rattle.cache.specs.Pair.{cachesOf, pairWith};
-ghost use Rattle.translate.specs.Stages.{translateGiven, shownTranslated};
+ghost use Rattle.cache.specs.Atc030.{cache_of};
+ghost use Rattle.cache.specs.Pair.{caches_of, pair_with};
+ghost use Rattle.translate.specs.Stages.{translate_given, shown_translated};
 ghost use Rattle.translate.specs.InPlace.{AnsweredIn};
-ghost use Rattle.load.specs.Loaded.{loadGiven, shownLoaded, LoadedIn};
-ghost use Rattle.test.specs.Tested.{testGiven, shownTested, TestedIn};
-ghost use Rattle.kept.specs.Front.{ofSixteen};
+ghost use Rattle.load.specs.Loaded.{load_given, shown_loaded, LoadedIn};
+ghost use Rattle.test.specs.Tested.{test_given, shown_tested, TestedIn};
+ghost use Rattle.kept.specs.Front.{of_sixteen};
 
 use cache::atc030::Atc030;
 use cache::atc040::Atc040;
@@ -29,7 +29,7 @@ use walk040::Walked040;
 
 // All sixteen where `n` is above 16.
 pub fn of_sixteen(n: usize) -> usize
-    ensures { result ≡ ofSixteen n }
+    ensures { result ≡ of_sixteen n }
 {
     if n <= 16 {
         return n;
@@ -57,7 +57,7 @@ pub fn translate(
     g: Registers,
     a: Access,
 ) -> Outcome
-    ensures { AnsweredIn (shownTranslated (translateGiven crossed g a (memory longs.now base (take n list)) (cachesOf c030.old c040.old))) result.answer result.count c030.new c040.new }
+    ensures { AnsweredIn (shown_translated (translate_given crossed g a (memory longs.now base (take n list)) (caches_of c030.old c040.old))) result.answer result.count c030.new c040.new }
 {
     let m = of_sixteen(n);
     translate::translate(c030, c040, longs, base, &list[..m], crossed, g, a)
@@ -76,7 +76,7 @@ pub fn load(
     write: bool,
     address: u32,
 ) -> LoadOutcome
-    ensures { (k : Cache040) → LoadedIn (shownLoaded (loadGiven crossed g code write address (memory longs.now base (take n list)) (pairWith (cacheOf c030.old) k))) result.answer result.count c030.new }
+    ensures { (k : Cache040) → LoadedIn (shown_loaded (load_given crossed g code write address (memory longs.now base (take n list)) (pair_with (cache_of c030.old) k))) result.answer result.count c030.new }
 {
     let m = of_sixteen(n);
     load::load(
@@ -105,7 +105,7 @@ pub fn test(
     level: u32,
     address: u32,
 ) -> TestOutcome
-    ensures { TestedIn (shownTested (testGiven crossed g code write level address (memory longs.now base (take n list)))) result.answer result.count }
+    ensures { TestedIn (shown_tested (test_given crossed g code write level address (memory longs.now base (take n list)))) result.answer result.count }
 {
     let m = of_sixteen(n);
     test::test(

@@ -11,13 +11,13 @@ use lib.Dec.{eqb, lit<}
 use lib.Pow.{pow-add, pow_pos, pow_mono, shl_exact, shr_lt, split}
 use lib.ListN.{length, get_or, drop, drop_of_length-le, get_or-eq_default}
 use lib.Seq.{drop-cons}
-use Rattle.definition.specs.Walk030.{widthsOf, used, sum_of}
-use Rattle.definition.specs.List.{entry_at, noneLeft, rootTable, codeEntry}
+use Rattle.definition.specs.Walk030.{widths_of, used, sum_of}
+use Rattle.definition.specs.List.{entry_at, none_left, root_table, code_entry}
 use Rattle.definition.specs.declared.Root.{Root}
 use Rattle.definition.specs.declared.Node.{Node}
 use Rattle.memory.proofs.Widths.{width_small}
 use Rattle.definition.proofs.Stretches.{Aligned, stretch, Fits}
-use Rattle.definition.proofs.Mapping.{used-fits}
+use Rattle.definition.proofs.Mapping.{used_fits}
 use Rattle.list.specs.Writing.{Placed}
 
 -- ---- a level, or none
@@ -29,8 +29,8 @@ there ws k n = go (dec_le (length ws) k)
     go (yes h) = absurd (n (get_or-eq_default ws 0 h))
     go (no h) = omega arith
 
-pub no-level : (ws : List ℕ) (k : ℕ) → get_or ws k 0 ≡ 0 → used (drop k ws) ≡ []
-no-level ws k z = go (dec_le (length ws) k)
+pub no_level : (ws : List ℕ) (k : ℕ) → get_or ws k 0 ≡ 0 → used (drop k ws) ≡ []
+no_level ws k z = go (dec_le (length ws) k)
   where
     go : Dec (length ws ≤ k) → used (drop k ws) ≡ []
     go (yes h) = rw (drop_of_length-le ws {i = k} h)
@@ -40,13 +40,13 @@ pub level : (ws : List ℕ) (k : ℕ) → (get_or ws k 0 ≡ 0 → ⊥) → used
 level ws k n =
     ap used (drop-cons ws k 0 (there ws k n)) ∙ rw (ne_eqb (get_or ws k 0) 0 n) (ap (λ (j : ℕ). get_or ws k 0 ∷ used (drop j ws)) (sym (add-one k)))
 
-pub last-is : (ws : List ℕ) (k : ℕ) → eqb (get_or ws k 0) 0 ≡ noneLeft (used (drop k ws))
-last-is ws k = go (dec_le (get_or ws k 0) 0)
+pub last_is : (ws : List ℕ) (k : ℕ) → eqb (get_or ws k 0) 0 ≡ none_left (used (drop k ws))
+last_is ws k = go (dec_le (get_or ws k 0) 0)
   where
-    go : Dec (get_or ws k 0 ≤ 0) → eqb (get_or ws k 0) 0 ≡ noneLeft (used (drop k ws))
+    go : Dec (get_or ws k 0 ≤ 0) → eqb (get_or ws k 0) 0 ≡ none_left (used (drop k ws))
     go (yes h) =
         let z : get_or ws k 0 ≡ 0 = omega arith in
-        rw (eq-eqb (get_or ws k 0) 0 z, no-level ws k z)
+        rw (eq-eqb (get_or ws k 0) 0 z, no_level ws k z)
     go (no h) =
         let n : get_or ws k 0 ≡ 0 → ⊥ = λ z. omega arith in
         rw (ne_eqb (get_or ws k 0) 0 n, level ws k n)
@@ -73,11 +73,11 @@ most ws k n p =
     let h = p.fits in
     omega arith
 
-pub its-stretch : (ws : List ℕ) (k : ℕ) (n : Node) → Placed ws k n → Aligned n.first n.consumed
-its-stretch ws k n p = aligned n.first n.consumed p.low (most ws k n p) p.aligned
+pub its_stretch : (ws : List ℕ) (k : ℕ) (n : Node) → Placed ws k n → Aligned n.first n.consumed
+its_stretch ws k n p = aligned n.first n.consumed p.low (most ws k n p) p.aligned
 
-pub its-levels : (ws : List ℕ) (k : ℕ) (n : Node) → Placed ws k n → Fits (used (drop k ws)) n.consumed
-its-levels ws k n p = used-fits (drop k ws) n.consumed p.fits
+pub its_levels : (ws : List ℕ) (k : ℕ) (n : Node) → Placed ws k n → Fits (used (drop k ws)) n.consumed
+its_levels ws k n p = used_fits (drop k ws) n.consumed p.fits
 
 -- an entry of a table stands as the table does, one level further
 pub record Below (ws : List ℕ) (k : ℕ) (t : Node) (w i : ℕ) : Type 0 where
@@ -92,7 +92,7 @@ below ws k t w n i p e some size h =
     let sums : sum_of (used (drop k ws)) ≡ get_or ws k 0 + sum_of (used (drop (k + 1) ws)) = ap sum_of (level ws k some') in
     let f = p.fits in
     let fits : t.consumed + w ≤ 32 = omega arith in
-    let st = stretch t.first t.consumed w i (its-stretch ws k t p) fits (rw size at h) in
+    let st = stretch t.first t.consumed w i (its_stretch ws k t p) fits (rw size at h) in
     let top = st.aligned.top in
     let pos = pow_pos (32 - (t.consumed + w)) in
     let low : t.first + i * 2 ^ (32 - (t.consumed + w)) < 2 ^ 32 = omega arith in
@@ -119,8 +119,8 @@ pub opened : (ws : List ℕ) (k : ℕ) (e t : Node) → (t.first ≡ e.first) ×
 opened ws k e t h p = record { narrow = p.narrow; fits = rw h.1 p.fits; low = rw h.0 p.low; aligned = rw (h.0, h.1) p.aligned }
 
 -- the root's table, and the code's entry of it
-at-root : (tc : ℕ) (ws : List ℕ) (n : Node) → ws ≡ widthsOf tc → sum_of (used (widthsOf tc)) ≤ 32 → (n.first ≡ 0) × (n.consumed ≡ 0) → Placed ws 0 n
-at-root tc ws n e h z =
+at_root : (tc : ℕ) (ws : List ℕ) (n : Node) → ws ≡ widths_of tc → sum_of (used (widths_of tc)) ≤ 32 → (n.first ≡ 0) × (n.consumed ≡ 0) → Placed ws 0 n
+at_root tc ws n e h z =
     record {
       narrow = λ k. rw e (width_small tc k);
       fits = rw (z.1, e) (omega arith);
@@ -128,12 +128,12 @@ at-root tc ws n e h z =
       aligned = rw (z.0, z.1) refl;
     }
 
-pub root-placed : (tc : ℕ) (ws : List ℕ) (root : Root) (t : Node) → ws ≡ widthsOf tc → sum_of (used (widthsOf tc)) ≤ 32 → t ≡ rootTable root → Placed ws 0 t
-root-placed tc ws root t e h is = at-root tc ws t e h (rw is refl, rw is refl)
+pub root_placed : (tc : ℕ) (ws : List ℕ) (root : Root) (t : Node) → ws ≡ widths_of tc → sum_of (used (widths_of tc)) ≤ 32 → t ≡ root_table root → Placed ws 0 t
+root_placed tc ws root t e h is = at_root tc ws t e h (rw is refl, rw is refl)
 
-pub code-placed : (tc : ℕ) (ws : List ℕ) (root : Root) (t : Node) (code : ℕ) (n : Node) → ws ≡ widthsOf tc → sum_of (used (widthsOf tc)) ≤ 32 → t ≡ rootTable root
-    → n ≡ codeEntry t code → Placed ws 0 n
-code-placed tc ws root t code n e h is its = at-root tc ws n e h (rw (its, is) refl, rw (its, is) refl)
+pub code_placed : (tc : ℕ) (ws : List ℕ) (root : Root) (t : Node) (code : ℕ) (n : Node) → ws ≡ widths_of tc → sum_of (used (widths_of tc)) ≤ 32 → t ≡ root_table root
+    → n ≡ code_entry t code → Placed ws 0 n
+code_placed tc ws root t code n e h is its = at_root tc ws n e h (rw (its, is) refl, rw (its, is) refl)
 
 -- ---- arithmetic of the code's shifts
 pub past : (ws : List ℕ) (k : ℕ) → length ws ≡ 4 → 4 ≤ k → 0 ≡ get_or ws k 0
@@ -149,8 +149,8 @@ size_of c =
     let m = pow_mono {i = 32 - c} {j = 32} (omega arith) in
     (e ∙ o, omega arith)
 
-pub entries-are : (w : ℕ) → w < 16 → 1 * 2 ^ w % 2 ^ 32 ≡ 2 ^ w
-entries-are w h =
+pub entries_are : (w : ℕ) → w < 16 → 1 * 2 ^ w % 2 ^ 32 ≡ 2 ^ w
+entries_are w h =
     let e : 1 * 2 ^ w % 2 ^ 32 ≡ 1 * 2 ^ w = shl_exact 1 w 32 (lit< tt) (omega arith) in
     let o : 1 * 2 ^ w ≡ 2 ^ w = omega arith in
     e ∙ o

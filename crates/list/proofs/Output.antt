@@ -10,30 +10,30 @@ use lib.Dec.{ltb}
 use lib.ListN.{length, set, take, drop, length-drop, length-set, length-map, take-append-drop}
 use lib.Seq.{length-take-le, take-suc-set, drop-set-lt, append_snoc, drop-length}
 use Rattle.definition.specs.Words.{if◌then◌else◌}
-use Rattle.definition.specs.List.{gather, end_of, rangesFrom, room_for}
+use Rattle.definition.specs.List.{gather, end_of, ranges_from, room_for}
 use Rattle.definition.specs.declared.Mapped.{Mapped}
 use Rattle.list.specs.Numbers.{number_of, ListedTo}
 use Rattle.list.specs.Writing.{Written, written, begun, put, puts, answer_of}
 use Rattle.list.specs.declared.writing.Progress.{Progress}
 
 -- ---- one after the other
-pub puts-append : (xs ys : List Mapped) (l : Written) → puts (xs ++ ys) l ≡ puts ys (puts xs l)
+pub puts_append : (xs ys : List Mapped) (l : Written) → puts (xs ++ ys) l ≡ puts ys (puts xs l)
 unfolding puts
-puts-append [] ys l = refl
-puts-append (x ∷ xs) ys l = puts-append xs ys (put x l)
+puts_append [] ys l = refl
+puts_append (x ∷ xs) ys l = puts_append xs ys (put x l)
 
 put_full : (x : Mapped) (l : Written) → l.full ≡ true → put x l ≡ l
 unfolding put
 put_full x l h = rw h
 
-puts-full : (xs : List Mapped) (l : Written) → l.full ≡ true → puts xs l ≡ l
+puts_full : (xs : List Mapped) (l : Written) → l.full ≡ true → puts xs l ≡ l
 unfolding puts
-puts-full [] l h = refl
-puts-full (x ∷ xs) l h = rw (put_full x l h) (puts-full xs l h)
+puts_full [] l h = refl
+puts_full (x ∷ xs) l h = rw (put_full x l h) (puts_full xs l h)
 
-gather-more : (f : ℕ → List Mapped) (i n : ℕ) → i < n → gather f i (n - i) ≡ f i ++ gather f (i + 1) (n - (i + 1))
+gather_more : (f : ℕ → List Mapped) (i n : ℕ) → i < n → gather f i (n - i) ≡ f i ++ gather f (i + 1) (n - (i + 1))
 unfolding gather
-gather-more f i n h =
+gather_more f i n h =
     let e : n - i ≡ suc (n - (i + 1)) = omega arith in
     rw (e, add-one)
 
@@ -48,7 +48,7 @@ begins f n l = record { upto = omega arith; same = ap (λ (m : ℕ). puts (gathe
 pub goes : (f : ℕ → List Mapped) (n : ℕ) (whole : Written) (i : ℕ) (l l' : Written) → Going f n whole i l → i < n → l' ≡ puts (f i) l
     → Going f n whole (i + 1) l'
 goes f n whole i l l' g h e =
-    record { upto = omega arith; same = rw (e, ← puts-append (f i) (gather f (i + 1) (n - (i + 1))) l, ← gather-more f i n h) g.same }
+    record { upto = omega arith; same = rw (e, ← puts_append (f i) (gather f (i + 1) (n - (i + 1))) l, ← gather_more f i n h) g.same }
 
 pub ends : (f : ℕ → List Mapped) (n : ℕ) (whole : Written) (i : ℕ) (l : Written) → Going f n whole i l → n ≤ i → l ≡ whole
 unfolding gather puts
@@ -57,40 +57,40 @@ ends f n whole i l g h =
     rw e at g.same
 
 pub stops : (f : ℕ → List Mapped) (n : ℕ) (whole : Written) (i : ℕ) (l : Written) → Going f n whole i l → l.full ≡ true → l ≡ whole
-stops f n whole i l g h = sym (puts-full _ l h) ∙ g.same
+stops f n whole i l g h = sym (puts_full _ l h) ∙ g.same
 
 -- ---- from an address on, of lists in a row
-from-append : (from : ℕ) (xs ys : List Mapped) → rangesFrom from (xs ++ ys) ≡ rangesFrom from xs ++ rangesFrom from ys
-unfolding rangesFrom
-from-append from [] ys = refl
-from-append from (x ∷ xs) ys = go (ltb from (end_of x)) (from-append from xs ys)
+from_append : (from : ℕ) (xs ys : List Mapped) → ranges_from from (xs ++ ys) ≡ ranges_from from xs ++ ranges_from from ys
+unfolding ranges_from
+from_append from [] ys = refl
+from_append from (x ∷ xs) ys = go (ltb from (end_of x)) (from_append from xs ys)
   where
-    go : (b : Bool) → rangesFrom from (xs ++ ys) ≡ rangesFrom from xs ++ rangesFrom from ys
-        → (if b then x ∷ rangesFrom from (xs ++ ys) else rangesFrom from (xs ++ ys)) ≡ (if b then x ∷ rangesFrom from xs else rangesFrom from xs) ++ rangesFrom from ys
+    go : (b : Bool) → ranges_from from (xs ++ ys) ≡ ranges_from from xs ++ ranges_from from ys
+        → (if b then x ∷ ranges_from from (xs ++ ys) else ranges_from from (xs ++ ys)) ≡ (if b then x ∷ ranges_from from xs else ranges_from from xs) ++ ranges_from from ys
     go true e = ap (λ (l : List Mapped). x ∷ l) e
     go false e = e
 
-pub from-gather : (from : ℕ) (f : ℕ → List Mapped) (i n : ℕ) → rangesFrom from (gather f i n) ≡ gather (λ (j : ℕ). rangesFrom from (f j)) i n
-unfolding gather rangesFrom
-from-gather from f i zero = refl
-from-gather from f i (suc n) =
-    from-append from (f i) (gather f (suc i) n) ∙ ap (λ (l : List Mapped). rangesFrom from (f i) ++ l) (from-gather from f (suc i) n)
+pub from_gather : (from : ℕ) (f : ℕ → List Mapped) (i n : ℕ) → ranges_from from (gather f i n) ≡ gather (λ (j : ℕ). ranges_from from (f j)) i n
+unfolding gather ranges_from
+from_gather from f i zero = refl
+from_gather from f i (suc n) =
+    from_append from (f i) (gather f (suc i) n) ∙ ap (λ (l : List Mapped). ranges_from from (f i) ++ l) (from_gather from f (suc i) n)
 
 -- ---- up to the room there is
-puts-fit : (xs : List Mapped) (out : List ℕ) (n next : ℕ) → n + length xs ≤ length out
+puts_fit : (xs : List Mapped) (out : List ℕ) (n next : ℕ) → n + length xs ≤ length out
     → puts xs (record { out = out; count = n; full = false; next = next })
     ≡ record { out = take n out ++ (map number_of xs ++ drop (n + length xs) out); count = n + length xs; full = false; next = next }
 unfolding puts put
-puts-fit [] out n next h =
+puts_fit [] out n next h =
     let e : n + 0 ≡ n = omega arith in
     rw (e, take-append-drop)
-puts-fit (x ∷ xs) out n next h =
+puts_fit (x ∷ xs) out n next h =
     let k : n < length out = omega arith in
     let s = length-set out n (number_of x) in
     let e : n + 1 + length xs ≡ n + suc (length xs) = omega arith in
     rw (
       lt-ltb n (length out) k,
-      puts-fit xs (set out n (number_of x)) (n + 1) next (omega arith),
+      puts_fit xs (set out n (number_of x)) (n + 1) next (omega arith),
       e,
       add-one,
       take-suc-set out n (number_of x) k,
@@ -99,32 +99,32 @@ puts-fit (x ∷ xs) out n next h =
     )
 
 -- room for all
-puts-within : (xs : List Mapped) (old : List ℕ) → length xs ≤ length old
+puts_within : (xs : List Mapped) (old : List ℕ) → length xs ≤ length old
     → puts xs (begun old) ≡ record { out = map number_of xs ++ drop (length xs) old; count = length xs; full = false; next = 0 }
-puts-within xs old h =
+puts_within xs old h =
     let e : 0 + length xs ≡ length xs = omega arith in
-    puts-fit xs old 0 0 (omega arith) ∙ rw e
+    puts_fit xs old 0 0 (omega arith) ∙ rw e
 
-puts-exact : (xs : List Mapped) (old : List ℕ) → length xs ≡ length old
+puts_exact : (xs : List Mapped) (old : List ℕ) → length xs ≡ length old
     → puts xs (begun old) ≡ record { out = map number_of xs; count = length old; full = false; next = 0 }
-puts-exact xs old h = puts-within xs old (omega arith) ∙ rw (h, drop-length, append-nil)
+puts_exact xs old h = puts_within xs old (omega arith) ∙ rw (h, drop-length, append-nil)
 
-put-over : (x : Mapped) (xs : List Mapped) (out : List ℕ) (n : ℕ) → length out ≤ n
+put_over : (x : Mapped) (xs : List Mapped) (out : List ℕ) (n : ℕ) → length out ≤ n
     → puts (x ∷ xs) (record { out = out; count = n; full = false; next = 0 }) ≡ record { out = out; count = n; full = true; next = x.first }
 unfolding puts put
-put-over x xs out n h = rw (le-ltb n (length out) h) (puts-full xs (record { out = out; count = n; full = true; next = x.first }) refl)
+put_over x xs out n h = rw (le-ltb n (length out) h) (puts_full xs (record { out = out; count = n; full = true; next = x.first }) refl)
 
 -- more than there is room for: the output is filled, and the next range's address is kept
-puts-over : (xs : List Mapped) (old : List ℕ) (y : Mapped) (ys : List Mapped) → drop (length old) xs ≡ y ∷ ys → length old ≤ length xs
+puts_over : (xs : List Mapped) (old : List ℕ) (y : Mapped) (ys : List Mapped) → drop (length old) xs ≡ y ∷ ys → length old ≤ length xs
     → puts xs (begun old) ≡ record { out = map number_of (take (length old) xs); count = length old; full = true; next = y.first }
-puts-over xs old y ys e h =
+puts_over xs old y ys e h =
     let m = length old in
     let len : length (take m xs) ≡ m = length-take-le m xs h in
     let room : length (map number_of (take m xs)) ≡ m = length-map (take m xs) number_of ∙ len in
     ap (λ (l : List Mapped). puts l (begun old)) (sym (take-append-drop m xs))
-    ∙ puts-append (take m xs) (drop m xs) (begun old)
-    ∙ ap (puts (drop m xs)) (puts-exact (take m xs) old len)
-    ∙ rw e (put-over _ _ _ _ (omega arith))
+    ∙ puts_append (take m xs) (drop m xs) (begun old)
+    ∙ ap (puts (drop m xs)) (puts_exact (take m xs) old len)
+    ∙ rw e (put_over _ _ _ _ (omega arith))
 
 -- the law: what is written in the end is the definition's, as many as there was room for
 pub listed : (xs : List Mapped) (old new : List ℕ) (r : Progress) → written new r ≡ puts xs (begun old) → ListedTo (room_for (length old) xs) old new (answer_of r)
@@ -135,7 +135,7 @@ listed xs old new r e = go (drop (length old) xs) refl
         let all : take (length old) xs ≡ xs = sym (append-nil (take (length old) xs)) ∙ ap (λ (l : List Mapped). take (length old) xs ++ l) (sym d) ∙ take-append-drop (length old) xs in
         let n = length-drop (length old) xs in
         let none : length (drop (length old) xs) ≡ 0 = ap length d in
-        let w = e ∙ puts-within xs old (omega arith) in
+        let w = e ∙ puts_within xs old (omega arith) in
         let full : r.full ≡ false = ap (λ (l : Written). l.full) w in
         let count : r.count ≡ length xs = ap (λ (l : Written). l.count) w in
         record { answer = rw (full, d, all, count); wrote = ap (λ (l : Written). l.out) w ∙ rw all }
@@ -143,7 +143,7 @@ listed xs old new r e = go (drop (length old) xs) refl
         let n = length-drop (length old) xs in
         let some : length (drop (length old) xs) ≡ suc (length ys) = ap length d in
         let most : length old ≤ length xs = omega arith in
-        let w = e ∙ puts-over xs old y ys d most in
+        let w = e ∙ puts_over xs old y ys d most in
         let full : r.full ≡ true = ap (λ (l : Written). l.full) w in
         let count : r.count ≡ length old = ap (λ (l : Written). l.count) w in
         let next : r.next ≡ y.first = ap (λ (l : Written). l.next) w in

@@ -4,8 +4,8 @@ use Rattle.std.specs.Prelude.{ℕ, ◌+◌, ◌-◌, ◌%◌, ◌^◌, ◌<◌, 
 use Rattle.definition.specs.Words.{if◌then◌else◌}
 use Rattle.definition.specs.Memory.{Memory}
 use Rattle.definition.specs.Walk030.{used, sum_of}
-use Rattle.definition.specs.Refusal.{refusalOf}
-use Rattle.definition.specs.List.{listChecks, notTaken}
+use Rattle.definition.specs.Refusal.{refusal_of}
+use Rattle.definition.specs.List.{list_checks, not_taken}
 use Rattle.definition.specs.declared.Registers.{Registers}
 use Rattle.definition.specs.declared.Mapped.{Mapped}
 use Rattle.definition.specs.declared.Node.{Node}
@@ -56,4 +56,4 @@ pub record Placed (ws : List ℕ) (level : ℕ) (n : Node) : Type 0 where
 -- the number of the first that applies, and 0 where none does
 abbrev pub refusal : Registers → Memory → ℕ → ℕ
 refusal g m code =
-    if eqb (refusalOf (listChecks g m code)) 0 then (if notTaken g code then 9 else 0) else refusalOf (listChecks g m code)
+    if eqb (refusal_of (list_checks g m code)) 0 then (if not_taken g code then 9 else 0) else refusal_of (list_checks g m code)

@@ -7,9 +7,9 @@ mod writing;
 
 ghost use Rattle.std.specs.Prelude.{◌≡◌, ◌^◌, ◌<◌, ◌≤◌, length, drop};
 ghost use Rattle.definition.specs.Memory.{memory};
-ghost use Rattle.definition.specs.Walk030.{used, widthsOf, sum_of};
-ghost use Rattle.definition.specs.List.{tableRanges, entryRanges, treeRanges, rangesFrom, list as list_of};
-ghost use Rattle.list.specs.Numbers.{pairsOf, ListedTo};
+ghost use Rattle.definition.specs.Walk030.{used, widths_of, sum_of};
+ghost use Rattle.definition.specs.List.{table_ranges, entry_ranges, tree_ranges, ranges_from, list as list_of};
+ghost use Rattle.list.specs.Numbers.{pairs_of, ListedTo};
 ghost use Rattle.list.specs.Writing.{written, begun, puts, Placed};
 
 use crate::seeing::{code_entry, entry_at, is_before, is_last, look, root_table, width_at};
@@ -38,7 +38,7 @@ fn table(
     from: u32,
 ) -> Progress
     requires { Placed ws level t }
-    ensures { written out.new result ≡ puts (rangesFrom from (tableRanges (memory longs.now base (pairsOf ranges.now)) (used (drop level ws)) t)) (written out.old s) }
+    ensures { written out.new result ≡ puts (ranges_from from (table_ranges (memory longs.now base (pairs_of ranges.now)) (used (drop level ws)) t)) (written out.old s) }
 {
     let w = width_at(ws, level);
     if w == 0 {
@@ -72,7 +72,7 @@ fn entry(
     from: u32,
 ) -> Progress
     requires { Placed ws level e }
-    ensures { written out.new result ≡ puts (rangesFrom from (entryRanges (memory longs.now base (pairsOf ranges.now)) (used (drop level ws)) e)) (written out.old s) }
+    ensures { written out.new result ≡ puts (ranges_from from (entry_ranges (memory longs.now base (pairs_of ranges.now)) (used (drop level ws)) e)) (written out.old s) }
 {
     if is_before(e, from) {
         return s;
@@ -96,8 +96,8 @@ fn tree(
     code: u32,
     from: u32,
 ) -> Progress
-    requires { sum_of (used (widthsOf tc)) ≤ 32 }
-    ensures { written out.new result ≡ puts (rangesFrom from (treeRanges (memory longs.now base (pairsOf ranges.now)) tc root code)) (begun out.old) }
+    requires { sum_of (used (widths_of tc)) ≤ 32 }
+    ensures { written out.new result ≡ puts (ranges_from from (tree_ranges (memory longs.now base (pairs_of ranges.now)) tc root code)) (begun out.old) }
 {
     let s = Progress {
         count: 0,
@@ -123,7 +123,7 @@ pub fn list(
     from: u32,
     out: &mut [u64],
 ) -> Listed
-    ensures { ListedTo (list_of g (memory longs.now base (pairsOf ranges.now)) code from (length out.old)) out.old out.new result }
+    ensures { ListedTo (list_of g (memory longs.now base (pairs_of ranges.now)) code from (length out.old)) out.old out.new result }
 {
     let n = taking::refusal(longs, base, ranges, g, code);
     if n != 0 {

@@ -1,11 +1,11 @@
 // One long and one descriptor of the table memory, over bus-error ranges that are lent as numbers: a first and a last address each.
 ghost use Rattle.std.specs.Prelude.{◌≡◌};
 ghost use Rattle.definition.specs.Words.{any_of};
-ghost use Rattle.definition.specs.Memory.{memory, fetchOf, inRanges};
+ghost use Rattle.definition.specs.Memory.{memory, fetch_of, in_ranges};
 ghost use Rattle.definition.specs.Refusal.{crossed};
 ghost use Rattle.definition.specs.Walk030.{read_of};
-ghost use Rattle.memory.specs.Descriptors.{shownRead};
-ghost use Rattle.list.specs.Numbers.{pairsOf};
+ghost use Rattle.memory.specs.Descriptors.{shown_read};
+ghost use Rattle.list.specs.Numbers.{pairs_of};
 
 use definition::Fetched;
 use memory::descriptor::{Descriptor, is_alone, of_one, of_two, second_at};
@@ -14,7 +14,7 @@ use memory::ranges::{crossed_or, hit_or};
 
 // Whether any of the four bytes of the long at `at` lies in a range.
 fn hits(ranges: &[u32], at: u32) -> bool
-    ensures { result ≡ inRanges (pairsOf ranges.now) at }
+    ensures { result ≡ in_ranges (pairs_of ranges.now) at }
 {
     let n = ranges.len() / 2;
     let mut hit = false;
@@ -30,7 +30,7 @@ fn hits(ranges: &[u32], at: u32) -> bool
 
 // Refusal 3: whether a range has its first above its last.
 pub fn any_crossed(ranges: &[u32]) -> bool
-    ensures { result ≡ any_of crossed (pairsOf ranges.now) }
+    ensures { result ≡ any_of crossed (pairs_of ranges.now) }
 {
     let n = ranges.len() / 2;
     let mut found = false;
@@ -46,7 +46,7 @@ pub fn any_crossed(ranges: &[u32]) -> bool
 
 // A long fails if it lies outside the longs or any of its four bytes lies in a range.
 fn fetch(longs: &[u32], base: u32, ranges: &[u32], at: u32) -> Fetched
-    ensures { result ≡ fetchOf (memory longs.now base (pairsOf ranges.now)) at }
+    ensures { result ≡ fetch_of (memory longs.now base (pairs_of ranges.now)) at }
 {
     let hit = hits(ranges, at);
     long_unless(longs, base, at, hit)
@@ -54,7 +54,7 @@ fn fetch(longs: &[u32], base: u32, ranges: &[u32], at: u32) -> Fetched
 
 // The descriptor at `at`, short or long.
 pub fn read(longs: &[u32], base: u32, ranges: &[u32], at: u32, long: bool) -> Descriptor
-    ensures { result ≡ shownRead (read_of (memory longs.now base (pairsOf ranges.now)) at long) }
+    ensures { result ≡ shown_read (read_of (memory longs.now base (pairs_of ranges.now)) at long) }
 {
     let first = fetch(longs, base, ranges, at);
     if is_alone(long, first) {

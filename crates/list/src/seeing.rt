@@ -2,9 +2,9 @@
 ghost use Rattle.std.specs.Prelude.{◌≡◌, ◌+◌, ◌-◌, ◌*◌, ◌^◌, ◌<◌, ◌≤◌, get_or, drop, leb};
 ghost use Rattle.definition.specs.Memory.{memory};
 ghost use Rattle.definition.specs.Walk030.{used};
-ghost use Rattle.definition.specs.List.{pageAt, lostAt, table_at, seenOf, entry_at, noneLeft, rootTable, codeEntry};
-ghost use Rattle.list.specs.Numbers.{pairsOf};
-ghost use Rattle.list.specs.Looking.{targetBy};
+ghost use Rattle.definition.specs.List.{page_at, lost_at, table_at, seen_of, entry_at, none_left, root_table, code_entry};
+ghost use Rattle.list.specs.Numbers.{pairs_of};
+ghost use Rattle.list.specs.Looking.{target_by};
 
 use crate::reading::read;
 use definition::{Mapped, Node, Root, Seen};
@@ -14,7 +14,7 @@ use memory::descriptor::{Descriptor, kind_of, table_of, target_of};
 
 // The entry's stretch, at a page's address field.
 fn page_at(e: Node, field: u32, wp: bool, sup: bool) -> Mapped
-    ensures { result ≡ pageAt e field wp sup }
+    ensures { result ≡ page_at e field wp sup }
 {
     Mapped {
         first: e.first,
@@ -28,7 +28,7 @@ fn page_at(e: Node, field: u32, wp: bool, sup: bool) -> Mapped
 
 // The entry's stretch, whose descriptor can't be fetched.
 fn lost_at(e: Node) -> Mapped
-    ensures { result ≡ lostAt e }
+    ensures { result ≡ lost_at e }
 {
     Mapped {
         first: e.first,
@@ -56,7 +56,7 @@ fn table_at(e: Node, kind: u32, field: u32, wp: bool, sup: bool) -> Node
 
 // The target of an indirect descriptor must be a page.
 fn at_target(e: Node, d: Descriptor) -> Seen
-    ensures { result ≡ targetBy e d }
+    ensures { result ≡ target_by e d }
 {
     match d {
         Descriptor::Lost { at: _, asked: _ } => Seen::One(lost_at(e)),
@@ -77,7 +77,7 @@ fn at_target(e: Node, d: Descriptor) -> Seen
 
 // What an entry is by its descriptor. On the last level types 2 and 3 are indirect.
 pub fn look(longs: &[u32], base: u32, ranges: &[u32], last: bool, e: Node) -> Seen
-    ensures { result ≡ seenOf (memory longs.now base (pairsOf ranges.now)) last e }
+    ensures { result ≡ seen_of (memory longs.now base (pairs_of ranges.now)) last e }
 {
     match read(longs, base, ranges, e.at, e.long) {
         Descriptor::Lost { at: _, asked: _ } => Seen::One(lost_at(e)),
@@ -106,7 +106,7 @@ pub fn look(longs: &[u32], base: u32, ranges: &[u32], last: bool, e: Node) -> Se
 
 // The root's table: it has every address.
 pub fn root_table(root: Root) -> Node
-    ensures { result ≡ rootTable root }
+    ensures { result ≡ root_table root }
 {
     let kind = kind_of(root.limit);
     Node {
@@ -121,7 +121,7 @@ pub fn root_table(root: Root) -> Node
 
 // The code's entry of a function-code table: it has the table's addresses.
 pub fn code_entry(t: Node, code: u32) -> Node
-    ensures { result ≡ codeEntry t code }
+    ensures { result ≡ code_entry t code }
 {
     Node {
         at: memory::descriptor::entry(t.at, code, t.long),
@@ -163,7 +163,7 @@ pub fn width_at(ws: [u32; 4], level: usize) -> u32
 
 // Whether no level is left.
 pub fn is_last(ws: [u32; 4], level: usize) -> bool
-    ensures { result ≡ noneLeft (used (drop level ws)) }
+    ensures { result ≡ none_left (used (drop level ws)) }
 {
     let w = width_at(ws, level);
     w == 0

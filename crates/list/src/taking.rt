@@ -1,12 +1,12 @@
 // What the lister refuses: 1, 5, 2 and 3 as every call over tables, then 9.
 ghost use Rattle.std.specs.Prelude.{◌≡◌};
 ghost use Rattle.definition.specs.Memory.{memory};
-ghost use Rattle.definition.specs.Walk030.{widthsOf, used, sum_of};
-ghost use Rattle.definition.specs.Refusal.{noFamily};
-ghost use Rattle.definition.specs.Audit.{isAccessCode};
-ghost use Rattle.definition.specs.List.{notTaken};
-ghost use Rattle.list.specs.Numbers.{pairsOf};
-ghost use Rattle.list.specs.Writing.{refusal as refusalOf};
+ghost use Rattle.definition.specs.Walk030.{widths_of, used, sum_of};
+ghost use Rattle.definition.specs.Refusal.{no_family};
+ghost use Rattle.definition.specs.Audit.{is_access_code};
+ghost use Rattle.definition.specs.List.{not_taken};
+ghost use Rattle.list.specs.Numbers.{pairs_of};
+ghost use Rattle.list.specs.Writing.{refusal as refusal_of};
 
 use crate::reading::any_crossed;
 use definition::Registers;
@@ -15,21 +15,21 @@ use memory::longs::bad_base;
 
 // The family is not 30, 40 or 60.
 fn no_family(family: u32) -> bool
-    ensures { result ≡ noFamily family }
+    ensures { result ≡ no_family family }
 {
     !((family == 30) | (family == 40) | (family == 60))
 }
 
 // The codes of an access: 1, 2, 5 and 6.
 fn is_access_code(code: u32) -> bool
-    ensures { result ≡ isAccessCode code }
+    ensures { result ≡ is_access_code code }
 {
     (code == 1) | (code == 2) | (code == 5) | (code == 6)
 }
 
 // The widths up to the first zero.
 fn sum_of_levels(tc: u32) -> u32
-    ensures { result ≡ sum_of (used (widthsOf tc)) }
+    ensures { result ≡ sum_of (used (widths_of tc)) }
 {
     let all = memory::page030::consumed(tc);
     all - (tc >> 16) % 16
@@ -37,7 +37,7 @@ fn sum_of_levels(tc: u32) -> u32
 
 // Another family than 30, a code of no access, IS, no level or levels that don't fit an address, or a root of type 0 or 1.
 fn not_taken(g: Registers, code: u32) -> bool
-    ensures { result ≡ notTaken g code }
+    ensures { result ≡ not_taken g code }
 {
     let known = is_access_code(code);
     let sum = sum_of_levels(g.tc);
@@ -48,7 +48,7 @@ fn not_taken(g: Registers, code: u32) -> bool
 
 // The number of the first that applies, and 0 where none does.
 pub fn refusal(longs: &[u32], base: u32, ranges: &[u32], g: Registers, code: u32) -> u32
-    ensures { result ≡ refusalOf g (memory longs.now base (pairsOf ranges.now)) code }
+    ensures { result ≡ refusal_of g (memory longs.now base (pairs_of ranges.now)) code }
 {
     if no_family(g.family) {
         return 1;

@@ -1,6 +1,6 @@
 // The ranges as numbers in the output, one after the other.
 ghost use Rattle.std.specs.Prelude.{◌≡◌, ◌<◌, ◌≤◌};
-ghost use Rattle.list.specs.Numbers.{flagOf, kind_of, number_of};
+ghost use Rattle.list.specs.Numbers.{flag_of, kind_of, number_of};
 ghost use Rattle.list.specs.Writing.{written, put as put_of, answer_of};
 
 use definition::{Listed, Mapped};
@@ -14,7 +14,7 @@ pub struct Progress {
 }
 
 fn flag(b: bool) -> u64
-    ensures { (result ≡ flagOf b) × (result < 2) }
+    ensures { (result ≡ flag_of b) × (result < 2) }
 {
     if b { 1 } else { 0 }
 }

@@ -1,6 +1,6 @@
 // What the walk gives a load: it caches as a translated access would, and only its count is answered.
-ghost use Rattle.cache.specs.Atc030.{cacheOf};
-ghost use Rattle.load.specs.Loaded.{concludedLoad, LoadedIn};
+ghost use Rattle.cache.specs.Atc030.{cache_of};
+ghost use Rattle.load.specs.Loaded.{concluded_load, LoadedIn};
 
 use crate::{Found, LoadOutcome};
 use cache::atc030::Atc030;
@@ -14,7 +14,7 @@ pub fn concluded(
     address: u32,
     found: Found,
 ) -> LoadOutcome
-    ensures { LoadedIn (concludedLoad g.tc write address (cacheOf c030.old) found) result.answer result.count c030.new }
+    ensures { LoadedIn (concluded_load g.tc write address (cache_of c030.old) found) result.answer result.count c030.new }
 {
     checks::sized(c030);
     match found {

@@ -3,8 +3,8 @@ ghost use Rattle.std.specs.Prelude.{◌≡◌};
 ghost use Rattle.definition.specs.Transparent.{transparent030};
 ghost use Rattle.definition.specs.Walk030.{shift_of};
 ghost use Rattle.definition.specs.Load.{stopped};
-ghost use Rattle.cache.specs.Atc030.{cacheOf};
-ghost use Rattle.load.specs.Loaded.{load_plan, planLoad, PlannedIn};
+ghost use Rattle.cache.specs.Atc030.{cache_of};
+ghost use Rattle.load.specs.Loaded.{load_plan, plan_load, PlannedIn};
 
 use crate::Plan;
 use cache::atc030::{Atc030, bad_cache, flush_page};
@@ -40,7 +40,7 @@ pub fn plan_load(
     write: bool,
     address: u32,
 ) -> Plan
-    ensures { PlannedIn (planLoad g code write address two crossed (cacheOf c030.old)) result c030.new }
+    ensures { PlannedIn (plan_load g code write address two crossed (cache_of c030.old)) result c030.new }
 {
     checks::sized(c030);
     let one = checks::no_family(g.family);

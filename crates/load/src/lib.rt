@@ -7,9 +7,9 @@ mod before;
 ghost use Rattle.std.specs.Prelude.{◌≡◌};
 ghost use Rattle.definition.specs.Memory.{memory};
 ghost use Rattle.definition.specs.Cache040.{Cache040};
-ghost use Rattle.cache.specs.Atc030.{cacheOf};
-ghost use Rattle.cache.specs.Pair.{pairWith};
-ghost use Rattle.load.specs.Loaded.{loadGiven, foundLoad, shownLoaded, LoadedIn};
+ghost use Rattle.cache.specs.Atc030.{cache_of};
+ghost use Rattle.cache.specs.Pair.{pair_with};
+ghost use Rattle.load.specs.Loaded.{load_given, found_load, shown_loaded, LoadedIn};
 ghost use Rattle.load.specs.declared.Found.{Found};
 
 use cache::atc030::Atc030;
@@ -61,7 +61,7 @@ fn walked(
     address: u32,
     plan: Plan,
 ) -> Found
-    ensures { result ≡ foundLoad (memory longs.now base ranges.now) g address plan }
+    ensures { result ≡ found_load (memory longs.now base ranges.now) g address plan }
 {
     match plan {
         Plan::Settled(answer) => settled(answer),
@@ -88,7 +88,7 @@ pub fn load(
     write: bool,
     address: u32,
 ) -> LoadOutcome
-    ensures { (k : Cache040) → LoadedIn (shownLoaded (loadGiven crossed g code write address (memory longs.now base ranges.now) (pairWith (cacheOf c030.old) k))) result.answer result.count c030.new }
+    ensures { (k : Cache040) → LoadedIn (shown_loaded (load_given crossed g code write address (memory longs.now base ranges.now) (pair_with (cache_of c030.old) k))) result.answer result.count c030.new }
 {
     let two = checks::bad_longs(longs, base);
     let plan = before::plan_load(c030, two, crossed, g, code, write, address);

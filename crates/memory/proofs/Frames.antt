@@ -5,13 +5,13 @@ use mathlib.Core.Bool.{Bool, true, false}
 use native.Mathlib.Omega.{arith}
 use lib.Pow.{split}
 use Rattle.definition.specs.Words.{if◌then◌else◌, bit_of}
-use Rattle.definition.specs.Walk040.{frame_of, pageBits}
+use Rattle.definition.specs.Walk040.{frame_of, page_bits}
 
 pub frame_is : (page s : ℕ) → page - page % 2 ^ s ≡ page / 2 ^ s * 2 ^ s
 frame_is page s = omega (arith, split page s)
 
-pub frame-room : (tc page address : ℕ) → page < 2 ^ 32 → frame_of tc page + address % 2 ^ pageBits tc < 2 ^ 32
-frame-room tc page address h = go (bit_of tc 14)
+pub frame_room : (tc page address : ℕ) → page < 2 ^ 32 → frame_of tc page + address % 2 ^ page_bits tc < 2 ^ 32
+frame_room tc page address h = go (bit_of tc 14)
   where
     go : (b : Bool) → page / 2 ^ (if b then 13 else 12) * 2 ^ (if b then 13 else 12) + address % 2 ^ (if b then 13 else 12) < 2 ^ 32
     go true = omega arith

@@ -4,31 +4,31 @@ use mathlib.Core.Path.{◌≡◌, refl, ap, sym, ◌∙◌}
 use mathlib.Core.Bool.{Bool, true, false, not}
 use lib.Dec.{T}
 use Rattle.definition.specs.Words.{if◌then◌else◌}
-use Rattle.definition.specs.Memory.{Memory, fetchOf}
-use Rattle.definition.specs.Walk030.{entry_of, short_of, longOf, read_of}
+use Rattle.definition.specs.Memory.{Memory, fetch_of}
+use Rattle.definition.specs.Walk030.{entry_of, short_of, long_of, read_of}
 use Rattle.definition.specs.declared.Fetched.{Fetched}
 use Rattle.definition.specs.declared.Fetched.TheVariants.{Long, Failed}
 use Rattle.memory.specs.declared.descriptor.Descriptor.{Descriptor}
-use Rattle.memory.specs.Descriptors.{alone, ofTwo, shownRead}
+use Rattle.memory.specs.Descriptors.{alone, of_two, shown_read}
 use Rattle.memory.proofs.Tests.{T_true, T_false, clash}
 
-one-is : (m : Memory) (at : ℕ) (long : Bool) (f : Fetched) → alone long f ≡ true → shownRead (short_of at f) ≡ shownRead (if long then longOf m at f else short_of at f)
-one-is m at true (Long first) h = absurd (clash (sym h))
-one-is m at true Failed h = refl
-one-is m at false f h = refl
+one_is : (m : Memory) (at : ℕ) (long : Bool) (f : Fetched) → alone long f ≡ true → shown_read (short_of at f) ≡ shown_read (if long then long_of m at f else short_of at f)
+one_is m at true (Long first) h = absurd (clash (sym h))
+one_is m at true Failed h = refl
+one_is m at false f h = refl
 
 two_is : (m : Memory) (at : ℕ) (long : Bool) (f : Fetched) → alone long f ≡ false
-    → ofTwo at f (fetchOf m (entry_of at 1 false)) ≡ shownRead (if long then longOf m at f else short_of at f)
+    → of_two at f (fetch_of m (entry_of at 1 false)) ≡ shown_read (if long then long_of m at f else short_of at f)
 two_is m at true (Long first) h = refl
 two_is m at true Failed h = absurd (clash h)
 two_is m at false (Long first) h = absurd (clash h)
 two_is m at false Failed h = refl
 
-pub read_one : (m : Memory) (at : ℕ) (long : Bool) {f : Fetched} {a : Bool} {d : Descriptor} → f ≡ fetchOf m at → a ≡ alone long f → T a → d ≡ shownRead (short_of at f) → d ≡ shownRead (read_of m at long)
+pub read_one : (m : Memory) (at : ℕ) (long : Bool) {f : Fetched} {a : Bool} {d : Descriptor} → f ≡ fetch_of m at → a ≡ alone long f → T a → d ≡ shown_read (short_of at f) → d ≡ shown_read (read_of m at long)
 unfolding read_of
-read_one m at long {f} {a} ef ea h ed = ed ∙ one-is m at long f (sym ea ∙ T_true a h) ∙ rw ef
+read_one m at long {f} {a} ef ea h ed = ed ∙ one_is m at long f (sym ea ∙ T_true a h) ∙ rw ef
 
-pub read-two : (m : Memory) (at : ℕ) (long : Bool) {f : Fetched} {a : Bool} {n : ℕ} {g : Fetched} {d : Descriptor} → f ≡ fetchOf m at → a ≡ alone long f → T (not a)
-    → n ≡ entry_of at 1 false → g ≡ fetchOf m n → d ≡ ofTwo at f g → d ≡ shownRead (read_of m at long)
+pub read_two : (m : Memory) (at : ℕ) (long : Bool) {f : Fetched} {a : Bool} {n : ℕ} {g : Fetched} {d : Descriptor} → f ≡ fetch_of m at → a ≡ alone long f → T (not a)
+    → n ≡ entry_of at 1 false → g ≡ fetch_of m n → d ≡ of_two at f g → d ≡ shown_read (read_of m at long)
 unfolding read_of
-read-two m at long {f} {a} {n} {g} {d} ef ea h en eg ed = ed ∙ ap (ofTwo at f) (eg ∙ ap (fetchOf m) en) ∙ two_is m at long f (sym ea ∙ T_false a h) ∙ rw ef
+read_two m at long {f} {a} {n} {g} {d} ef ea h en eg ed = ed ∙ ap (of_two at f) (eg ∙ ap (fetch_of m) en) ∙ two_is m at long f (sym ea ∙ T_false a h) ∙ rw ef

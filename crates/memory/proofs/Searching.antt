@@ -25,9 +25,9 @@ or_assoc : (a b c : Bool) → (a || (b || c)) ≡ ((a || b) || c)
 or_assoc true b c = refl
 or_assoc false b c = refl
 
-or-false : (a : Bool) → (a || false) ≡ a
-or-false true = refl
-or-false false = refl
+or_false : (a : Bool) → (a || false) ≡ a
+or_false true = refl
+or_false false = refl
 
 module _ {p : Range → Bool} {xs : List Range} where
   abbrev pub start : Seen p xs
@@ -36,15 +36,15 @@ module _ {p : Range → Bool} {xs : List Range} where
   pub inside : (t : Seen p xs) → T (ltb t.i (length xs)) → t.i < length xs
   inside t h = ltb→lt t.i (length xs) h
 
-  pub next-upto : (t : Seen p xs) → T (ltb t.i (length xs)) → t.i + 1 ≤ length xs
-  next-upto t h = let l = inside t h in omega arith
+  pub next_upto : (t : Seen p xs) → T (ltb t.i (length xs)) → t.i + 1 ≤ length xs
+  next_upto t h = let l = inside t h in omega arith
 
-  pub next-same : (t : Seen p xs) → T (ltb t.i (length xs)) → (y : Bool) → y ≡ (t.hit || p (get_or xs t.i none)) → any_of p xs ≡ (y || any_of p (drop (t.i + 1) xs))
+  pub next_same : (t : Seen p xs) → T (ltb t.i (length xs)) → (y : Bool) → y ≡ (t.hit || p (get_or xs t.i none)) → any_of p xs ≡ (y || any_of p (drop (t.i + 1) xs))
   unfolding any_of
-  next-same t h y e = t.same ∙ rw (e, add-one, drop-cons xs t.i none (inside t h)) (or_assoc t.hit _ _)
+  next_same t h y e = t.same ∙ rw (e, add-one, drop-cons xs t.i none (inside t h)) (or_assoc t.hit _ _)
 
   abbrev pub next : (t : Seen p xs) → T (ltb t.i (length xs)) → (y : Bool) → y ≡ (t.hit || p (get_or xs t.i none)) → Seen p xs
-  next t h y e = record { i = t.i + 1; hit = y; upto = next-upto t h; same = next-same t h y e }
+  next t h y e = record { i = t.i + 1; hit = y; upto = next_upto t h; same = next_same t h y e }
 
   pub less : (t : Seen p xs) → T (ltb t.i (length xs)) → length xs - (t.i + 1) < length xs - t.i
   less t h = let l = inside t h in omega arith
@@ -53,10 +53,10 @@ module _ {p : Range → Bool} {xs : List Range} where
   unfolding any_of
   ends t h =
       let l = nltb→le t.i (length xs) h in
-      sym (t.same ∙ rw (drop_of_length-le xs {i = t.i} l) (or-false t.hit))
+      sym (t.same ∙ rw (drop_of_length-le xs {i = t.i} l) (or_false t.hit))
 
-  pub mul-fits : (t : Seen p xs) → T (ltb t.i (length xs)) → length xs * 8 < 2 ^ 63 → t.i * 8 < 2 ^ 64
-  mul-fits t h room = let l = inside t h in omega arith
+  pub mul_fits : (t : Seen p xs) → T (ltb t.i (length xs)) → length xs * 8 < 2 ^ 63 → t.i * 8 < 2 ^ 64
+  mul_fits t h room = let l = inside t h in omega arith
 
-  pub add-fits : (t : Seen p xs) → T (ltb t.i (length xs)) → length xs < 2 ^ 64 → t.i + 1 < 2 ^ 64
-  add-fits t h room = let l = inside t h in omega arith
+  pub add_fits : (t : Seen p xs) → T (ltb t.i (length xs)) → length xs < 2 ^ 64 → t.i + 1 < 2 ^ 64
+  add_fits t h room = let l = inside t h in omega arith

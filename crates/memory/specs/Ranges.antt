@@ -3,5 +3,5 @@ use Rattle.std.specs.Prelude.{ℕ, ◌+◌, ltb}
 use Rattle.definition.specs.Words.{if◌then◌else◌}
 
 -- the last byte of the long at `at` that an address names
-abbrev pub lastByte : ℕ → ℕ
-lastByte at = if ltb at 4294967293 then at + 3 else 4294967295
+abbrev pub last_byte : ℕ → ℕ
+last_byte at = if ltb at 4294967293 then at + 3 else 4294967295

@@ -2,7 +2,7 @@
 ghost use Rattle.std.specs.Prelude.{◌≡◌, false, ◌%◌, ◌*◌, ◌/◌};
 ghost use Rattle.definition.specs.Memory.{memory};
 ghost use Rattle.definition.specs.Walk030.{entry_of, read_of, short_of};
-ghost use Rattle.memory.specs.Descriptors.{alone, describedOf, ofTwo, shownRead};
+ghost use Rattle.memory.specs.Descriptors.{alone, described_of, of_two, shown_read};
 
 use crate::bits::bit;
 use crate::longs::fetch;
@@ -58,7 +58,7 @@ pub fn target_of(field: u32) -> u32
 
 // Type in 1:0 and WP in bit 2 of the first long, S in bit 8 of the first long of a long descriptor.
 fn described(first: u32, field: u32, long: bool, asked: u32) -> Descriptor
-    ensures { result ≡ describedOf first field long asked }
+    ensures { result ≡ described_of first field long asked }
 {
     let kind = kind_of(first);
     let wp = bit(first, 2);
@@ -84,7 +84,7 @@ pub fn is_alone(long: bool, first: Fetched) -> bool
 
 // A short descriptor is one long, which is its address field too.
 pub fn of_one(at: u32, first: Fetched) -> Descriptor
-    ensures { result ≡ shownRead (short_of at first) }
+    ensures { result ≡ shown_read (short_of at first) }
 {
     match first {
         Fetched::Long(x) => described(x, x, false, 1),
@@ -101,7 +101,7 @@ pub fn second_at(at: u32) -> u32
 
 // A long descriptor is two longs; the address field is the last.
 pub fn of_two(at: u32, first: Fetched, second: Fetched) -> Descriptor
-    ensures { result ≡ ofTwo at first second }
+    ensures { result ≡ of_two at first second }
 {
     match first {
         Fetched::Long(x) => match second {
@@ -117,7 +117,7 @@ pub fn of_two(at: u32, first: Fetched, second: Fetched) -> Descriptor
 
 // The descriptor at `at`, short or long.
 pub fn read_desc(longs: &[u32], base: u32, ranges: &[Range], at: u32, long: bool) -> Descriptor
-    ensures { result ≡ shownRead (read_of (memory longs.now base ranges.now) at long) }
+    ensures { result ≡ shown_read (read_of (memory longs.now base ranges.now) at long) }
 {
     let first = fetch(longs, base, ranges, at);
     if is_alone(long, first) {

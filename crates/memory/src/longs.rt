@@ -1,11 +1,11 @@
 // One long of the table memory.
 ghost use Rattle.std.specs.Prelude.{◌≡◌, ◌&&◌, not, ◌%◌, ◌*◌, ◌+◌, ◌^◌, eqb, leb};
-ghost use Rattle.definition.specs.Memory.{fetchOf, fetchWith, memory};
+ghost use Rattle.definition.specs.Memory.{fetch_of, fetch_with, memory};
 
 use crate::ranges::hits;
 use definition::{Fetched, Range};
 
-// Refusal 2: base not a multiple of 4, or base + 4 x longs above 2^32. It is `badBase` of any memory of `count` longs at `base`.
+// Refusal 2: base not a multiple of 4, or base + 4 x longs above 2^32. It is `bad_base` of any memory of `count` longs at `base`.
 pub fn bad_base(count: usize, base: u32) -> bool
     ensures { result ≡ not (eqb (base % 4) 0 && leb (base + 4 * count) (2 ^ 32)) }
 {
@@ -17,7 +17,7 @@ pub fn bad_base(count: usize, base: u32) -> bool
 
 // The long at `at`, unless it lies outside the longs or the search hit a range.
 pub fn long_unless(longs: &[u32], base: u32, at: u32, hit: bool) -> Fetched
-    ensures { result ≡ fetchWith longs.now base at hit }
+    ensures { result ≡ fetch_with longs.now base at hit }
 {
     if at < base {
         return Fetched::Failed;
@@ -38,7 +38,7 @@ pub fn long_unless(longs: &[u32], base: u32, at: u32, hit: bool) -> Fetched
 
 // A long fails if it lies outside the longs or any of its four bytes lies in a range.
 pub fn fetch(longs: &[u32], base: u32, ranges: &[Range], at: u32) -> Fetched
-    ensures { result ≡ fetchOf (memory longs.now base ranges.now) at }
+    ensures { result ≡ fetch_of (memory longs.now base ranges.now) at }
 {
     let hit = hits(ranges, at);
     long_unless(longs, base, at, hit)

@@ -1,13 +1,13 @@
 // What a 68040 page's descriptor gives.
 ghost use Rattle.std.specs.Prelude.{◌≡◌};
 ghost use Rattle.definition.specs.Translate.{joined};
-ghost use Rattle.definition.specs.Walk040.{frame_of, pageBits, physical040};
+ghost use Rattle.definition.specs.Walk040.{frame_of, page_bits, physical040};
 
 use crate::bits::{bit, in_page};
 
 // How many low bits lie in a 68040 page: 13 with TC bit 14, else 12.
 pub fn page_bits(tc: u32) -> u32
-    ensures { result ≡ pageBits tc }
+    ensures { result ≡ page_bits tc }
 {
     if bit(tc, 14) {
         return 13;

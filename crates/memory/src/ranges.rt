@@ -1,16 +1,16 @@
 // The bus-error ranges: which of them a long touches, and whether one is crossed.
 // A search has no branch in its turn, and reads a range field by field: so the compiler takes several ranges at once.
 ghost use Rattle.std.specs.Prelude.{◌≡◌, ◌||◌, ltb};
-ghost use Rattle.definition.specs.Memory.{touchesOf, inRanges};
+ghost use Rattle.definition.specs.Memory.{touches_of, in_ranges};
 ghost use Rattle.definition.specs.Refusal.{crossed};
 ghost use Rattle.definition.specs.Words.{any_of};
-ghost use Rattle.memory.specs.Ranges.{lastByte};
+ghost use Rattle.memory.specs.Ranges.{last_byte};
 
 use definition::Range;
 
 // The last byte of the long at `at` that an address names: there is none past FFFFFFFF.
 fn last_byte(at: u32) -> u32
-    ensures { result ≡ lastByte at }
+    ensures { result ≡ last_byte at }
 {
     if at < 0xffff_fffd {
         return at + 3;
@@ -20,7 +20,7 @@ fn last_byte(at: u32) -> u32
 
 // Whether any of the four bytes of the long at `at` lies from `first` to `last`.
 fn touches(first: u32, last: u32, at: u32) -> bool
-    ensures { result ≡ touchesOf first last at }
+    ensures { result ≡ touches_of first last at }
 {
     let top = last_byte(at);
     (first <= last) & (first <= top) & (at <= last)
@@ -28,7 +28,7 @@ fn touches(first: u32, last: u32, at: u32) -> bool
 
 // The search for a range that has a byte of the long: one range more.
 pub fn hit_or(hit: bool, first: u32, last: u32, at: u32) -> bool
-    ensures { result ≡ (hit || touchesOf first last at) }
+    ensures { result ≡ (hit || touches_of first last at) }
 {
     let touched = touches(first, last, at);
     hit | touched
@@ -36,7 +36,7 @@ pub fn hit_or(hit: bool, first: u32, last: u32, at: u32) -> bool
 
 // Whether any of the four bytes of the long at `at` lies in a range.
 pub fn hits(ranges: &[Range], at: u32) -> bool
-    ensures { result ≡ inRanges ranges.now at }
+    ensures { result ≡ in_ranges ranges.now at }
 {
     let mut hit = false;
     let mut i = 0;

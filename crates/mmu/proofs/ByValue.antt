@@ -5,7 +5,7 @@ use mathlib.Core.List.{List}
 use mathlib.Core.Bool.{Bool}
 use lib.ListN.{length}
 use Rattle.definition.specs.Memory.{Memory}
-use Rattle.definition.specs.Refusal.{badRange}
+use Rattle.definition.specs.Refusal.{bad_range}
 use Rattle.definition.specs.Cache040.{Cache040}
 use Rattle.definition.specs.Translate.{Caches, translate}
 use Rattle.definition.specs.Load.{load}
@@ -15,31 +15,31 @@ use Rattle.definition.specs.declared.Access.{Access}
 use Rattle.definition.specs.declared.Load.{Load}
 use Rattle.definition.specs.declared.Test.{Test}
 use Rattle.definition.specs.declared.Translation.{Translation}
-use Rattle.cache.specs.Atc030.{cacheOf}
-use Rattle.cache.specs.Atc040.{cache040Of}
-use Rattle.cache.specs.Pair.{pairWith, cachesOf, pair_of}
+use Rattle.cache.specs.Atc030.{cache_of}
+use Rattle.cache.specs.Atc040.{cache040_of}
+use Rattle.cache.specs.Pair.{pair_with, caches_of, pair_of}
 use Rattle.cache.specs.declared.CachePair.{CachePair}
 use Rattle.checks.proofs.Pairs.{beside}
-use Rattle.translate.specs.Stages.{translateGiven, shownTranslated}
+use Rattle.translate.specs.Stages.{translate_given, shown_translated}
 use Rattle.translate.specs.InPlace.{AnsweredIn}
-use Rattle.translate.proofs.Staged.{given-true}
-use Rattle.load.specs.Loaded.{loadGiven, shownLoaded, LoadedIn}
+use Rattle.translate.proofs.Staged.{given_true}
+use Rattle.load.specs.Loaded.{load_given, shown_loaded, LoadedIn}
 use Rattle.load.proofs.Loading as loading
-use Rattle.test.specs.Tested.{testGiven, shownTested, TestedIn}
+use Rattle.test.specs.Tested.{test_given, shown_tested, TestedIn}
 use Rattle.test.proofs.Testing as testing
 use Rattle.mmu.specs.ByValue.{TranslatedBy, LoadedBy}
 use Rattle.mmu.specs.declared.by_value.Translated.{Translated}
 use Rattle.mmu.specs.declared.by_value.Loaded.{Loaded}
 
 -- ---- translate
-pub translates : (g : Registers) (a : Access) (m : Memory) (caches : CachePair) {crossed : Bool} → crossed ≡ badRange m
+pub translates : (g : Registers) (a : Access) (m : Memory) (caches : CachePair) {crossed : Bool} → crossed ≡ bad_range m
     → {c030 c040 : List ℕ} → c030 ≡ caches.c030 → (c040 ≡ caches.c040) × (length c040 ≡ 128) → {t : Translation} {n : ℕ} {c030' c040' : List ℕ}
-    → AnsweredIn (shownTranslated (translateGiven crossed g a m (cachesOf c030 c040))) t n c030' c040'
+    → AnsweredIn (shown_translated (translate_given crossed g a m (caches_of c030 c040))) t n c030' c040'
     → {r : Translated} → (r.answer ≡ t) × (r.count ≡ n) × (r.caches.c030 ≡ c030') × (r.caches.c040 ≡ c040')
     → TranslatedBy (translate g a m (pair_of caches)) r
 translates g a m caches {crossed} is-crossed {c030} {c040} e f {t} {n} {c030'} {c040'} k {r} q =
-    let true-word : translateGiven crossed g a m (cachesOf c030 c040) ≡ translate g a m (pair_of caches) = given-true g a m (cachesOf c030 c040) is-crossed ∙ rw (e, f.0) in
-    let s : AnsweredIn (shownTranslated (translate g a m (pair_of caches))) t n c030' c040' = rw (← true-word) k in
+    let true-word : translate_given crossed g a m (caches_of c030 c040) ≡ translate g a m (pair_of caches) = given_true g a m (caches_of c030 c040) is-crossed ∙ rw (e, f.0) in
+    let s : AnsweredIn (shown_translated (translate g a m (pair_of caches))) t n c030' c040' = rw (← true-word) k in
     record {
       answers = q.0 ∙ s.answers;
       counts = q.1 ∙ s.counts;
@@ -48,15 +48,15 @@ translates g a m caches {crossed} is-crossed {c030} {c040} e f {t} {n} {c030'} {
     }
 
 -- ---- load
-pub loads : (g : Registers) (code : ℕ) (write : Bool) (address : ℕ) (m : Memory) (caches : CachePair) {crossed : Bool} → crossed ≡ badRange m
+pub loads : (g : Registers) (code : ℕ) (write : Bool) (address : ℕ) (m : Memory) (caches : CachePair) {crossed : Bool} → crossed ≡ bad_range m
     → {c030 c040 : List ℕ} → c030 ≡ caches.c030 → (c040 ≡ caches.c040) × (length c040 ≡ 128) → {l : Load} {n : ℕ} {c030' : List ℕ}
-    → ((k : Cache040) → LoadedIn (shownLoaded (loadGiven crossed g code write address m (pairWith (cacheOf c030) k))) l n c030')
+    → ((k : Cache040) → LoadedIn (shown_loaded (load_given crossed g code write address m (pair_with (cache_of c030) k))) l n c030')
     → {r : Loaded} → (r.answer ≡ l) × (r.count ≡ n) × (r.caches.c030 ≡ c030') × (r.caches.c040 ≡ c040)
     → LoadedBy (load g code write address m (pair_of caches)) r
 loads g code write address m caches {crossed} is-crossed {c030} {c040} e f {l} {n} {c030'} k {r} q =
-    let true-word : loadGiven crossed g code write address m (cachesOf c030 c040) ≡ load g code write address m (pair_of caches) = loading.given-true g code write address m (cachesOf c030 c040) is-crossed ∙ rw (e, f.0) in
-    let s : LoadedIn (shownLoaded (load g code write address m (pair_of caches))) l n c030' = rw (← true-word) (k (cache040Of c040)) in
-    let stays : cache040Of c040 ≡ (load g code write address m (pair_of caches)).caches.c040 = rw f.0 (sym (loading.load-beside g code write address m (pair_of caches))) in
+    let true-word : load_given crossed g code write address m (caches_of c030 c040) ≡ load g code write address m (pair_of caches) = loading.given_true g code write address m (caches_of c030 c040) is-crossed ∙ rw (e, f.0) in
+    let s : LoadedIn (shown_loaded (load g code write address m (pair_of caches))) l n c030' = rw (← true-word) (k (cache040_of c040)) in
+    let stays : cache040_of c040 ≡ (load g code write address m (pair_of caches)).caches.c040 = rw f.0 (sym (loading.load_beside g code write address m (pair_of caches))) in
     record {
       answers = q.0 ∙ s.answers;
       counts = q.1 ∙ s.counts;
@@ -65,6 +65,6 @@ loads g code write address m caches {crossed} is-crossed {c030} {c040} e f {l} {
     }
 
 -- ---- test
-pub tests : (g : Registers) (code : ℕ) (write : Bool) (level address : ℕ) (m : Memory) {crossed : Bool} → crossed ≡ badRange m → {t : Test} {n : ℕ}
-    → TestedIn (shownTested (testGiven crossed g code write level address m)) t n → TestedIn (shownTested (test g code write level address m)) t n
-tests g code write level address m is-crossed k = rw (← testing.given-true g code write level address m is-crossed) k
+pub tests : (g : Registers) (code : ℕ) (write : Bool) (level address : ℕ) (m : Memory) {crossed : Bool} → crossed ≡ bad_range m → {t : Test} {n : ℕ}
+    → TestedIn (shown_tested (test_given crossed g code write level address m)) t n → TestedIn (shown_tested (test g code write level address m)) t n
+tests g code write level address m is-crossed k = rw (← testing.given_true g code write level address m is-crossed) k

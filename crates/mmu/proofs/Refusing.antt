@@ -5,12 +5,12 @@ use mathlib.Core.Path.{◌≡◌, refl, sym, ap, ◌∙◌}
 use lib.ListN.{length}
 use mathlib.Core.Bool.{Bool, false, ◌||◌}
 use Rattle.definition.specs.Memory.{Memory}
-use Rattle.definition.specs.Refusal.{Checks, aboveSeven, badCache, badFrame, refusalOf}
-use Rattle.definition.specs.Translate.{Translated as TranslatedOf, translateChecks, translate}
-use Rattle.definition.specs.Load.{Loaded as LoadedOf, loadChecks, load}
-use Rattle.definition.specs.Test.{Tested as TestedOf, testChecks, test}
-use Rattle.definition.specs.Probe.{probeChecks, probe}
-use Rattle.definition.specs.Flush.{Flushed as FlushedOf, flushChecks, flushUnless, flushAll, flushCode, flushPage, flushFrame}
+use Rattle.definition.specs.Refusal.{Checks, above_seven, bad_cache, bad_frame, refusal_of}
+use Rattle.definition.specs.Translate.{Translated as TranslatedOf, translate_checks, translate}
+use Rattle.definition.specs.Load.{Loaded as LoadedOf, load_checks, load}
+use Rattle.definition.specs.Test.{Tested as TestedOf, test_checks, test}
+use Rattle.definition.specs.Probe.{probe_checks, probe}
+use Rattle.definition.specs.Flush.{Flushed as FlushedOf, flush_checks, flush_unless, flush_all, flush_code, flush_page, flush_frame}
 use Rattle.definition.specs.declared.Registers.{Registers}
 use Rattle.definition.specs.declared.Access.{Access}
 use Rattle.definition.specs.declared.Translation.{Translation}
@@ -18,7 +18,7 @@ use Rattle.definition.specs.declared.Load.{Load}
 use Rattle.definition.specs.declared.Test.{Test}
 use Rattle.definition.specs.declared.Probe.{Probe}
 use Rattle.definition.specs.declared.Flush.{Flush}
-use Rattle.definition.proofs.Refusals.{numbers, inTranslation, translate-refuses, translate-leaves, inLoad, load-refuses, load-leaves, inTest, test-refuses, test-leaves, inProbe, probe-refuses, inFlush, flush-refuses, flush-leaves}
+use Rattle.definition.proofs.Refusals.{numbers, in_translation, translate_refuses, translate_leaves, in_load, load_refuses, load_leaves, in_test, test_refuses, test_leaves, in_probe, probe_refuses, in_flush, flush_refuses, flush_leaves}
 use Rattle.cache.specs.Pair.{pair_of, SizedPair}
 use Rattle.cache.specs.declared.CachePair.{CachePair}
 use Rattle.cache.proofs.Pairs.{pair_same}
@@ -26,83 +26,83 @@ use Rattle.test.specs.declared.TestOutcome.{TestOutcome}
 use Rattle.mmu.specs.declared.by_value.Translated.{Translated}
 use Rattle.mmu.specs.declared.by_value.Loaded.{Loaded}
 use Rattle.tableless.specs.declared.Flushed.{Flushed}
-use Rattle.test.specs.Tested.{shownTested, TestedIn}
+use Rattle.test.specs.Tested.{shown_tested, TestedIn}
 use Rattle.mmu.specs.ByValue.{TranslatedBy, LoadedBy}
 use Rattle.tableless.specs.ByValue.{FlushedBy}
 
 module _ (g : Registers) (a : Access) (m : Memory) (c : CachePair) (r : Translated) (k : TranslatedBy (translate g a m (pair_of c)) r) where
-  pub translate-first : inTranslation r.answer ≡ numbers (refusalOf (translateChecks g a m (pair_of c)))
-  translate-first = ap inTranslation k.answers ∙ translate-refuses g m a (pair_of c)
+  pub translate_first : in_translation r.answer ≡ numbers (refusal_of (translate_checks g a m (pair_of c)))
+  translate_first = ap in_translation k.answers ∙ translate_refuses g m a (pair_of c)
 
-  pub translate-keeps : (n : ℕ) → r.answer ≡ Translation.Refused n → SizedPair c → (r.count ≡ 0) × (r.caches ≡ c)
-  translate-keeps n e whole =
-      let left = translate-leaves g m a (pair_of c) n (sym k.answers ∙ e) in
+  pub translate_keeps : (n : ℕ) → r.answer ≡ Translation.Refused n → SizedPair c → (r.count ≡ 0) × (r.caches ≡ c)
+  translate_keeps n e whole =
+      let left = translate_leaves g m a (pair_of c) n (sym k.answers ∙ e) in
       (k.counts ∙ ap (λ (t : TranslatedOf). length t.asked) left, pair_same r.caches c k.whole whole (k.leaves ∙ ap (λ (t : TranslatedOf). t.caches) left))
 
 module _ (g : Registers) (code : ℕ) (write : Bool) (address : ℕ) (m : Memory) (c : CachePair) (r : Loaded) (k : LoadedBy (load g code write address m (pair_of c)) r) where
-  pub load-first : inLoad r.answer ≡ numbers (refusalOf (loadChecks g code m (pair_of c)))
-  load-first = ap inLoad k.answers ∙ load-refuses g code write address m (pair_of c)
+  pub load_first : in_load r.answer ≡ numbers (refusal_of (load_checks g code m (pair_of c)))
+  load_first = ap in_load k.answers ∙ load_refuses g code write address m (pair_of c)
 
-  pub load-keeps : (n : ℕ) → r.answer ≡ Load.Refused n → SizedPair c → (r.count ≡ 0) × (r.caches ≡ c)
-  load-keeps n e whole =
-      let left = load-leaves g code write address m (pair_of c) n (sym k.answers ∙ e) in
+  pub load_keeps : (n : ℕ) → r.answer ≡ Load.Refused n → SizedPair c → (r.count ≡ 0) × (r.caches ≡ c)
+  load_keeps n e whole =
+      let left = load_leaves g code write address m (pair_of c) n (sym k.answers ∙ e) in
       (k.counts ∙ ap (λ (l : LoadedOf). length l.asked) left, pair_same r.caches c k.whole whole (k.leaves ∙ ap (λ (l : LoadedOf). l.caches) left))
 
 module _ (g : Registers) (code : ℕ) (write : Bool) (level address : ℕ) (m : Memory) (r : TestOutcome)
-    (k : TestedIn (shownTested (test g code write level address m)) r.answer r.count) where
-  pub test-first : inTest r.answer ≡ numbers (refusalOf (testChecks g code level m))
-  test-first = ap inTest k.answers ∙ test-refuses g code write level address m
+    (k : TestedIn (shown_tested (test g code write level address m)) r.answer r.count) where
+  pub test_first : in_test r.answer ≡ numbers (refusal_of (test_checks g code level m))
+  test_first = ap in_test k.answers ∙ test_refuses g code write level address m
 
-  pub test-keeps : (n : ℕ) → r.answer ≡ Test.Refused n → r.count ≡ 0
-  test-keeps n e =
-      k.counts ∙ ap (λ (t : TestedOf). length t.asked) (test-leaves g code write level address m n (sym k.answers ∙ e))
+  pub test_keeps : (n : ℕ) → r.answer ≡ Test.Refused n → r.count ≡ 0
+  test_keeps n e =
+      k.counts ∙ ap (λ (t : TestedOf). length t.asked) (test_leaves g code write level address m n (sym k.answers ∙ e))
 
-pub probe-first : (g : Registers) (own instruction write : Bool) (address : ℕ) (c : CachePair) (r : Probe) → r ≡ probe g own instruction write address (pair_of c)
-    → inProbe r ≡ numbers (refusalOf (probeChecks g (pair_of c)))
-probe-first g own instruction write address c r k = ap inProbe k ∙ probe-refuses g own instruction write address (pair_of c)
+pub probe_first : (g : Registers) (own instruction write : Bool) (address : ℕ) (c : CachePair) (r : Probe) → r ≡ probe g own instruction write address (pair_of c)
+    → in_probe r ≡ numbers (refusal_of (probe_checks g (pair_of c)))
+probe_first g own instruction write address c r k = ap in_probe k ∙ probe_refuses g own instruction write address (pair_of c)
 
 -- ---- the flushes
-module _ (k : Checks) (c : CachePair) (done : FlushedOf) (is : done.answer ≡ Flush.Flushed) (r : Flushed) (by : FlushedBy (flushUnless k (pair_of c) done) r) where
-  first : inFlush r.answer ≡ numbers (refusalOf k)
-  first = ap inFlush by.answers ∙ flush-refuses k (pair_of c) done is
+module _ (k : Checks) (c : CachePair) (done : FlushedOf) (is : done.answer ≡ Flush.Flushed) (r : Flushed) (by : FlushedBy (flush_unless k (pair_of c) done) r) where
+  first : in_flush r.answer ≡ numbers (refusal_of k)
+  first = ap in_flush by.answers ∙ flush_refuses k (pair_of c) done is
 
   keeps : (n : ℕ) → r.answer ≡ Flush.Refused n → SizedPair c → r.caches ≡ c
   keeps n e whole =
       pair_same r.caches c by.whole whole
-      (by.leaves ∙ ap (λ (f : FlushedOf). f.caches) (flush-leaves k (pair_of c) done is n (sym by.answers ∙ e)))
+      (by.leaves ∙ ap (λ (f : FlushedOf). f.caches) (flush_leaves k (pair_of c) done is n (sym by.answers ∙ e)))
 
 module _ (c : CachePair) (r : Flushed) where
-  pub flush-all-first : FlushedBy (flushAll (pair_of c)) r → inFlush r.answer ≡ numbers (refusalOf (flushChecks false (badCache (pair_of c).c030)))
-  unfolding flushAll
-  flush-all-first by = first _ c _ refl r by
+  pub flush_all_first : FlushedBy (flush_all (pair_of c)) r → in_flush r.answer ≡ numbers (refusal_of (flush_checks false (bad_cache (pair_of c).c030)))
+  unfolding flush_all
+  flush_all_first by = first _ c _ refl r by
 
-  pub flush-all-keeps : FlushedBy (flushAll (pair_of c)) r → (n : ℕ) → r.answer ≡ Flush.Refused n → SizedPair c → r.caches ≡ c
-  unfolding flushAll
-  flush-all-keeps by = keeps _ c _ refl r by
+  pub flush_all_keeps : FlushedBy (flush_all (pair_of c)) r → (n : ℕ) → r.answer ≡ Flush.Refused n → SizedPair c → r.caches ≡ c
+  unfolding flush_all
+  flush_all_keeps by = keeps _ c _ refl r by
 
-  pub flush-code-first : (code mask : ℕ) → FlushedBy (flushCode code mask (pair_of c)) r
-      → inFlush r.answer ≡ numbers (refusalOf (flushChecks (aboveSeven code || aboveSeven mask) (badCache (pair_of c).c030)))
-  unfolding flushCode
-  flush-code-first code mask by = first _ c _ refl r by
+  pub flush_code_first : (code mask : ℕ) → FlushedBy (flush_code code mask (pair_of c)) r
+      → in_flush r.answer ≡ numbers (refusal_of (flush_checks (above_seven code || above_seven mask) (bad_cache (pair_of c).c030)))
+  unfolding flush_code
+  flush_code_first code mask by = first _ c _ refl r by
 
-  pub flush-code-keeps : (code mask : ℕ) → FlushedBy (flushCode code mask (pair_of c)) r → (n : ℕ) → r.answer ≡ Flush.Refused n → SizedPair c → r.caches ≡ c
-  unfolding flushCode
-  flush-code-keeps code mask by = keeps _ c _ refl r by
+  pub flush_code_keeps : (code mask : ℕ) → FlushedBy (flush_code code mask (pair_of c)) r → (n : ℕ) → r.answer ≡ Flush.Refused n → SizedPair c → r.caches ≡ c
+  unfolding flush_code
+  flush_code_keeps code mask by = keeps _ c _ refl r by
 
-  pub flush-page-first : (code mask address : ℕ) → FlushedBy (flushPage code mask address (pair_of c)) r
-      → inFlush r.answer ≡ numbers (refusalOf (flushChecks (aboveSeven code || aboveSeven mask) (badCache (pair_of c).c030)))
-  unfolding flushPage
-  flush-page-first code mask address by = first _ c _ refl r by
+  pub flush_page_first : (code mask address : ℕ) → FlushedBy (flush_page code mask address (pair_of c)) r
+      → in_flush r.answer ≡ numbers (refusal_of (flush_checks (above_seven code || above_seven mask) (bad_cache (pair_of c).c030)))
+  unfolding flush_page
+  flush_page_first code mask address by = first _ c _ refl r by
 
-  pub flush-page-keeps : (code mask address : ℕ) → FlushedBy (flushPage code mask address (pair_of c)) r → (n : ℕ) → r.answer ≡ Flush.Refused n → SizedPair c → r.caches ≡ c
-  unfolding flushPage
-  flush-page-keeps code mask address by = keeps _ c _ refl r by
+  pub flush_page_keeps : (code mask address : ℕ) → FlushedBy (flush_page code mask address (pair_of c)) r → (n : ℕ) → r.answer ≡ Flush.Refused n → SizedPair c → r.caches ≡ c
+  unfolding flush_page
+  flush_page_keeps code mask address by = keeps _ c _ refl r by
 
-  pub flush-frame-first : (frame : ℕ) → FlushedBy (flushFrame frame (pair_of c)) r
-      → inFlush r.answer ≡ numbers (refusalOf (flushChecks (badFrame frame) false))
-  unfolding flushFrame
-  flush-frame-first frame by = first _ c _ refl r by
+  pub flush_frame_first : (frame : ℕ) → FlushedBy (flush_frame frame (pair_of c)) r
+      → in_flush r.answer ≡ numbers (refusal_of (flush_checks (bad_frame frame) false))
+  unfolding flush_frame
+  flush_frame_first frame by = first _ c _ refl r by
 
-  pub flush-frame-keeps : (frame : ℕ) → FlushedBy (flushFrame frame (pair_of c)) r → (n : ℕ) → r.answer ≡ Flush.Refused n → SizedPair c → r.caches ≡ c
-  unfolding flushFrame
-  flush-frame-keeps frame by = keeps _ c _ refl r by
+  pub flush_frame_keeps : (frame : ℕ) → FlushedBy (flush_frame frame (pair_of c)) r → (n : ℕ) → r.answer ≡ Flush.Refused n → SizedPair c → r.caches ≡ c
+  unfolding flush_frame
+  flush_frame_keeps frame by = keeps _ c _ refl r by

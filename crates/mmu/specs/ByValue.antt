@@ -10,11 +10,11 @@ use Rattle.mmu.specs.declared.by_value.Translated.{Translated}
 use Rattle.mmu.specs.declared.by_value.Loaded.{Loaded}
 
 -- what a call gives, put together
-abbrev pub translatedWith : Translation → ℕ → CachePair → Translated
-translatedWith answer count caches = record { answer = answer; count = count; caches = caches }
+abbrev pub translated_with : Translation → ℕ → CachePair → Translated
+translated_with answer count caches = record { answer = answer; count = count; caches = caches }
 
-abbrev pub loadedWith : Load → ℕ → CachePair → Loaded
-loadedWith answer count caches = record { answer = answer; count = count; caches = caches }
+abbrev pub loaded_with : Load → ℕ → CachePair → Loaded
+loaded_with answer count caches = record { answer = answer; count = count; caches = caches }
 
 pub record TranslatedBy (t : TranslatedOf) (r : Translated) : Type 0 where
   pub answers : r.answer ≡ t.answer

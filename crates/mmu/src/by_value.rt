@@ -6,7 +6,7 @@ ghost use Rattle.definition.specs.Translate.{translate as translateOf};
 ghost use Rattle.definition.specs.Load.{load as load_of};
 ghost use Rattle.definition.specs.Test.{test as test_of};
 ghost use Rattle.cache.specs.Pair.{pair_of};
-ghost use Rattle.test.specs.Tested.{shownTested, TestedIn};
+ghost use Rattle.test.specs.Tested.{shown_tested, TestedIn};
 ghost use Rattle.mmu.specs.ByValue.{TranslatedBy, LoadedBy};
 
 use cache::CachePair;
@@ -131,7 +131,7 @@ pub fn test(
     level: u32,
     address: u32,
 ) -> TestOutcome
-    ensures { TestedIn (shownTested (test_of g code write level address (memory longs.now base ranges.now))) result.answer result.count }
+    ensures { TestedIn (shown_tested (test_of g code write level address (memory longs.now base ranges.now))) result.answer result.count }
 {
     let crossed = any_crossed(ranges);
     test::test(longs, base, ranges, crossed, g, code, write, level, address)

@@ -1,7 +1,7 @@
 // What a host's numbers are: registers, an access, and an answer. A host hands in and is told numbers alone; specs/ says which number means what.
 ghost use Rattle.std.specs.Prelude.{◌≡◌, [], ◌∷◌};
-ghost use Rattle.definition.specs.Trace.{overrideOf};
-ghost use Rattle.numbers.specs.Numbers.{registersOf, accessOf, translationNumbers, loadNumbers, testNumbers, probeNumbers, auditNumbers, held_of, walkedOf, findingNumbers, flushNumber};
+ghost use Rattle.definition.specs.Trace.{override_of};
+ghost use Rattle.numbers.specs.Numbers.{registers_of, access_of, translation_numbers, load_numbers, test_numbers, probe_numbers, audit_numbers, held_of, walked_of, finding_numbers, flush_number};
 
 use definition::{
     Access, Audit, Finding, Flush, Hit, Load, Override, Probe, Registers, Root, Test, Translation,
@@ -14,7 +14,7 @@ use translate::Outcome;
 
 // Family, flags, and the 11 longs.
 pub fn registers_of(numbers: &[u32; 13]) -> Registers
-    ensures { result ≡ registersOf numbers.now }
+    ensures { result ≡ registers_of numbers.now }
 {
     let flags = numbers[1];
     let present = memory::bits::bit(flags, 0);
@@ -45,7 +45,7 @@ pub fn registers_of(numbers: &[u32; 13]) -> Registers
 
 // An override, or FF for none.
 fn override_of(code: u32) -> Override
-    ensures { result ≡ overrideOf code }
+    ensures { result ≡ override_of code }
 {
     if code == 255 {
         return Override::Plain;
@@ -55,7 +55,7 @@ fn override_of(code: u32) -> Override
 
 // Flags: 0 write, 1 supervisor, 2 instruction, 3 CPU state, 4 record.
 pub fn access_of(flags: u32, code: u32, address: u32) -> Access
-    ensures { result ≡ accessOf flags code address }
+    ensures { result ≡ access_of flags code address }
 {
     let write = memory::bits::bit(flags, 0);
     let supervisor = memory::bits::bit(flags, 1);
@@ -78,7 +78,7 @@ pub fn access_of(flags: u32, code: u32, address: u32) -> Access
 
 // A flush's: 0, or the number of its refusal.
 pub fn flush_number(f: Flush) -> u32
-    ensures { result ≡ flushNumber f }
+    ensures { result ≡ flush_number f }
 {
     match f {
         Flush::Flushed => 0,
@@ -95,7 +95,7 @@ fn tell(out: &mut [u32; 5], what: u32, number: u32, second: u32, third: u32, cou
 
 // A translation's.
 pub fn tell_translation(out: &mut [u32; 5], o: Outcome)
-    ensures { out.new ≡ translationNumbers o.answer o.count }
+    ensures { out.new ≡ translation_numbers o.answer o.count }
 {
     let answer = o.answer;
     match answer {
@@ -115,7 +115,7 @@ pub fn tell_translation(out: &mut [u32; 5], o: Outcome)
 
 // A load's.
 pub fn tell_load(out: &mut [u32; 5], o: LoadOutcome)
-    ensures { out.new ≡ loadNumbers o.answer o.count }
+    ensures { out.new ≡ load_numbers o.answer o.count }
 {
     let answer = o.answer;
     match answer {
@@ -126,7 +126,7 @@ pub fn tell_load(out: &mut [u32; 5], o: LoadOutcome)
 
 // A test's.
 pub fn tell_test(out: &mut [u32; 5], o: TestOutcome)
-    ensures { out.new ≡ testNumbers o.answer o.count }
+    ensures { out.new ≡ test_numbers o.answer o.count }
 {
     let answer = o.answer;
     match answer {
@@ -137,7 +137,7 @@ pub fn tell_test(out: &mut [u32; 5], o: TestOutcome)
 
 // A probe's.
 pub fn tell_probe(out: &mut [u32; 5], p: Probe)
-    ensures { out.new ≡ probeNumbers p }
+    ensures { out.new ≡ probe_numbers p }
 {
     match p {
         Probe::Address(x) => tell(out, 0, x, 0, 0, 0),
@@ -148,7 +148,7 @@ pub fn tell_probe(out: &mut [u32; 5], p: Probe)
 
 // An audit's: 0 where every entry is right, 1 with the index of a stale entry and its cache, 30 or 40.
 pub fn tell_audit(out: &mut [u32; 5], a: Audit)
-    ensures { out.new ≡ auditNumbers a }
+    ensures { out.new ≡ audit_numbers a }
 {
     match a {
         Audit::Clean => tell(out, 0, 0, 0, 0, 0),
@@ -193,7 +193,7 @@ struct Walked {
 }
 
 fn walked_of(t: Translation) -> Walked
-    ensures { result ≡ walkedOf t }
+    ensures { result ≡ walked_of t }
 {
     match t {
         Translation::Address(x) => Walked {
@@ -223,7 +223,7 @@ fn walked_of(t: Translation) -> Walked
 
 // What is said of one entry: its page's first address and code, what the cache gives, and what the tables give.
 pub fn tell_finding(out: &mut [u32; 10], f: Finding)
-    ensures { out.new ≡ findingNumbers f }
+    ensures { out.new ≡ finding_numbers f }
 {
     match f {
         Finding::Says {

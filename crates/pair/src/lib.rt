@@ -5,10 +5,10 @@ ghost use Rattle.std.specs.Prelude.{◌≡◌};
 ghost use Rattle.definition.specs.Memory.{memory};
 ghost use Rattle.definition.specs.Translate.{translate as translateOf};
 ghost use Rattle.definition.specs.Load.{load as load_of};
-ghost use Rattle.definition.specs.Flush.{flushAll, flushCode, flushPage, flushFrame};
+ghost use Rattle.definition.specs.Flush.{flush_all, flush_code, flush_page, flush_frame};
 ghost use Rattle.cache.specs.Pair.{pair_of};
-ghost use Rattle.tableless.specs.ByValue.{FlushedBy, flushedWith};
-ghost use Rattle.mmu.specs.ByValue.{TranslatedBy, translatedWith, LoadedBy, loadedWith};
+ghost use Rattle.tableless.specs.ByValue.{FlushedBy, flushed_with};
+ghost use Rattle.mmu.specs.ByValue.{TranslatedBy, translated_with, LoadedBy, loaded_with};
 
 use cache::CachePair;
 use definition::{Access, Flush, Range, Registers};
@@ -75,7 +75,7 @@ pub fn translate_pair(
     g: Registers,
     a: Access,
 ) -> Outcome
-    ensures { TranslatedBy (translateOf g a (memory longs.now base ranges.now) (pair_of p.old)) (translatedWith result.answer result.count p.new) }
+    ensures { TranslatedBy (translateOf g a (memory longs.now base ranges.now) (pair_of p.old)) (translated_with result.answer result.count p.new) }
 {
     let old = *p;
     let done = by_value::translate(longs, base, ranges, g, a, old);
@@ -95,7 +95,7 @@ pub fn load_pair(
     write: bool,
     address: u32,
 ) -> LoadOutcome
-    ensures { LoadedBy (load_of g code write address (memory longs.now base ranges.now) (pair_of p.old)) (loadedWith result.answer result.count p.new) }
+    ensures { LoadedBy (load_of g code write address (memory longs.now base ranges.now) (pair_of p.old)) (loaded_with result.answer result.count p.new) }
 {
     let old = *p;
     let done = by_value::load(longs, base, ranges, g, code, write, address, old);
@@ -106,7 +106,7 @@ pub fn load_pair(
 
 // Empties both caches of the pair that the host keeps.
 pub fn flush_all_pair(p: &mut CachePair) -> Flush
-    ensures { FlushedBy (flushAll (pair_of p.old)) (flushedWith result p.new) }
+    ensures { FlushedBy (flush_all (pair_of p.old)) (flushed_with result p.new) }
 {
     let old = *p;
     let done = tableless::flush_all(old);
@@ -117,7 +117,7 @@ pub fn flush_all_pair(p: &mut CachePair) -> Flush
 
 // Drops its entries whose code agrees on the mask's bits.
 pub fn flush_code_pair(p: &mut CachePair, code: u32, mask: u32) -> Flush
-    ensures { FlushedBy (flushCode code mask (pair_of p.old)) (flushedWith result p.new) }
+    ensures { FlushedBy (flush_code code mask (pair_of p.old)) (flushed_with result p.new) }
 {
     let old = *p;
     let done = tableless::flush_code(code, mask, old);
@@ -128,7 +128,7 @@ pub fn flush_code_pair(p: &mut CachePair, code: u32, mask: u32) -> Flush
 
 // Drops those of them whose page is the address's.
 pub fn flush_page_pair(p: &mut CachePair, code: u32, mask: u32, address: u32) -> Flush
-    ensures { FlushedBy (flushPage code mask address (pair_of p.old)) (flushedWith result p.new) }
+    ensures { FlushedBy (flush_page code mask address (pair_of p.old)) (flushed_with result p.new) }
 {
     let old = *p;
     let done = tableless::flush_page(code, mask, address, old);
@@ -139,7 +139,7 @@ pub fn flush_page_pair(p: &mut CachePair, code: u32, mask: u32, address: u32) ->
 
 // Drops a 68040 frame of it for either privilege.
 pub fn flush_frame_pair(p: &mut CachePair, frame: u32) -> Flush
-    ensures { FlushedBy (flushFrame frame (pair_of p.old)) (flushedWith result p.new) }
+    ensures { FlushedBy (flush_frame frame (pair_of p.old)) (flushed_with result p.new) }
 {
     let old = *p;
     let done = tableless::flush_frame(frame, old);

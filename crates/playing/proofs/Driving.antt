@@ -10,7 +10,7 @@ use lib.Seq.{take-suc, take-suc-set, get_or-drop, drop-set-lt, drop-drop, take-a
 use Rattle.definition.specs.Words.{any_of}
 use Rattle.definition.specs.Refusal.{crossed}
 use Rattle.definition.specs.Trace.{State}
-use Rattle.replay.specs.Playing.{rangesOf, state_of, Runs, none, more, Going}
+use Rattle.replay.specs.Playing.{ranges_of, state_of, Runs, none, more, Going}
 use Rattle.replay.specs.declared.Kept.{Kept}
 use Rattle.streams.specs.Filled.{Filled, Came as Held}
 use Rattle.streams.specs.declared.Got.{Got}
@@ -37,8 +37,8 @@ module _ (from i : ℕ) (b₀ b : List ℕ) (size : length b ≡ length b₀) (w
         same_byte,
       ) refl
 
-  pub stays-more : drop (i + 1) (set b i (get_or b (from + i) 0)) ≡ drop (i + 1) b₀
-  stays-more = drop-set-lt (i + 1) b i (get_or b (from + i) 0) (omega arith) ∙ sym (drop-drop 1 i b) ∙ ap (drop 1) stays ∙ drop-drop 1 i b₀
+  pub stays_more : drop (i + 1) (set b i (get_or b (from + i) 0)) ≡ drop (i + 1) b₀
+  stays_more = drop-set-lt (i + 1) b i (get_or b (from + i) 0) (omega arith) ∙ sym (drop-drop 1 i b) ∙ ap (drop 1) stays ∙ drop-drop 1 i b₀
 
 pub moved_all : (from left i : ℕ) (b₀ b : List ℕ) → i ≤ left → left ≤ i → take i b ≡ take i (drop from b₀) → take left b ≡ take left (drop from b₀)
 moved_all from left i b₀ b h k moved =
@@ -50,13 +50,13 @@ runs_then : (s s' : State) (b r t : List ℕ) {s'' : State} {r' t' : List ℕ} �
 runs_then s s' b r t x none = rw (append-nil t) x
 runs_then s s' b r t x (more {t = t'} body rest k e m) = rw (← append_assoc t t' _) (more body rest (runs_then s s' b r t x k) e m)
 
-pub plays-then : (s s' : State) (b r : List ℕ) {s'' : State} {r' : List ℕ} → Plays s b s' r → Plays s' r s'' r' → Plays s b s'' r'
-plays-then s s' b r p q = record { printed = p.printed ++ q.printed; runs = runs_then s s' b r p.printed p.runs q.runs }
+pub plays_then : (s s' : State) (b r : List ℕ) {s'' : State} {r' : List ℕ} → Plays s b s' r → Plays s' r s'' r' → Plays s b s'' r'
+plays_then s s' b r p q = record { printed = p.printed ++ q.printed; runs = runs_then s s' b r p.printed p.runs q.runs }
 
 -- what a run over a part of the buffer leaves of it
-rest-after : (b : List ℕ) (at read have : ℕ) → at + read ≤ have → have ≤ length b
+rest_after : (b : List ℕ) (at read have : ℕ) → at + read ≤ have → have ≤ length b
     → drop read (take (have - at) (drop at b)) ≡ take (have - (at + read)) (drop (at + read) b)
-rest-after b at read have h k =
+rest_after b at read have h k =
     let e : have - at ≡ read + (have - (at + read)) = omega arith in
     rw (e, take-add read (have - (at + read)) (drop at b))
     (drop_at (take read (drop at b)) (take (have - (at + read)) (drop read (drop at b))) read (length-take-le read (drop at b) (omega (arith, length-drop at b)))
@@ -66,8 +66,8 @@ rest-after b at read have h k =
 pub went : {n : Next} {s s' : State} {b out out' : List ℕ} {read wrote : ℕ} → Going s b out s' read out' wrote → Went n s b s' read
 went g = record { plays = λ e. record { printed = g.printed; runs = g.runs } }
 
-pub went-over : {s s' : State} {b : List ℕ} {read : ℕ} → Went next.Over s b s' read
-went-over = record { plays = λ e. absurd (true≢false (sym e)) }
+pub went_over : {s s' : State} {b : List ℕ} {read : ℕ} → Went next.Over s b s' read
+went_over = record { plays = λ e. absurd (true≢false (sym e)) }
 
 -- ---- the waiting bytes, one run after the other
 module _ (s : State) (b : List ℕ) (have : ℕ) where
@@ -83,15 +83,15 @@ module _ (s : State) (b : List ℕ) (have : ℕ) where
     pub one_more : (s' : State) {s'' : State} → Plays s (take have b) s' (take (have - at) (drop at b))
         → Plays s' (take (have - at) (drop at b)) s'' (drop read (take (have - at) (drop at b)))
         → Plays s (take have b) s'' (take (have - (at + read)) (drop (at + read) b))
-    one_more s' p q = rw (← rest-after b at read have within k) (plays-then s s' (take have b) (take (have - at) (drop at b)) p q)
+    one_more s' p q = rw (← rest_after b at read have within k) (plays_then s s' (take have b) (take (have - at) (drop at b)) p q)
 
 -- ---- what a turn leaves
-pub none_kept : (k : Kept) → k.n ≡ 0 → any_of crossed (rangesOf k) ≡ false
+pub none_kept : (k : Kept) → k.n ≡ 0 → any_of crossed (ranges_of k) ≡ false
 unfolding any_of
 none_kept k e = rw e
 
-pub crossed-stays : {k k' : Kept} → k' ≡ k → any_of crossed (rangesOf k) ≡ false → any_of crossed (rangesOf k') ≡ false
-crossed-stays e f = ap (λ (x : Kept). any_of crossed (rangesOf x)) e ∙ f
+pub crossed_stays : {k k' : Kept} → k' ≡ k → any_of crossed (ranges_of k) ≡ false → any_of crossed (ranges_of k') ≡ false
+crossed_stays e f = ap (λ (x : Kept). any_of crossed (ranges_of x)) e ∙ f
 
 pub rested : (s : State) {s' s'' : State} (b b' : List ℕ) (have at : ℕ) {h : ℕ} {on : Bool} → s'' ≡ s' → h ≡ have - at → take h b' ≡ take h (drop at b)
     → Plays s (take have b) s' (take (have - at) (drop at b)) → Waits on s (take have b) s'' b' h
@@ -110,5 +110,5 @@ module _ {on : Bool} {s s' : State} {b'' : List ℕ} {h : ℕ} where
       let e : have + (n - have) ≡ n = omega arith in
       record { comes = λ t. record { came = take (n - have) (drop have b'); plays = rw (← stay, ← take-add have (n - have) b', e) (w.plays t) } }
 
-  pub turned-over : {b : List ℕ} → on ≡ false → Turned on s b s' b'' h
-  turned-over f = record { comes = λ t. absurd (true≢false (sym t ∙ f)) }
+  pub turned_over : {b : List ℕ} → on ≡ false → Turned on s b s' b'' h
+  turned_over f = record { comes = λ t. absurd (true≢false (sym t ∙ f)) }

@@ -3,7 +3,7 @@
 ghost use Rattle.std.specs.Prelude.{◌≡◌, true, false, ◌≤◌, ◌-◌, length, take, drop};
 ghost use Rattle.definition.specs.Words.{any_of};
 ghost use Rattle.definition.specs.Refusal.{crossed};
-ghost use Rattle.replay.specs.Playing.{rangesOf, state_of};
+ghost use Rattle.replay.specs.Playing.{ranges_of, state_of};
 ghost use Rattle.playing.specs.Driving.{Went, Waits, Turned};
 
 use cache::atc030::Atc030;
@@ -98,8 +98,8 @@ fn some(
     line: &mut [u8],
     states: bool,
 ) -> Played
-    requires { any_of crossed (rangesOf kept) ≡ false }
-    ensures { (any_of crossed (rangesOf result.kept) ≡ false) × (result.read ≤ length input.now) × Went result.next (state_of kept longs.old c030.old c040.old) input.now (state_of result.kept longs.new c030.new c040.new) result.read }
+    requires { any_of crossed (ranges_of kept) ≡ false }
+    ensures { (any_of crossed (ranges_of result.kept) ≡ false) × (result.read ≤ length input.now) × Went result.next (state_of kept longs.old c030.old c040.old) input.now (state_of result.kept longs.new c030.new c040.new) result.read }
 {
     let ran = replay::run::run(c030, c040, longs, kept, input, out);
     let now = ran.kept;
@@ -159,8 +159,8 @@ fn drained(
     line: &mut [u8],
     states: bool,
 ) -> Waiting
-    requires { (have ≤ length buffer.old) × (any_of crossed (rangesOf kept) ≡ false) }
-    ensures { (any_of crossed (rangesOf result.kept) ≡ false) × Waits result.on (state_of kept longs.old c030.old c040.old) (take have buffer.old) (state_of result.kept longs.new c030.new c040.new) buffer.new result.have }
+    requires { (have ≤ length buffer.old) × (any_of crossed (ranges_of kept) ≡ false) }
+    ensures { (any_of crossed (ranges_of result.kept) ≡ false) × Waits result.on (state_of kept longs.old c030.old c040.old) (take have buffer.old) (state_of result.kept longs.new c030.new c040.new) buffer.new result.have }
 {
     let mut now = kept;
     let mut at = 0;
@@ -201,8 +201,8 @@ fn turn(
     line: &mut [u8],
     states: bool,
 ) -> Waiting
-    requires { any_of crossed (rangesOf w.kept) ≡ false }
-    ensures { (any_of crossed (rangesOf result.kept) ≡ false) × Turned result.on (state_of w.kept longs.old c030.old c040.old) (take w.have buffer.old) (state_of result.kept longs.new c030.new c040.new) buffer.new result.have }
+    requires { any_of crossed (ranges_of w.kept) ≡ false }
+    ensures { (any_of crossed (ranges_of result.kept) ≡ false) × Turned result.on (state_of w.kept longs.old c030.old c040.old) (take w.have buffer.old) (state_of result.kept longs.new c030.new c040.new) buffer.new result.have }
 {
     let kept = w.kept;
     let have = w.have;

@@ -8,85 +8,85 @@ use Rattle.definition.specs.Words.{if◌then◌else◌}
 use Rattle.definition.specs.Registers.{on, code_of}
 use Rattle.definition.specs.Transparent.{transparent}
 use Rattle.definition.specs.Walk030.{shift_of}
-use Rattle.definition.specs.Walk040.{pageBits}
-use Rattle.definition.specs.Cache030.{Cache030, hitOf}
+use Rattle.definition.specs.Walk040.{page_bits}
+use Rattle.definition.specs.Cache030.{Cache030, hit_of}
 use Rattle.definition.specs.Cache040.{Cache040, hit040}
-use Rattle.definition.specs.Refusal.{noFamily, badCache, refusalOf}
-use Rattle.definition.specs.Translate.{Caches, hitAddress, joined}
-use Rattle.definition.specs.Probe.{probe030, probe040, probeInOrder, probe}
+use Rattle.definition.specs.Refusal.{no_family, bad_cache, refusal_of}
+use Rattle.definition.specs.Translate.{Caches, hit_address, joined}
+use Rattle.definition.specs.Probe.{probe030, probe040, probe_in_order, probe}
 use Rattle.definition.specs.declared.Registers.{Registers}
 use Rattle.definition.specs.declared.Shift.{Shift}
 use Rattle.definition.specs.declared.Shift.TheVariants.{Bits, NoPage}
 use Rattle.definition.specs.declared.Hit.{Hit}
 use Rattle.definition.specs.declared.Hit.TheVariants.{At, Miss}
 use Rattle.definition.specs.declared.Probe.{Probe}
-use Rattle.checks.specs.Given.{checksOf}
-use Rattle.checks.proofs.Bounds.{in-three-bits, code-small}
+use Rattle.checks.specs.Given.{checks_of}
+use Rattle.checks.proofs.Bounds.{in_three_bits, code_small}
 
 -- ---- the 68030 cache
 module _ (c : Cache030) (code : ℕ) (write : Bool) (address : ℕ) {r s : Shift} (is : r ≡ s) where
-  pub none-030 : r ≡ NoPage → Probe.Nothing ≡ probe030 c code write address s
-  none-030 e = rw (sym is ∙ e)
+  pub none_030 : r ≡ NoPage → Probe.Nothing ≡ probe030 c code write address s
+  none_030 e = rw (sym is ∙ e)
 
-  module _ {shift : ℕ} {h : Hit} (small : code < 8) (e : r ≡ Bits shift) (look : h ≡ hitOf c (code % 8) (address / 2 ^ shift) shift write) where
-    held : {x : Hit} → h ≡ x → hitOf c code (address / 2 ^ shift) shift write ≡ x
-    held f = rw (← in-three-bits small) (sym look ∙ f)
+  module _ {shift : ℕ} {h : Hit} (small : code < 8) (e : r ≡ Bits shift) (look : h ≡ hit_of c (code % 8) (address / 2 ^ shift) shift write) where
+    held : {x : Hit} → h ≡ x → hit_of c code (address / 2 ^ shift) shift write ≡ x
+    held f = rw (← in_three_bits small) (sym look ∙ f)
 
-    pub at-030 : {base to : ℕ} → h ≡ At base → to ≡ hitAddress base address shift → Probe.Address to ≡ probe030 c code write address s
-    at-030 f t = rw (sym is ∙ e, held f, t)
+    pub at_030 : {base to : ℕ} → h ≡ At base → to ≡ hit_address base address shift → Probe.Address to ≡ probe030 c code write address s
+    at_030 f t = rw (sym is ∙ e, held f, t)
 
-    pub miss-030 : h ≡ Miss → Probe.Nothing ≡ probe030 c code write address s
-    miss-030 f = rw (sym is ∙ e, held f)
+    pub miss_030 : h ≡ Miss → Probe.Nothing ≡ probe030 c code write address s
+    miss_030 f = rw (sym is ∙ e, held f)
 
 -- ---- the 68040 cache
-module _ (g : Registers) (c : Cache040) (own write : Bool) (address : ℕ) {bits : ℕ} {h : Hit} (is : bits ≡ pageBits g.tc)
+module _ (g : Registers) (c : Cache040) (own write : Bool) (address : ℕ) {bits : ℕ} {h : Hit} (is : bits ≡ page_bits g.tc)
     (look : h ≡ hit040 c (address / 2 ^ bits) own write) where
-  found : {x : Hit} → h ≡ x → hit040 c (address / 2 ^ pageBits g.tc) own write ≡ x
+  found : {x : Hit} → h ≡ x → hit040 c (address / 2 ^ page_bits g.tc) own write ≡ x
   found e = rw (← is) (sym look ∙ e)
 
-  pub at-040 : {base to : ℕ} → h ≡ At base → to ≡ joined g.tc base address → Probe.Address to ≡ probe040 g c own write address
-  at-040 f t = rw (found f, t)
+  pub at_040 : {base to : ℕ} → h ≡ At base → to ≡ joined g.tc base address → Probe.Address to ≡ probe040 g c own write address
+  at_040 f t = rw (found f, t)
 
-  pub miss-040 : h ≡ Miss → Probe.Nothing ≡ probe040 g c own write address
-  miss-040 f = rw (found f)
+  pub miss_040 : h ≡ Miss → Probe.Nothing ≡ probe040 g c own write address
+  miss_040 f = rw (found f)
 
 -- ---- the order
-pub own-small : (own instruction : Bool) {code : ℕ} → code ≡ code_of own instruction → code < 8
-own-small own instruction e = rw e (code-small own instruction)
+pub own_small : (own instruction : Bool) {code : ℕ} → code ≡ code_of own instruction → code < 8
+own_small own instruction e = rw e (code_small own instruction)
 
 module _ (g : Registers) (own instruction write : Bool) (address : ℕ) (c : Caches) {x : Bool} (is-on : x ≡ on g) where
-  pub probe-off : not x ≡ true → Probe.Nothing ≡ probeInOrder g own instruction write address c
-  unfolding probeInOrder
-  probe-off h = rw (ap not (sym is-on) ∙ h)
+  pub probe_off : not x ≡ true → Probe.Nothing ≡ probe_in_order g own instruction write address c
+  unfolding probe_in_order
+  probe_off h = rw (ap not (sym is-on) ∙ h)
 
   module _ (h : not x ≡ false) {code : ℕ} {t : Bool} (is_code : code ≡ code_of own instruction) (is-tt : t ≡ transparent g address code instruction write) where
     matched : {b : Bool} → t ≡ b → transparent g address (code_of own instruction) instruction write ≡ b
     matched e = rw (← is_code) (sym is-tt ∙ e)
 
-    pub probe-transparent : t ≡ true → Probe.Address address ≡ probeInOrder g own instruction write address c
-    unfolding probeInOrder
-    probe-transparent k = rw (ap not (sym is-on) ∙ h, matched k)
+    pub probe_transparent : t ≡ true → Probe.Address address ≡ probe_in_order g own instruction write address c
+    unfolding probe_in_order
+    probe_transparent k = rw (ap not (sym is-on) ∙ h, matched k)
 
-    pub probe-by-030 : {p : Probe} → t ≡ false → g.family ≡ 30 → p ≡ probe030 c.c030 code write address (shift_of g.tc)
-        → p ≡ probeInOrder g own instruction write address c
-    unfolding probeInOrder
-    probe-by-030 k f p = rw (ap not (sym is-on) ∙ h, matched k, eq-eqb g.family 30 f, ← is_code) p
+    pub probe_by_030 : {p : Probe} → t ≡ false → g.family ≡ 30 → p ≡ probe030 c.c030 code write address (shift_of g.tc)
+        → p ≡ probe_in_order g own instruction write address c
+    unfolding probe_in_order
+    probe_by_030 k f p = rw (ap not (sym is-on) ∙ h, matched k, eq-eqb g.family 30 f, ← is_code) p
 
-    pub probe-by-040 : {p : Probe} → t ≡ false → (g.family ≡ 30 → ⊥) → p ≡ probe040 g c.c040 own write address
-        → p ≡ probeInOrder g own instruction write address c
-    unfolding probeInOrder
-    probe-by-040 k f p = rw (ap not (sym is-on) ∙ h, matched k, ne_eqb g.family 30 f) p
+    pub probe_by_040 : {p : Probe} → t ≡ false → (g.family ≡ 30 → ⊥) → p ≡ probe040 g c.c040 own write address
+        → p ≡ probe_in_order g own instruction write address c
+    unfolding probe_in_order
+    probe_by_040 k f p = rw (ap not (sym is-on) ∙ h, matched k, ne_eqb g.family 30 f) p
 
 -- ---- the refusals
-module _ (g : Registers) (own instruction write : Bool) (address : ℕ) (c : Caches) {n : ℕ} {one four : Bool} (is_one : one ≡ noFamily g.family)
-    (is-four : four ≡ badCache c.c030) (first : n ≡ refusalOf (checksOf one false false false false four)) where
-  refusal : n ≡ refusalOf (checksOf (noFamily g.family) false false false false (badCache c.c030))
+module _ (g : Registers) (own instruction write : Bool) (address : ℕ) (c : Caches) {n : ℕ} {one four : Bool} (is_one : one ≡ no_family g.family)
+    (is-four : four ≡ bad_cache c.c030) (first : n ≡ refusal_of (checks_of one false false false false four)) where
+  refusal : n ≡ refusal_of (checks_of (no_family g.family) false false false false (bad_cache c.c030))
   refusal = rw (← is_one, ← is-four) first
 
-  pub probe-accepted : {p : Probe} → n ≡ 0 → p ≡ probeInOrder g own instruction write address c → p ≡ probe g own instruction write address c
+  pub probe_accepted : {p : Probe} → n ≡ 0 → p ≡ probe_in_order g own instruction write address c → p ≡ probe g own instruction write address c
   unfolding probe
-  probe-accepted e p = rw (sym refusal ∙ e) p
+  probe_accepted e p = rw (sym refusal ∙ e) p
 
-  pub probe-refused : (n ≡ 0 → ⊥) → Probe.Refused n ≡ probe g own instruction write address c
+  pub probe_refused : (n ≡ 0 → ⊥) → Probe.Refused n ≡ probe g own instruction write address c
   unfolding probe
-  probe-refused h = rw (← refusal, ne_eqb n 0 h)
+  probe_refused h = rw (← refusal, ne_eqb n 0 h)

@@ -1,11 +1,11 @@
 // Probe in place: 'answers from a transparent match or an unrecorded hit, else nothing; off, nothing. It uses the CPU's own state as supervisor and no override.'
 ghost use Rattle.std.specs.Prelude.{◌≡◌, ℕ, ◌<◌};
 ghost use Rattle.definition.specs.Walk030.{shift_of};
-ghost use Rattle.definition.specs.Translate.{hitAddress, joined};
-ghost use Rattle.definition.specs.Probe.{probe030, probe040, probeInOrder, probe as probeOf};
-ghost use Rattle.cache.specs.Atc030.{cacheOf};
-ghost use Rattle.cache.specs.Atc040.{cache040Of};
-ghost use Rattle.cache.specs.Pair.{cachesOf};
+ghost use Rattle.definition.specs.Translate.{hit_address, joined};
+ghost use Rattle.definition.specs.Probe.{probe030, probe040, probe_in_order, probe as probeOf};
+ghost use Rattle.cache.specs.Atc030.{cache_of};
+ghost use Rattle.cache.specs.Atc040.{cache040_of};
+ghost use Rattle.cache.specs.Pair.{caches_of};
 
 use cache::atc030::Atc030;
 use cache::atc040::Atc040;
@@ -15,7 +15,7 @@ use definition::{Hit, Probe, Registers, Shift};
 // The 68030 cache, where there is a page shift.
 fn probe_030(c030: &Atc030, tc: u32, code: u32, write: bool, address: u32) -> Probe
     requires { code < 8 }
-    ensures { result ≡ probe030 (cacheOf c030.now) code write address (shift_of tc) }
+    ensures { result ≡ probe030 (cache_of c030.now) code write address (shift_of tc) }
 {
     match memory::page030::page_shift(tc) {
         Shift::NoPage => Probe::Nothing,
@@ -31,7 +31,7 @@ fn probe_030(c030: &Atc030, tc: u32, code: u32, write: bool, address: u32) -> Pr
 
 // The 68040 cache.
 fn probe_040(c040: &Atc040, g: Registers, own: bool, write: bool, address: u32) -> Probe
-    ensures { result ≡ probe040 g (cache040Of c040.now) own write address }
+    ensures { result ≡ probe040 g (cache040_of c040.now) own write address }
 {
     let tc = g.tc;
     let bits = memory::page040::page_bits(tc);
@@ -52,7 +52,7 @@ fn probe_in_order(
     write: bool,
     address: u32,
 ) -> Probe
-    ensures { result ≡ probeInOrder g own instruction write address (cachesOf c030.now c040.now) }
+    ensures { result ≡ probe_in_order g own instruction write address (caches_of c030.now c040.now) }
 {
     if !checks::is_on(g) {
         return Probe::Nothing;
@@ -77,7 +77,7 @@ pub fn probe(
     write: bool,
     address: u32,
 ) -> Probe
-    ensures { result ≡ probeOf g own instruction write address (cachesOf c030.now c040.now) }
+    ensures { result ≡ probeOf g own instruction write address (caches_of c030.now c040.now) }
 {
     let one = checks::no_family(g.family);
     let four = atc030::bad_cache(c030);

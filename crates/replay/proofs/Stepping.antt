@@ -2,7 +2,7 @@
 use Prim.Native.Nat.{ℕ, suc, ◌+◌, ◌*◌, ◌/◌, ◌%◌, ◌≤◌, ◌<◌}
 use mathlib.Core.Path.{◌≡◌, refl, ap, sym, ◌∙◌}
 use mathlib.Core.List.{List, [], ◌∷◌, ◌++◌}
-use mathlib.Core.Bool.{Bool, true, false, not, ◌&&◌, ◌||◌, or_assoc, or-false}
+use mathlib.Core.Bool.{Bool, true, false, not, ◌&&◌, ◌||◌, or_assoc, or_false}
 use native.Mathlib.Omega.{arith}
 use native.Mathlib.Numerals.{add-one}
 use borrow.Author.Tests.{eq-eqb, ne_eqb, lt-ltb, le-ltb, le-leb, lt-leb}
@@ -10,37 +10,37 @@ use lib.Dec.{eqb, ltb, leb}
 use lib.ListN.{length, take, set, length-take}
 use lib.Seq.{length-take-le, take-suc-set}
 use Rattle.definition.specs.Words.{if◌then◌else◌, any_of}
-use Rattle.definition.specs.Refusal.{noFamily, badStore, crossed, noRoom, refusalOf}
+use Rattle.definition.specs.Refusal.{no_family, bad_store, crossed, no_room, refusal_of}
 use Rattle.definition.specs.Calls as calls
 use Rattle.definition.specs.Calls.{Call, Called, calling}
-use Rattle.definition.specs.Trace.{State, memoryOf, Loads, Calls, Stores, Adds, step_of}
+use Rattle.definition.specs.Trace.{State, memory_of, Loads, Calls, Stores, Adds, step_of}
 use Rattle.definition.specs.declared.Registers.{Registers}
 use Rattle.definition.specs.declared.Range.{Range}
-use Rattle.trace.specs.Lines.{lineIn}
-use Rattle.trace.specs.Records.{settingIn}
+use Rattle.trace.specs.Lines.{line_in}
+use Rattle.trace.specs.Records.{setting_in}
 use Rattle.trace.specs.declared.Line.{Line}
 use Rattle.trace.specs.declared.Setting.{Setting}
 use Rattle.replay.specs.declared.Kept.{Kept}
-use Rattle.replay.specs.Playing.{rangesOf, state_of, CalledIn, StoredIn, PlayedIn}
+use Rattle.replay.specs.Playing.{ranges_of, state_of, CalledIn, StoredIn, PlayedIn}
 
 -- ---- registers
-module _ (k : Kept) (g : Registers) {x : Bool} (is : x ≡ noFamily g.family) {longs c030 c040 : List ℕ} where
-  pub set-none : x ≡ true → PlayedIn (step_of (state_of k longs c030 c040) (Loads g)) (Line.R 1) k longs c030 c040
-  unfolding step_of refusalOf
-  set-none e = rw (sym is ∙ e) (record { prints = refl; leaves = refl })
+module _ (k : Kept) (g : Registers) {x : Bool} (is : x ≡ no_family g.family) {longs c030 c040 : List ℕ} where
+  pub set_none : x ≡ true → PlayedIn (step_of (state_of k longs c030 c040) (Loads g)) (Line.R 1) k longs c030 c040
+  unfolding step_of refusal_of
+  set_none e = rw (sym is ∙ e) (record { prints = refl; leaves = refl })
 
-  pub set-some : x ≡ false
+  pub set_some : x ≡ false
       → PlayedIn (step_of (state_of k longs c030 c040) (Loads g)) Line.K (record { registers = g; list = k.list; n = k.n }) longs c030 c040
-  unfolding step_of refusalOf
-  set-some e = rw (sym is ∙ e) (record { prints = refl; leaves = refl })
+  unfolding step_of refusal_of
+  set_some e = rw (sym is ∙ e) (record { prints = refl; leaves = refl })
 
 -- ---- a store
 module _ (longs : List ℕ) (address value : ℕ) where
-  pub store-odd : (address % 4 ≡ 0 → ⊥) → StoredIn longs address value (Line.R 2) longs
-  store-odd h = record { prints = rw (ne_eqb (address % 4) 0 h); leaves = rw (ne_eqb (address % 4) 0 h) }
+  pub store_odd : (address % 4 ≡ 0 → ⊥) → StoredIn longs address value (Line.R 2) longs
+  store_odd h = record { prints = rw (ne_eqb (address % 4) 0 h); leaves = rw (ne_eqb (address % 4) 0 h) }
 
-  pub store-outside : address % 4 ≡ 0 → length longs ≤ address / 4 → StoredIn longs address value (Line.R 2) longs
-  store-outside e h =
+  pub store_outside : address % 4 ≡ 0 → length longs ≤ address / 4 → StoredIn longs address value (Line.R 2) longs
+  store_outside e h =
       let b : ltb address (4 * length longs) ≡ false = le-ltb address (4 * length longs) (omega arith) in
       record { prints = rw (eq-eqb (address % 4) 0 e, b); leaves = rw (eq-eqb (address % 4) 0 e, b) }
 
@@ -52,53 +52,53 @@ module _ (longs : List ℕ) (address value : ℕ) where
 -- a store is refused or done, as the definition's record is
 pub stored : (k : Kept) (address value : ℕ) (longs : List ℕ) {l : Line} {longs' c030 c040 : List ℕ} → StoredIn longs address value l longs'
     → PlayedIn (step_of (state_of k longs c030 c040) (Stores address value)) l k longs' c030 c040
-unfolding step_of refusalOf
-stored k address value longs {l} {longs'} {c030} {c040} s = go (badStore longs address) refl
+unfolding step_of refusal_of
+stored k address value longs {l} {longs'} {c030} {c040} s = go (bad_store longs address) refl
   where
-    go : (b : Bool) → badStore longs address ≡ b → PlayedIn (step_of (state_of k longs c030 c040) (Stores address value)) l k longs' c030 c040
+    go : (b : Bool) → bad_store longs address ≡ b → PlayedIn (step_of (state_of k longs c030 c040) (Stores address value)) l k longs' c030 c040
     go true e = rw e (record { prints = rw e at s.prints; leaves = rw (rw e at s.leaves) refl })
     go false e = rw e (record { prints = rw e at s.prints; leaves = rw (rw e at s.leaves) refl })
 
 -- ---- a range
-any-more : (l : List Range) (r : Range) → crossed r ≡ false → any_of crossed (l ++ (r ∷ [])) ≡ any_of crossed l
+any_more : (l : List Range) (r : Range) → crossed r ≡ false → any_of crossed (l ++ (r ∷ [])) ≡ any_of crossed l
 unfolding any_of
-any-more [] r e = rw e
-any-more (x ∷ l) r e = ap (λ (b : Bool). crossed x || b) (any-more l r e)
+any_more [] r e = rw e
+any_more (x ∷ l) r e = ap (λ (b : Bool). crossed x || b) (any_more l r e)
 
 module _ (k : Kept) (range : Range) {longs c030 c040 : List ℕ} where
-  pub add-crossed : range.last < range.first
+  pub add_crossed : range.last < range.first
       → PlayedIn (step_of (state_of k longs c030 c040) (Adds range)) (Line.R 3) k longs c030 c040
-  unfolding step_of refusalOf
-  add-crossed h = rw (lt-ltb range.last range.first h) (record { prints = refl; leaves = refl })
+  unfolding step_of refusal_of
+  add_crossed h = rw (lt-ltb range.last range.first h) (record { prints = refl; leaves = refl })
 
   module _ (size : length k.list ≡ 16) (h : range.first ≤ range.last) where
-    pub add-full : 16 ≤ k.n → PlayedIn (step_of (state_of k longs c030 c040) (Adds range)) (Line.R 8) k longs c030 c040
-    unfolding step_of refusalOf
-    add-full f =
+    pub add_full : 16 ≤ k.n → PlayedIn (step_of (state_of k longs c030 c040) (Adds range)) (Line.R 8) k longs c030 c040
+    unfolding step_of refusal_of
+    add_full f =
         rw (le-ltb range.last range.first h, le-leb 16 (length (take k.n k.list)) (omega (arith, length-take k.n k.list)))
         (record { prints = refl; leaves = refl })
 
-    pub add-in : k.n < 16
+    pub add_in : k.n < 16
         → PlayedIn (step_of (state_of k longs c030 c040) (Adds range)) Line.K
         (record { registers = k.registers; list = set k.list k.n range; n = k.n + 1 }) longs c030 c040
-    unfolding step_of refusalOf
-    add-in f =
+    unfolding step_of refusal_of
+    add_in f =
         rw (le-ltb range.last range.first h, lt-leb 16 (length (take k.n k.list)) (omega (arith, length-take-le k.n k.list (omega arith))))
         (record { prints = refl; leaves = rw (add-one, take-suc-set k.list k.n range (omega arith)) refl })
 
-pub added-crossed : (k : Kept) (range : Range) → length k.list ≡ 16 → range.first ≤ range.last → k.n < 16
+pub added_crossed : (k : Kept) (range : Range) → length k.list ≡ 16 → range.first ≤ range.last → k.n < 16
     → any_of crossed (take (k.n + 1) (set k.list k.n range)) ≡ any_of crossed (take k.n k.list)
-added-crossed k range size h f =
-    rw (add-one, take-suc-set k.list k.n range (omega arith)) (any-more (take k.n k.list) range (le-ltb range.last range.first h))
+added_crossed k range size h f =
+    rw (add-one, take-suc-set k.list k.n range (omega arith)) (any_more (take k.n k.list) range (le-ltb range.last range.first h))
 
 -- ---- a call
 pub called : (k : Kept) (call : Call) (longs : List ℕ) (c030 c040 : List ℕ) {l : Line} {c030' c040' : List ℕ}
-    → CalledIn (calling k.registers (memoryOf (state_of k longs c030 c040)) (state_of k longs c030 c040).caches call) l c030' c040'
+    → CalledIn (calling k.registers (memory_of (state_of k longs c030 c040)) (state_of k longs c030 c040).caches call) l c030' c040'
     → PlayedIn (step_of (state_of k longs c030 c040) (Calls call)) l k longs c030' c040'
 unfolding step_of
 called k call longs c030 c040 c = record { prints = c.prints; leaves = rw c.leaves refl }
 
 -- a setting that was told apart
-pub by-setting : (s : State) {x y : Setting} {l : Line} {k : Kept} {longs c030 c040 : List ℕ} → x ≡ y
-    → PlayedIn (step_of s (settingIn y)) l k longs c030 c040 → PlayedIn (step_of s (settingIn x)) l k longs c030 c040
-by-setting s e p = rw e p
+pub by_setting : (s : State) {x y : Setting} {l : Line} {k : Kept} {longs c030 c040 : List ℕ} → x ≡ y
+    → PlayedIn (step_of s (setting_in y)) l k longs c030 c040 → PlayedIn (step_of s (setting_in x)) l k longs c030 c040
+by_setting s e p = rw e p

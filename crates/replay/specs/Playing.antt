@@ -2,18 +2,18 @@
 use Rattle.std.specs.Prelude.{ℕ, ◌+◌, ◌-◌, ◌/◌, ◌≤◌, ◌<◌, ◌≡◌, Bool, true, false, List, [], ◌∷◌, ◌++◌, ◌⊎◌, length, take, drop, set}
 use Rattle.definition.specs.Words.{if◌then◌else◌}
 use Rattle.definition.specs.Memory.{Memory}
-use Rattle.definition.specs.Refusal.{badStore}
+use Rattle.definition.specs.Refusal.{bad_store}
 use Rattle.definition.specs.Translate.{Caches}
 use Rattle.definition.specs.Calls as calls
-use Rattle.definition.specs.Trace.{State, Played, Front, Body, Short, Ended, frontOf, recordOf, isMalformed, step_of, text}
+use Rattle.definition.specs.Trace.{State, Played, Front, Body, Short, Ended, front_of, record_of, is_malformed, step_of, text}
 use Rattle.definition.specs.declared.Range.{Range}
 use Rattle.definition.specs.declared.Registers.{Registers}
-use Rattle.trace.specs.Lines.{lineIn, Wrote}
+use Rattle.trace.specs.Lines.{line_in, Wrote}
 use Rattle.trace.specs.declared.Line.{Line}
-use Rattle.cache.specs.Pair.{cachesOf}
-use Rattle.translate.specs.Stages.{translateGiven}
-use Rattle.load.specs.Loaded.{loadGiven}
-use Rattle.test.specs.Tested.{testGiven}
+use Rattle.cache.specs.Pair.{caches_of}
+use Rattle.translate.specs.Stages.{translate_given}
+use Rattle.load.specs.Loaded.{load_given}
+use Rattle.test.specs.Tested.{test_given}
 use Rattle.replay.specs.declared.Kept.{Kept}
 use Rattle.replay.specs.declared.run.Whole.{Whole}
 use Rattle.replay.specs.declared.run.Whole.TheVariants as whole
@@ -21,53 +21,53 @@ use Rattle.replay.specs.declared.run.Why.{Why}
 use Rattle.replay.specs.declared.run.Why.TheVariants as why
 
 -- the ranges that are kept: the first n of the array
-abbrev pub rangesOf : Kept → List Range
-rangesOf k = take k.n k.list
+abbrev pub ranges_of : Kept → List Range
+ranges_of k = take k.n k.list
 
 abbrev pub state_of : Kept → List ℕ → List ℕ → List ℕ → State
 state_of k longs c030 c040 =
-    record { registers = k.registers; longs = longs; ranges = rangesOf k; caches = cachesOf c030 c040 }
+    record { registers = k.registers; longs = longs; ranges = ranges_of k; caches = caches_of c030 c040 }
 
 -- a call's line, with the arrays after it
 pub record CalledIn (c : calls.Called) (l : Line) (c030 c040 : List ℕ) : Type 0 where
-  pub prints : lineIn l ≡ c.line
-  pub leaves : cachesOf c030 c040 ≡ c.caches
+  pub prints : line_in l ≡ c.line
+  pub leaves : caches_of c030 c040 ≡ c.caches
 
--- a call with what the caller says of check 3, that a range is crossed; with the true word it is the call (`given-calling`)
-unfoldable pub callingGiven : Bool → Registers → Memory → Caches → calls.Call → calls.Called
-callingGiven crossed g m c (calls.access a) = calls.ofTranslated (translateGiven crossed g a m c)
-callingGiven crossed g m c (calls.loading code write address) = calls.ofLoaded (loadGiven crossed g code write address m c)
-callingGiven crossed g m c (calls.testing code write level address) = calls.ofTested c (testGiven crossed g code write level address m)
-callingGiven crossed g m c (calls.probing own instruction write address) = calls.calling g m c (calls.probing own instruction write address)
-callingGiven crossed g m c calls.flushingAll = calls.calling g m c calls.flushingAll
-callingGiven crossed g m c (calls.flushingCode code mask) = calls.calling g m c (calls.flushingCode code mask)
-callingGiven crossed g m c (calls.flushingPage code mask address) = calls.calling g m c (calls.flushingPage code mask address)
-callingGiven crossed g m c (calls.flushingFrame frame) = calls.calling g m c (calls.flushingFrame frame)
+-- a call with what the caller says of check 3, that a range is crossed; with the true word it is the call (`given_calling`)
+unfoldable pub calling_given : Bool → Registers → Memory → Caches → calls.Call → calls.Called
+calling_given crossed g m c (calls.access a) = calls.of_translated (translate_given crossed g a m c)
+calling_given crossed g m c (calls.loading code write address) = calls.of_loaded (load_given crossed g code write address m c)
+calling_given crossed g m c (calls.testing code write level address) = calls.of_tested c (test_given crossed g code write level address m)
+calling_given crossed g m c (calls.probing own instruction write address) = calls.calling g m c (calls.probing own instruction write address)
+calling_given crossed g m c calls.flushing_all = calls.calling g m c calls.flushing_all
+calling_given crossed g m c (calls.flushing_code code mask) = calls.calling g m c (calls.flushing_code code mask)
+calling_given crossed g m c (calls.flushing_page code mask address) = calls.calling g m c (calls.flushing_page code mask address)
+calling_given crossed g m c (calls.flushing_frame frame) = calls.calling g m c (calls.flushing_frame frame)
 
 -- a PTEST's line, whatever the caches are, which stay
 pub record Tests (crossed : Bool) (g : Registers) (m : Memory) (code : ℕ) (write : Bool) (level address : ℕ) (l : Line) : Type 0 where
-  pub prints : (c : Caches) → lineIn l ≡ (callingGiven crossed g m c (calls.testing code write level address)).line
-  pub leaves : (c : Caches) → c ≡ (callingGiven crossed g m c (calls.testing code write level address)).caches
+  pub prints : (c : Caches) → line_in l ≡ (calling_given crossed g m c (calls.testing code write level address)).line
+  pub leaves : (c : Caches) → c ≡ (calling_given crossed g m c (calls.testing code write level address)).caches
 
 -- a store's line, with the longs after it
 pub record StoredIn (longs : List ℕ) (address value : ℕ) (l : Line) (longs' : List ℕ) : Type 0 where
-  pub prints : lineIn l ≡ (if badStore longs address then calls.R 2 else calls.K)
-  pub leaves : longs' ≡ (if badStore longs address then longs else set longs (address / 4) value)
+  pub prints : line_in l ≡ (if bad_store longs address then calls.R 2 else calls.K)
+  pub leaves : longs' ≡ (if bad_store longs address then longs else set longs (address / 4) value)
 
 -- a record's line, with what is kept after it
 pub record PlayedIn (p : Played) (l : Line) (k : Kept) (longs c030 c040 : List ℕ) : Type 0 where
-  pub prints : lineIn l ≡ p.line
+  pub prints : line_in l ≡ p.line
   pub leaves : state_of k longs c030 c040 ≡ p.state
 
 -- records of b, one after the other from state s: they print t and leave state s' and the bytes r
 pub data Runs (s : State) (b : List ℕ) : List ℕ → State → List ℕ → Type 0 where
   none : Runs s b [] s b
-  more : {t r : List ℕ} {s' : State} (body rest : List ℕ) → Runs s b t s' r → frontOf r ≡ Body body rest → isMalformed (recordOf body) ≡ false
-      → Runs s b (t ++ text (step_of s' (recordOf body)).line) (step_of s' (recordOf body)).state rest
+  more : {t r : List ℕ} {s' : State} (body rest : List ℕ) → Runs s b t s' r → front_of r ≡ Body body rest → is_malformed (record_of body) ≡ false
+      → Runs s b (t ++ text (step_of s' (record_of body)).line) (step_of s' (record_of body)).state rest
 
 -- a whole record stands at `at`: its body lies from start to end
 pub record Stands (b : List ℕ) (at start end : ℕ) : Type 0 where
-  pub front : frontOf (drop at b) ≡ Body (take (end - start) (drop start b)) (drop end b)
+  pub front : front_of (drop at b) ≡ Body (take (end - start) (drop start b)) (drop end b)
   pub after : at + 2 ≤ start
   pub ends : start ≤ end
   pub within : end ≤ length b
@@ -75,18 +75,18 @@ pub record Stands (b : List ℕ) (at start end : ℕ) : Type 0 where
 -- what stands at `at`: a whole record, or none
 unfoldable pub Fronts : List ℕ → ℕ → Whole → Type 0
 Fronts b at (whole.Body start end) = Stands b at start end
-Fronts b at whole.Nothing = (frontOf (drop at b) ≡ Short) ⊎ (frontOf (drop at b) ≡ Ended)
+Fronts b at whole.Nothing = (front_of (drop at b) ≡ Short) ⊎ (front_of (drop at b) ≡ Ended)
 
 -- the next record is malformed
 pub record Bad (rest : List ℕ) : Type 0 where
   pub body : List ℕ
   pub after : List ℕ
-  pub is : frontOf rest ≡ Body body after
-  pub bad : isMalformed (recordOf body) ≡ true
+  pub is : front_of rest ≡ Body body after
+  pub bad : is_malformed (record_of body) ≡ true
 
 -- why a run stopped: no whole record is left, or the next one is malformed, or there is no room for a line
 abbrev pub Stops : Why → List ℕ → List ℕ → ℕ → Type 0
-Stops why.Input rest out wrote = (frontOf rest ≡ Short) ⊎ (frontOf rest ≡ Ended)
+Stops why.Input rest out wrote = (front_of rest ≡ Short) ⊎ (front_of rest ≡ Ended)
 Stops why.Malformed rest out wrote = Bad rest
 Stops why.Room rest out wrote = length out < wrote + 44
 

@@ -1,11 +1,11 @@
 // The calls that a record makes, each with the line that it prints.
 ghost use Rattle.std.specs.Prelude.{◌≡◌, take};
 ghost use Rattle.definition.specs.Memory.{memory};
-ghost use Rattle.definition.specs.Calls.{access, loading, testing, probing, flushingAll, flushingCode, flushingPage, flushingFrame, translationLine, loadLine, testLine, probeLine, flushLine};
-ghost use Rattle.trace.specs.Lines.{lineIn};
+ghost use Rattle.definition.specs.Calls.{access, loading, testing, probing, flushing_all, flushing_code, flushing_page, flushing_frame, translation_line, load_line, test_line, probe_line, flush_line};
+ghost use Rattle.trace.specs.Lines.{line_in};
 ghost use Rattle.trace.specs.Records.{call_in};
-ghost use Rattle.cache.specs.Pair.{cachesOf};
-ghost use Rattle.replay.specs.Playing.{rangesOf, callingGiven, CalledIn, Tests};
+ghost use Rattle.cache.specs.Pair.{caches_of};
+ghost use Rattle.replay.specs.Playing.{ranges_of, calling_given, CalledIn, Tests};
 
 use crate::Kept;
 use cache::atc030::Atc030;
@@ -15,7 +15,7 @@ use trace::{Call, Line};
 
 // A address count, or F kind cause address count.
 fn translation_line(answer: Translation, count: u32) -> Line
-    ensures { lineIn result ≡ translationLine count answer }
+    ensures { line_in result ≡ translation_line count answer }
 {
     match answer {
         Translation::Address(address) => Line::A { address, count },
@@ -35,7 +35,7 @@ fn translation_line(answer: Translation, count: u32) -> Line
 
 // L count.
 fn load_line(answer: Load, count: u32) -> Line
-    ensures { lineIn result ≡ loadLine count answer }
+    ensures { line_in result ≡ load_line count answer }
 {
     match answer {
         Load::Loaded => Line::L { count },
@@ -45,7 +45,7 @@ fn load_line(answer: Load, count: u32) -> Line
 
 // T MMUSR address count.
 fn test_line(answer: Test, count: u32) -> Line
-    ensures { lineIn result ≡ testLine count answer }
+    ensures { line_in result ≡ test_line count answer }
 {
     match answer {
         Test::Status { mmusr, address } => Line::T {
@@ -59,7 +59,7 @@ fn test_line(answer: Test, count: u32) -> Line
 
 // A address 0, or N.
 fn probe_line(answer: Probe) -> Line
-    ensures { lineIn result ≡ probeLine answer }
+    ensures { line_in result ≡ probe_line answer }
 {
     match answer {
         Probe::Address(address) => Line::A { address, count: 0 },
@@ -70,7 +70,7 @@ fn probe_line(answer: Probe) -> Line
 
 // K.
 fn flush_line(answer: Flush) -> Line
-    ensures { lineIn result ≡ flushLine answer }
+    ensures { line_in result ≡ flush_line answer }
 {
     match answer {
         Flush::Flushed => Line::K,
@@ -89,7 +89,7 @@ pub fn access_line(
     g: Registers,
     a: Access,
 ) -> Line
-    ensures { CalledIn (callingGiven crossed g (memory longs.now 0 (take n list)) (cachesOf c030.old c040.old) (access a)) result c030.new c040.new }
+    ensures { CalledIn (calling_given crossed g (memory longs.now 0 (take n list)) (caches_of c030.old c040.old) (access a)) result c030.new c040.new }
 {
     let o = kept::translate(c030, c040, longs, 0, list, n, crossed, g, a);
     let answer = o.answer;
@@ -109,7 +109,7 @@ fn load_call(
     write: bool,
     address: u32,
 ) -> Line
-    ensures { CalledIn (callingGiven crossed g (memory longs.now 0 (take n list)) (cachesOf c030.old c040.now) (loading code write address)) result c030.new c040.now }
+    ensures { CalledIn (calling_given crossed g (memory longs.now 0 (take n list)) (caches_of c030.old c040.now) (loading code write address)) result c030.new c040.now }
 {
     let o = kept::load(c030, longs, 0, list, n, crossed, g, code, write, address);
     let answer = o.answer;
@@ -144,7 +144,7 @@ pub fn make(
     crossed: bool,
     call: Call,
 ) -> Line
-    ensures { CalledIn (callingGiven crossed kept.registers (memory longs.now 0 (rangesOf kept)) (cachesOf c030.old c040.old) (call_in call)) result c030.new c040.new }
+    ensures { CalledIn (calling_given crossed kept.registers (memory longs.now 0 (ranges_of kept)) (caches_of c030.old c040.old) (call_in call)) result c030.new c040.new }
 {
     let g = kept.registers;
     let list = kept.list;

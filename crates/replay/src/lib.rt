@@ -4,7 +4,7 @@ pub mod run;
 mod settings;
 
 ghost use Rattle.std.specs.Prelude.{◌≡◌};
-ghost use Rattle.definition.specs.Trace.{firstRegisters};
+ghost use Rattle.definition.specs.Trace.{first_registers};
 
 use definition::{Range, Registers, Root};
 
@@ -18,7 +18,7 @@ pub struct Kept {
 
 // Registers start as family 30, all else 0; no range.
 pub fn first() -> Kept
-    ensures { (result.registers ≡ firstRegisters) × (result.n ≡ 0) }
+    ensures { (result.registers ≡ first_registers) × (result.n ≡ 0) }
 {
     let none = Root {
         limit: 0,

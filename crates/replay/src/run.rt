@@ -2,7 +2,7 @@
 ghost use Rattle.std.specs.Prelude.{◌≡◌, ◌≤◌, length};
 ghost use Rattle.definition.specs.Words.{any_of};
 ghost use Rattle.definition.specs.Refusal.{crossed};
-ghost use Rattle.replay.specs.Playing.{rangesOf, state_of, Fronts, RanIn};
+ghost use Rattle.replay.specs.Playing.{ranges_of, state_of, Fronts, RanIn};
 
 use crate::{Kept, calls, settings};
 use cache::atc030::Atc030;
@@ -63,7 +63,7 @@ pub fn run(
     input: &[u8],
     out: &mut [u8],
 ) -> Ran
-    ensures { (RanIn (state_of kept longs.old c030.old c040.old) input.now out.old (state_of result.kept longs.new c030.new c040.new) result.read out.new result.wrote result.why) × (any_of crossed (rangesOf result.kept) ≡ any_of crossed (rangesOf kept)) }
+    ensures { (RanIn (state_of kept longs.old c030.old c040.old) input.now out.old (state_of result.kept longs.new c030.new c040.new) result.read out.new result.wrote result.why) × (any_of crossed (ranges_of result.kept) ≡ any_of crossed (ranges_of kept)) }
 {
     let list = kept.list;
     let crossed = kept::any_crossed(list, kept.n);

@@ -3,8 +3,8 @@ ghost use Rattle.std.specs.Prelude.{◌≡◌, ℕ, List, length};
 ghost use Rattle.definition.specs.Words.{any_of};
 ghost use Rattle.definition.specs.Refusal.{crossed};
 ghost use Rattle.definition.specs.Trace.{Loads, Adds, step_of};
-ghost use Rattle.trace.specs.Records.{settingIn};
-ghost use Rattle.replay.specs.Playing.{rangesOf, state_of, StoredIn, PlayedIn};
+ghost use Rattle.trace.specs.Records.{setting_in};
+ghost use Rattle.replay.specs.Playing.{ranges_of, state_of, StoredIn, PlayedIn};
 
 use crate::Kept;
 use definition::{Range, Registers};
@@ -19,7 +19,7 @@ pub struct Step {
 
 // Kind 01: the registers are kept, unless the family is none.
 fn set_registers(kept: Kept, g: Registers) -> Step
-    ensures { ((longs c030 c040 : List ℕ) → PlayedIn (step_of (state_of kept longs c030 c040) (Loads g)) result.line result.kept longs c030 c040) × (rangesOf result.kept ≡ rangesOf kept) }
+    ensures { ((longs c030 c040 : List ℕ) → PlayedIn (step_of (state_of kept longs c030 c040) (Loads g)) result.line result.kept longs c030 c040) × (ranges_of result.kept ≡ ranges_of kept) }
 {
     if checks::no_family(g.family) {
         return Step {
@@ -62,7 +62,7 @@ fn room(list: [Range; 16]) -> usize
 
 // Kind 0A: a range is kept, unless it is crossed or there are sixteen.
 fn add_range(kept: Kept, range: Range) -> Step
-    ensures { ((longs c030 c040 : List ℕ) → PlayedIn (step_of (state_of kept longs c030 c040) (Adds range)) result.line result.kept longs c030 c040) × (any_of crossed (rangesOf result.kept) ≡ any_of crossed (rangesOf kept)) }
+    ensures { ((longs c030 c040 : List ℕ) → PlayedIn (step_of (state_of kept longs c030 c040) (Adds range)) result.line result.kept longs c030 c040) × (any_of crossed (ranges_of result.kept) ≡ any_of crossed (ranges_of kept)) }
 {
     if range.last < range.first {
         return Step {
@@ -92,7 +92,7 @@ fn add_range(kept: Kept, range: Range) -> Step
 
 // What a record that sets something prints, and what is kept after it. No setting makes a crossed range one that is kept.
 pub fn set(longs: &mut [u32], kept: Kept, setting: Setting) -> Step
-    ensures { ((c030 c040 : List ℕ) → PlayedIn (step_of (state_of kept longs.old c030 c040) (settingIn setting)) result.line result.kept longs.new c030 c040) × (any_of crossed (rangesOf result.kept) ≡ any_of crossed (rangesOf kept)) }
+    ensures { ((c030 c040 : List ℕ) → PlayedIn (step_of (state_of kept longs.old c030 c040) (setting_in setting)) result.line result.kept longs.new c030 c040) × (any_of crossed (ranges_of result.kept) ≡ any_of crossed (ranges_of kept)) }
 {
     match setting {
         Setting::Registers(g) => set_registers(kept, g),

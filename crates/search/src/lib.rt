@@ -3,9 +3,9 @@ ghost use Rattle.std.specs.Prelude.{length, ◌≡◌, ◌%◌, ◌<◌};
 ghost use Rattle.definition.specs.Words.{if◌then◌else◌};
 ghost use Rattle.definition.specs.Walk030.{shift_of};
 ghost use Rattle.definition.specs.Cache030.{Cache030};
-ghost use Rattle.definition.specs.Translate.{violation, busError, configuration, cached};
-ghost use Rattle.cache.specs.Atc030.{cacheOf, Stepped};
-ghost use Rattle.search.specs.Searched.{missingCause, permittedOf, page030, end030, Ended};
+ghost use Rattle.definition.specs.Translate.{violation, bus_error, configuration, cached};
+ghost use Rattle.cache.specs.Atc030.{cache_of, Stepped};
+ghost use Rattle.search.specs.Searched.{missing_cause, permitted_of, page030, end030, Ended};
 
 use cache::atc030::{Atc030, insert};
 use definition::{End, FaultCause, FaultKind, Shift, Translation};
@@ -24,7 +24,7 @@ pub fn fault(cause: FaultCause, address: u32) -> Translation
 
 // Bus error: kind BusError, cause TableWalkBusError, at the long that failed.
 pub fn bus_fault(at: u32) -> Translation
-    ensures { result ≡ busError at }
+    ensures { result ≡ bus_error at }
 {
     Translation::Fault {
         kind: FaultKind::BusError,
@@ -46,7 +46,7 @@ fn configuration_fault(address: u32) -> Translation
 
 // Invalid: PageFault, or Indirect for a bad target.
 fn missing_cause(indirect: bool) -> FaultCause
-    ensures { result ≡ missingCause indirect }
+    ensures { result ≡ missing_cause indirect }
 {
     if indirect {
         return FaultCause::Indirect;
@@ -90,7 +90,7 @@ fn cache_unless(
 
 // A page that S forbids gives SupervisorProtect, and then a write with WP gives WriteProtect.
 fn permitted(forbidden: bool, write: bool, wp: bool, address: u32, physical: u32) -> Translation
-    ensures { result ≡ permittedOf forbidden write wp address physical }
+    ensures { result ≡ permitted_of forbidden write wp address physical }
 {
     if forbidden {
         return fault(FaultCause::SupervisorProtect, address);
@@ -113,7 +113,7 @@ fn page_found(
     physical: u32,
 ) -> Translation
     requires { (code < 8) × (length c030.old ≡ 69) }
-    ensures { Ended (page030 tc (cacheOf c030.old) code address write wp sup physical) result c030.new }
+    ensures { Ended (page030 tc (cache_of c030.old) code address write wp sup physical) result c030.new }
 {
     let forbidden = sup & !((code >> 2) % 2 == 1);
     cache_unless(c030, forbidden, tc, code, address, physical, wp);
@@ -129,7 +129,7 @@ pub fn end_030(
     write: bool,
     w: Walked,
 ) -> Translation
-    ensures { Ended (end030 tc (cacheOf c030.old) (code % 8) address write w) result c030.new }
+    ensures { Ended (end030 tc (cache_of c030.old) (code % 8) address write w) result c030.new }
 {
     checks::sized(c030);
     let end = w.end;

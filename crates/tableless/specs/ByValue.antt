@@ -7,8 +7,8 @@ use Rattle.cache.specs.declared.CachePair.{CachePair}
 use Rattle.tableless.specs.declared.Flushed.{Flushed}
 
 -- what a flush gives, put together
-abbrev pub flushedWith : Flush → CachePair → Flushed
-flushedWith answer caches = record { answer = answer; caches = caches }
+abbrev pub flushed_with : Flush → CachePair → Flushed
+flushed_with answer caches = record { answer = answer; caches = caches }
 
 pub record FlushedBy (f : FlushedOf) (r : Flushed) : Type 0 where
   pub answers : r.answer ≡ f.answer

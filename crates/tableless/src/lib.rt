@@ -2,7 +2,7 @@
 // Each copies the pair's arrays, lends them to a function in place and builds the pair anew.
 ghost use Rattle.std.specs.Prelude.{◌≡◌};
 ghost use Rattle.definition.specs.Probe.{probe as probeOf};
-ghost use Rattle.definition.specs.Flush.{flushAll, flushCode, flushPage, flushFrame};
+ghost use Rattle.definition.specs.Flush.{flush_all, flush_code, flush_page, flush_frame};
 ghost use Rattle.cache.specs.Pair.{pair_of};
 ghost use Rattle.tableless.specs.ByValue.{FlushedBy};
 
@@ -36,7 +36,7 @@ pub fn probe(
 
 // 'Empties both.'
 pub fn flush_all(caches: CachePair) -> Flushed
-    ensures { FlushedBy (flushAll (pair_of caches)) result }
+    ensures { FlushedBy (flush_all (pair_of caches)) result }
 {
     let mut c030 = caches.c030;
     let mut c040 = caches.c040;
@@ -49,7 +49,7 @@ pub fn flush_all(caches: CachePair) -> Flushed
 
 // 'Drops entries whose code agrees on the mask's bits.'
 pub fn flush_code(code: u32, mask: u32, caches: CachePair) -> Flushed
-    ensures { FlushedBy (flushCode code mask (pair_of caches)) result }
+    ensures { FlushedBy (flush_code code mask (pair_of caches)) result }
 {
     let mut c030 = caches.c030;
     let c040 = caches.c040;
@@ -62,7 +62,7 @@ pub fn flush_code(code: u32, mask: u32, caches: CachePair) -> Flushed
 
 // '.. and, for a page, whose page is the address's at the stored shift.'
 pub fn flush_page(code: u32, mask: u32, address: u32, caches: CachePair) -> Flushed
-    ensures { FlushedBy (flushPage code mask address (pair_of caches)) result }
+    ensures { FlushedBy (flush_page code mask address (pair_of caches)) result }
 {
     let mut c030 = caches.c030;
     let c040 = caches.c040;
@@ -75,7 +75,7 @@ pub fn flush_page(code: u32, mask: u32, address: u32, caches: CachePair) -> Flus
 
 // 'Drops that frame for either privilege.'
 pub fn flush_frame(frame: u32, caches: CachePair) -> Flushed
-    ensures { FlushedBy (flushFrame frame (pair_of caches)) result }
+    ensures { FlushedBy (flush_frame frame (pair_of caches)) result }
 {
     let c030 = caches.c030;
     let mut c040 = caches.c040;

@@ -1,7 +1,7 @@
 // What the walk gives a test: the status, and the address of the last descriptor asked for.
 ghost use Rattle.std.specs.Prelude.{◌≡◌};
-ghost use Rattle.definition.specs.Test.{flag, endFlags, mmusrOf};
-ghost use Rattle.test.specs.Tested.{concludedTest, TestedIn};
+ghost use Rattle.definition.specs.Test.{flag, end_flags, mmusr_of};
+ghost use Rattle.test.specs.Tested.{concluded_test, TestedIn};
 
 use crate::{Found, TestOutcome};
 use definition::{End, Test};
@@ -19,7 +19,7 @@ pub fn flag_of(b: bool, bit: u32) -> u32
 
 // B 8000 for bus error or configuration, I 0400.
 fn end_flags(end: End) -> u32
-    ensures { result ≡ endFlags end }
+    ensures { result ≡ end_flags end }
 {
     match end {
         End::Page { .. } => 0,
@@ -32,7 +32,7 @@ fn end_flags(end: End) -> u32
 
 // The MMUSR: B and I by the end, S 2000 (user code), W 0800, N levels.
 fn status(code: u32, w: Walked) -> u32
-    ensures { result ≡ mmusrOf code w.wp w.sup w.levels w.end }
+    ensures { result ≡ mmusr_of code w.wp w.sup w.levels w.end }
 {
     let end = w.end;
     let by_end = end_flags(end);
@@ -43,7 +43,7 @@ fn status(code: u32, w: Walked) -> u32
 
 // The answer and its count.
 pub fn concluded(code: u32, found: Found) -> TestOutcome
-    ensures { TestedIn (concludedTest code found) result.answer result.count }
+    ensures { TestedIn (concluded_test code found) result.answer result.count }
 {
     match found {
         Found::Settled(answer) => TestOutcome { answer, count: 0 },

@@ -1,6 +1,6 @@
 // The plan of a test: the refusals, and level 0; else the walk.
 ghost use Rattle.std.specs.Prelude.{◌≡◌};
-ghost use Rattle.test.specs.Tested.{planTest};
+ghost use Rattle.test.specs.Tested.{plan_test};
 
 use crate::Plan;
 use crate::after::flag_of;
@@ -16,7 +16,7 @@ pub fn plan_test(
     level: u32,
     address: u32,
 ) -> Plan
-    ensures { result ≡ planTest g code write level address two crossed }
+    ensures { result ≡ plan_test g code write level address two crossed }
 {
     let one = checks::no_family(g.family);
     let six = checks::not_030(g.family);

@@ -6,7 +6,7 @@ mod before;
 
 ghost use Rattle.std.specs.Prelude.{◌≡◌};
 ghost use Rattle.definition.specs.Memory.{memory};
-ghost use Rattle.test.specs.Tested.{testGiven, foundTest, shownTested, TestedIn};
+ghost use Rattle.test.specs.Tested.{test_given, found_test, shown_tested, TestedIn};
 ghost use Rattle.test.specs.declared.Found.{Found};
 
 use definition::{Range, Registers, Test};
@@ -59,7 +59,7 @@ fn walked(
     address: u32,
     plan: Plan,
 ) -> Found
-    ensures { result ≡ foundTest (memory longs.now base ranges.now) g code level address plan }
+    ensures { result ≡ found_test (memory longs.now base ranges.now) g code level address plan }
 {
     match plan {
         Plan::Settled(answer) => settled(answer),
@@ -85,7 +85,7 @@ pub fn test(
     level: u32,
     address: u32,
 ) -> TestOutcome
-    ensures { TestedIn (shownTested (testGiven crossed g code write level address (memory longs.now base ranges.now))) result.answer result.count }
+    ensures { TestedIn (shown_tested (test_given crossed g code write level address (memory longs.now base ranges.now))) result.answer result.count }
 {
     let two = checks::bad_longs(longs, base);
     let plan = before::plan_test(two, crossed, g, code, write, level, address);

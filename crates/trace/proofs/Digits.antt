@@ -9,18 +9,18 @@ use lib.ListN.{length, length-append}
 use borrow.Author.Tests.{lt-ltb, le-ltb}
 use Rattle.trace.specs.Lines.{Wrote}
 use Rattle.trace.proofs.Writes.{then, loosely}
-use Rattle.definition.specs.Trace.{hexDigit, hex, digit, decimalIn, decimal}
+use Rattle.definition.specs.Trace.{hex_digit, hex, digit, decimal_in, decimal}
 
-pub hex-four : {a b c d : ℕ} (n : ℕ) → a ≡ hexDigit (n / 2 ^ 12 % 16) → b ≡ hexDigit (n / 2 ^ 8 % 16)
-    → c ≡ hexDigit (n / 2 ^ 4 % 16) → d ≡ hexDigit (n % 16) → (a ∷ b ∷ c ∷ d ∷ []) ≡ hex 4 n
+pub hex_four : {a b c d : ℕ} (n : ℕ) → a ≡ hex_digit (n / 2 ^ 12 % 16) → b ≡ hex_digit (n / 2 ^ 8 % 16)
+    → c ≡ hex_digit (n / 2 ^ 4 % 16) → d ≡ hex_digit (n % 16) → (a ∷ b ∷ c ∷ d ∷ []) ≡ hex 4 n
 unfolding hex
-hex-four n a b c d =
+hex_four n a b c d =
     let low : n / 16 ^ 0 ≡ n = omega arith in
     rw (a, b, c, d, low)
 
-pub hex-eight : (n : ℕ) → hex 4 (n / 2 ^ 16) ++ hex 4 n ≡ hex 8 n
+pub hex_eight : (n : ℕ) → hex 4 (n / 2 ^ 16) ++ hex 4 n ≡ hex 8 n
 unfolding hex
-hex-eight n =
+hex_eight n =
     let three : n / 2 ^ 16 / 16 ^ 3 ≡ n / 16 ^ 7 = omega arith in
     let two : n / 2 ^ 16 / 16 ^ 2 ≡ n / 16 ^ 6 = omega arith in
     let one : n / 2 ^ 16 / 16 ^ 1 ≡ n / 16 ^ 5 = omega arith in
@@ -28,30 +28,30 @@ hex-eight n =
     rw (three, two, one, none)
 
 -- enough digits are enough
-enough : (k m n : ℕ) → n ≤ k → n ≤ m → decimalIn k n ≡ decimalIn m n
-unfolding decimalIn
+enough : (k m n : ℕ) → n ≤ k → n ≤ m → decimal_in k n ≡ decimal_in m n
+unfolding decimal_in
 enough zero zero n h i = refl
 enough zero (suc m) n h i = rw (lt-ltb n 10 (omega arith))
 enough (suc k) zero n h i = rw (lt-ltb n 10 (omega arith))
 enough (suc k) (suc m) n h i = rw (enough k m (n / 10) (omega arith) (omega arith))
 
-pub decimal-one : (n : ℕ) → n < 10 → (digit n ∷ []) ≡ decimal n
-unfolding decimalIn
-decimal-one zero h = refl
-decimal-one (suc n) h = rw (lt-ltb (suc n) 10 h)
+pub decimal_one : (n : ℕ) → n < 10 → (digit n ∷ []) ≡ decimal n
+unfolding decimal_in
+decimal_one zero h = refl
+decimal_one (suc n) h = rw (lt-ltb (suc n) 10 h)
 
-pub decimal-more : (n : ℕ) → 10 ≤ n → decimal (n / 10) ++ (digit n ∷ []) ≡ decimal n
-unfolding decimalIn
-decimal-more zero h = absurd (omega arith)
-decimal-more (suc n) h = rw (le-ltb (suc n) 10 h, enough n (suc n / 10) (suc n / 10) (omega arith) (omega arith))
+pub decimal_more : (n : ℕ) → 10 ≤ n → decimal (n / 10) ++ (digit n ∷ []) ≡ decimal n
+unfolding decimal_in
+decimal_more zero h = absurd (omega arith)
+decimal_more (suc n) h = rw (le-ltb (suc n) 10 h, enough n (suc n / 10) (suc n / 10) (omega arith) (omega arith))
 
 pub longer : (n : ℕ) → 10 ≤ n → length (decimal n) ≡ length (decimal (n / 10)) + 1
-longer n h = rw (← decimal-more n h, length-append)
+longer n h = rw (← decimal_more n h, length-append)
 
 -- a number below 10 ^ k has at most k digits
-pub decimal-short : (k n : ℕ) → n < 10 ^ suc k → length (decimal n) ≤ suc k
-decimal-short zero n h = rw (← decimal-one n h) (omega arith)
-decimal-short (suc k) n h = go (dec_le 10 n) (decimal-short k (n / 10))
+pub decimal_short : (k n : ℕ) → n < 10 ^ suc k → length (decimal n) ≤ suc k
+decimal_short zero n h = rw (← decimal_one n h) (omega arith)
+decimal_short (suc k) n h = go (dec_le 10 n) (decimal_short k (n / 10))
   where
     go : Dec (10 ≤ n) → (n / 10 < 10 ^ suc k → length (decimal (n / 10)) ≤ suc k) → length (decimal n) ≤ suc (suc k)
     go (yes more) front =
@@ -59,19 +59,19 @@ decimal-short (suc k) n h = go (dec_le 10 n) (decimal-short k (n / 10))
         omega (arith, longer n more, front below)
     go (no one) front =
         let small : n < 10 = omega (arith, one) in
-        rw (← decimal-one n small) (omega arith)
+        rw (← decimal_one n small) (omega arith)
 
 -- a decimal is written by its last digit, after the others where there are more
 module _ {at next d : ℕ} {old new : List ℕ} (n : ℕ) (is : d ≡ digit n) where
-  pub one-digit : n < 10 → Wrote 1 old at (d ∷ []) new next → Wrote 10 old at (decimal n) new next
-  one-digit h w = loosely 10 (omega arith) (rw (is, decimal-one n h) at w)
+  pub one_digit : n < 10 → Wrote 1 old at (d ∷ []) new next → Wrote 10 old at (decimal n) new next
+  one_digit h w = loosely 10 (omega arith) (rw (is, decimal_one n h) at w)
 
-  pub more-digits : {middle : ℕ} {half : List ℕ} → 10 ≤ n → n < 2 ^ 32 → Wrote 10 old at (decimal (n / 10)) half middle
+  pub more_digits : {middle : ℕ} {half : List ℕ} → 10 ≤ n → n < 2 ^ 32 → Wrote 10 old at (decimal (n / 10)) half middle
       → Wrote 1 half middle (d ∷ []) new next → Wrote 10 old at (decimal n) new next
-  more-digits h fits v w =
-      let both : Wrote 11 old at (decimal n) new next = rw (is, decimal-more n h) at (then v w) in
+  more_digits h fits v w =
+      let both : Wrote 11 old at (decimal n) new next = rw (is, decimal_more n h) at (then v w) in
       record {
         stores = both.stores;
         ends = both.ends;
-        short = decimal-short 9 n (omega arith);
+        short = decimal_short 9 n (omega arith);
       }

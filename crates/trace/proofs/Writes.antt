@@ -3,15 +3,15 @@ use Prim.Native.Nat.{ℕ, suc, ◌+◌, ◌≤◌}
 use mathlib.Core.Path.{◌≡◌, refl, ap, ◌∙◌}
 use mathlib.Core.Bool.{Bool, true, false}
 use mathlib.Core.List.{List, [], ◌∷◌, ◌++◌}
-use native.Mathlib.Nat.{add-zero, add-suc, suc-add}
+use native.Mathlib.Nat.{add-zero, add_suc, suc-add}
 use native.Mathlib.Omega.{arith}
 use lib.ListN.{length, take, drop, length-append}
 use lib.Seq.{sets, sets-eq, length-sets, length-take-le, take_at}
 use Rattle.trace.specs.Lines.{Wrote, RoomFor, Put}
 
-sets-append : (a b l : List ℕ) (at : ℕ) → sets (sets l at a) (at + length a) b ≡ sets l at (a ++ b)
-sets-append [] b l at = rw add-zero
-sets-append (x ∷ a) b l at = rw (add-suc, ← suc-add at (length a)) (sets-append a b _ (suc at))
+sets_append : (a b l : List ℕ) (at : ℕ) → sets (sets l at a) (at + length a) b ≡ sets l at (a ++ b)
+sets_append [] b l at = rw add-zero
+sets_append (x ∷ a) b l at = rw (add_suc, ← suc-add at (length a)) (sets_append a b _ (suc at))
 
 -- before the first write
 pub nothing : (old : List ℕ) (at : ℕ) → Wrote 0 old at [] old at
@@ -22,7 +22,7 @@ pub then : {m n at middle next : ℕ} {old half new a b : List ℕ} → Wrote m 
     → Wrote (m + n) old at (a ++ b) new next
 then {at = at} {old = old} {a = a} {b = b} v w =
     record {
-      stores = w.stores ∙ rw (v.stores, v.ends) (sets-append a b old at);
+      stores = w.stores ∙ rw (v.stores, v.ends) (sets_append a b old at);
       ends = omega (arith, v.ends, w.ends, length-append a b);
       short = omega (arith, v.short, w.short, length-append a b);
     }
@@ -42,8 +42,8 @@ no_room f e = record { room = λ k. absurd (omega (arith, f.full e, k)); none = 
 -- what a caller takes from a write that had room
 module _ {most at next : ℕ} {old new bytes : List ℕ} (w : Wrote most old at bytes new next) where
   -- the place after it is near
-  pub next-near : next ≤ at + most
-  next-near = omega (arith, w.ends, w.short)
+  pub next_near : next ≤ at + most
+  next_near = omega (arith, w.ends, w.short)
 
   pub same_length : length new ≡ length old
   same_length = ap length w.stores ∙ length-sets old at bytes

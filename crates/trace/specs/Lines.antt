@@ -5,14 +5,14 @@ use Rattle.definition.specs.Calls as calls
 use Rattle.trace.specs.declared.Line.{Line}
 use Rattle.trace.specs.declared.Line.TheVariants as line'
 
-abbrev pub lineIn : Line → calls.Line
-lineIn (line'.A address count) = calls.A address count
-lineIn (line'.F kind cause address count) = calls.F kind cause address count
-lineIn (line'.L count) = calls.L count
-lineIn (line'.T mmusr address count) = calls.T mmusr address count
-lineIn line'.K = calls.K
-lineIn line'.N = calls.N
-lineIn (line'.R number) = calls.R number
+abbrev pub line_in : Line → calls.Line
+line_in (line'.A address count) = calls.A address count
+line_in (line'.F kind cause address count) = calls.F kind cause address count
+line_in (line'.L count) = calls.L count
+line_in (line'.T mmusr address count) = calls.T mmusr address count
+line_in line'.K = calls.K
+line_in line'.N = calls.N
+line_in (line'.R number) = calls.R number
 
 -- `old` becomes `new` by `bytes`, at most `most` of them, stored one after the other from `at` on; `next` is the place after them
 pub record Wrote (most : ℕ) (old : List ℕ) (at : ℕ) (bytes new : List ℕ) (next : ℕ) : Type 0 where

@@ -11,48 +11,48 @@ use Rattle.trace.specs.declared.Record.{Record}
 use Rattle.trace.specs.declared.Record.TheVariants as record'
 
 -- the access that a record is, if it is one
-abbrev pub seenCall : calls.Call → Seen
-seenCall (calls.access a) = Seen.Access a
-seenCall (calls.loading code write address) = Seen.Other
-seenCall (calls.testing code write level address) = Seen.Other
-seenCall (calls.probing own instruction write address) = Seen.Other
-seenCall calls.flushingAll = Seen.Other
-seenCall (calls.flushingCode code mask) = Seen.Other
-seenCall (calls.flushingPage code mask address) = Seen.Other
-seenCall (calls.flushingFrame frame) = Seen.Other
+abbrev pub seen_call : calls.Call → Seen
+seen_call (calls.access a) = Seen.Access a
+seen_call (calls.loading code write address) = Seen.Other
+seen_call (calls.testing code write level address) = Seen.Other
+seen_call (calls.probing own instruction write address) = Seen.Other
+seen_call calls.flushing_all = Seen.Other
+seen_call (calls.flushing_code code mask) = Seen.Other
+seen_call (calls.flushing_page code mask address) = Seen.Other
+seen_call (calls.flushing_frame frame) = Seen.Other
 
-abbrev pub seenOf : trace.Record → Seen
-seenOf (trace.Calls c) = seenCall c
-seenOf (trace.Loads g) = Seen.Other
-seenOf (trace.Stores address value) = Seen.Other
-seenOf (trace.Adds range) = Seen.Other
-seenOf trace.Malformed = Seen.Other
+abbrev pub seen_of : trace.Record → Seen
+seen_of (trace.Calls c) = seen_call c
+seen_of (trace.Loads g) = Seen.Other
+seen_of (trace.Stores address value) = Seen.Other
+seen_of (trace.Adds range) = Seen.Other
+seen_of trace.Malformed = Seen.Other
 
 -- a record that is no access; an access is malformed
-abbrev pub otherBy : Seen → trace.Record → trace.Record
-otherBy (seen.Access a) x = trace.Malformed
-otherBy seen.Other x = x
+abbrev pub other_by : Seen → trace.Record → trace.Record
+other_by (seen.Access a) x = trace.Malformed
+other_by seen.Other x = x
 
 abbrev pub other_of : trace.Record → trace.Record
-other_of x = otherBy (seenOf x) x
+other_of x = other_by (seen_of x) x
 
 -- what a call is that is no access
 abbrev pub call_in : Call → calls.Call
 call_in (call.Load code write address) = calls.loading code write address
 call_in (call.Test code write level address) = calls.testing code write level address
-call_in call.FlushAll = calls.flushingAll
-call_in (call.FlushCode code mask) = calls.flushingCode code mask
-call_in (call.FlushPage code mask address) = calls.flushingPage code mask address
-call_in (call.FlushFrame frame) = calls.flushingFrame frame
+call_in call.FlushAll = calls.flushing_all
+call_in (call.FlushCode code mask) = calls.flushing_code code mask
+call_in (call.FlushPage code mask address) = calls.flushing_page code mask address
+call_in (call.FlushFrame frame) = calls.flushing_frame frame
 call_in (call.Probe own instruction write address) = calls.probing own instruction write address
 
 -- what is set
-abbrev pub settingIn : Setting → trace.Record
-settingIn (setting.Registers g) = trace.Loads g
-settingIn (setting.Long address value) = trace.Stores address value
-settingIn (setting.Range range) = trace.Adds range
+abbrev pub setting_in : Setting → trace.Record
+setting_in (setting.Registers g) = trace.Loads g
+setting_in (setting.Long address value) = trace.Stores address value
+setting_in (setting.Range range) = trace.Adds range
 
-abbrev pub recordIn : Record → trace.Record
-recordIn (record'.Call c) = trace.Calls (call_in c)
-recordIn (record'.Set s) = settingIn s
-recordIn record'.Malformed = trace.Malformed
+abbrev pub record_in : Record → trace.Record
+record_in (record'.Call c) = trace.Calls (call_in c)
+record_in (record'.Set s) = setting_in s
+record_in record'.Malformed = trace.Malformed

@@ -1,9 +1,9 @@
 // The trace: one record's body as the definition's record, and one line as its bytes.
 ghost use Rattle.std.specs.Prelude.{◌≡◌, ◌+◌, ◌%◌, ◌≤◌, ◌<◌, [], ◌∷◌, ◌++◌, ltb, length, get_or};
 ghost use Rattle.definition.specs.Words.{bit_of};
-ghost use Rattle.definition.specs.Trace.{be, overrideOf, kind01, kind02, kind03, kind04, kind05, kind06, kind07, kind08, kind0B, byTraceKind, recordOf, hexDigit, hex, digit, decimal, spaced, newline, text, ending, opening};
-ghost use Rattle.trace.specs.Records.{seenOf, other_of, recordIn};
-ghost use Rattle.trace.specs.Lines.{lineIn, Wrote, RoomFor, Put};
+ghost use Rattle.definition.specs.Trace.{be, override_of, kind01, kind02, kind03, kind04, kind05, kind06, kind07, kind08, kind0_b, by_trace_kind, record_of, hex_digit, hex, digit, decimal, spaced, newline, text, ending, opening};
+ghost use Rattle.trace.specs.Records.{seen_of, other_of, record_in};
+ghost use Rattle.trace.specs.Lines.{line_in, Wrote, RoomFor, Put};
 
 use definition::{Access, Override, Range, Registers, Root};
 
@@ -119,7 +119,7 @@ fn flag(flags: u32, k: u32) -> bool
 
 // 01: family, flags (bit 0 PMMU, 1 enabled), the 11 longs in order.
 fn registers_of(b: &[u8]) -> Record
-    ensures { recordIn result ≡ kind01 b.now }
+    ensures { record_in result ≡ kind01 b.now }
 {
     if b.len() != 46 {
         return Record::Malformed;
@@ -152,7 +152,7 @@ fn registers_of(b: &[u8]) -> Record
 
 // An override or FF.
 fn override_of(n: u32) -> Override
-    ensures { result ≡ overrideOf n }
+    ensures { result ≡ override_of n }
 {
     if n == 255 {
         return Override::Plain;
@@ -162,7 +162,7 @@ fn override_of(n: u32) -> Override
 
 // 02: flags (0 write, 1 supervisor, 2 instruction, 3 CPU state, 4 record), override or FF, address.
 fn access_of(b: &[u8]) -> Seen
-    ensures { result ≡ seenOf (kind02 b.now) }
+    ensures { result ≡ seen_of (kind02 b.now) }
 {
     if b.len() != 6 {
         return Seen::Other;
@@ -191,7 +191,7 @@ fn is_write(byte: u32) -> bool
 
 // 03: code, write 0/1, address.
 fn load_of(b: &[u8]) -> Record
-    ensures { recordIn result ≡ kind03 b.now }
+    ensures { record_in result ≡ kind03 b.now }
 {
     if b.len() != 6 {
         return Record::Malformed;
@@ -209,7 +209,7 @@ fn load_of(b: &[u8]) -> Record
 
 // 04: code, write, level, address.
 fn test_of(b: &[u8]) -> Record
-    ensures { recordIn result ≡ kind04 b.now }
+    ensures { record_in result ≡ kind04 b.now }
 {
     if b.len() != 7 {
         return Record::Malformed;
@@ -229,7 +229,7 @@ fn test_of(b: &[u8]) -> Record
 // 03 and 04: PLOAD and PTEST.
 fn search_of(kind: u32, b: &[u8]) -> Record
     requires { (3 ≤ kind) × (kind ≤ 4) }
-    ensures { recordIn result ≡ byTraceKind kind b.now }
+    ensures { record_in result ≡ by_trace_kind kind b.now }
 {
     if kind == 3 {
         return load_of(b);
@@ -239,7 +239,7 @@ fn search_of(kind: u32, b: &[u8]) -> Record
 
 // 05: nothing.
 fn flush_all_of(b: &[u8]) -> Record
-    ensures { recordIn result ≡ kind05 b.now }
+    ensures { record_in result ≡ kind05 b.now }
 {
     if b.len() != 0 {
         return Record::Malformed;
@@ -249,7 +249,7 @@ fn flush_all_of(b: &[u8]) -> Record
 
 // 06: code, mask.
 fn flush_code_of(b: &[u8]) -> Record
-    ensures { recordIn result ≡ kind06 b.now }
+    ensures { record_in result ≡ kind06 b.now }
 {
     if b.len() != 2 {
         return Record::Malformed;
@@ -262,7 +262,7 @@ fn flush_code_of(b: &[u8]) -> Record
 
 // 07: code, mask, address.
 fn flush_page_of(b: &[u8]) -> Record
-    ensures { recordIn result ≡ kind07 b.now }
+    ensures { record_in result ≡ kind07 b.now }
 {
     if b.len() != 6 {
         return Record::Malformed;
@@ -276,7 +276,7 @@ fn flush_page_of(b: &[u8]) -> Record
 
 // 08: 040 frame, a long.
 fn flush_frame_of(b: &[u8]) -> Record
-    ensures { recordIn result ≡ kind08 b.now }
+    ensures { record_in result ≡ kind08 b.now }
 {
     if b.len() != 4 {
         return Record::Malformed;
@@ -289,7 +289,7 @@ fn flush_frame_of(b: &[u8]) -> Record
 // 05 to 08: the flushes.
 fn flush_of(kind: u32, b: &[u8]) -> Record
     requires { (5 ≤ kind) × (kind ≤ 8) }
-    ensures { recordIn result ≡ byTraceKind kind b.now }
+    ensures { record_in result ≡ by_trace_kind kind b.now }
 {
     match kind {
         5 => flush_all_of(b),
@@ -302,7 +302,7 @@ fn flush_of(kind: u32, b: &[u8]) -> Record
 // 09 and 0A, two longs: address, value; range first, last.
 fn longs_of(kind: u32, b: &[u8]) -> Record
     requires { (9 ≤ kind) × (kind ≤ 10) }
-    ensures { recordIn result ≡ byTraceKind kind b.now }
+    ensures { record_in result ≡ by_trace_kind kind b.now }
 {
     if b.len() != 8 {
         return Record::Malformed;
@@ -320,7 +320,7 @@ fn longs_of(kind: u32, b: &[u8]) -> Record
 
 // 0B: flags (3 CPU state, 2 instruction, 0 write), address.
 fn probe_of(b: &[u8]) -> Record
-    ensures { recordIn result ≡ kind0B b.now }
+    ensures { record_in result ≡ kind0_b b.now }
 {
     if b.len() != 5 {
         return Record::Malformed;
@@ -343,7 +343,7 @@ fn probe_of(b: &[u8]) -> Record
 // The access that a body is, kind first, if it is one. Most records are: it is asked before all else, and an access is never a part of a `Record`,
 // whose variants share their bytes.
 pub fn look(body: &[u8]) -> Seen
-    ensures { result ≡ seenOf (recordOf body.now) }
+    ensures { result ≡ seen_of (record_of body.now) }
 {
     if body.len() == 0 {
         return Seen::Other;
@@ -356,7 +356,7 @@ pub fn look(body: &[u8]) -> Seen
 
 // One record's body that is no access; an access is malformed here.
 pub fn decode(body: &[u8]) -> Record
-    ensures { recordIn result ≡ other_of (recordOf body.now) }
+    ensures { record_in result ≡ other_of (record_of body.now) }
 {
     if body.len() == 0 {
         return Record::Malformed;
@@ -385,7 +385,7 @@ fn put_byte(out: &mut [u8], at: usize, byte: u8) -> usize
 
 // Hex is upper case: the low digit of n.
 fn hex_digit(n: u32) -> u8
-    ensures { result ≡ hexDigit (n % 16) }
+    ensures { result ≡ hex_digit (n % 16) }
 {
     let low = n % 16;
     if low < 10 {
@@ -468,7 +468,7 @@ fn put_address(out: &mut [u8], at: usize, address: u32, count: u32) -> usize
 // A line's text.
 fn put_text(out: &mut [u8], at: usize, line: Line) -> usize
     requires { at + 44 ≤ length out.old }
-    ensures { Wrote 44 out.old at (text (lineIn line)) out.new result }
+    ensures { Wrote 44 out.old at (text (line_in line)) out.new result }
 {
     match line {
         Line::A { address, count } => {
@@ -526,7 +526,7 @@ pub fn has_room(out: &[u8], at: usize, n: usize) -> bool
 
 // A line from the place `at` on, where 44 bytes have room there; the result is the place after it. Where they have none, nothing is written.
 pub fn put_line(out: &mut [u8], at: usize, line: Line) -> usize
-    ensures { Put 44 out.old at (text (lineIn line)) out.new result }
+    ensures { Put 44 out.old at (text (line_in line)) out.new result }
 {
     if has_room(out, at, 44) {
         return put_text(out, at, line);

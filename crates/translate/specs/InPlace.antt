@@ -8,28 +8,28 @@ use Rattle.definition.specs.declared.Translation.{Translation}
 use Rattle.walk030.specs.declared.Walked.{Walked}
 use Rattle.walk040.specs.declared.Walked040.{Walked040}
 use Rattle.search.specs.Searched.{end030, Ended}
-use Rattle.cache.specs.Atc030.{cacheOf}
-use Rattle.cache.specs.Atc040.{cache040Of}
-use Rattle.cache.specs.Pair.{cachesOf, SizedAll}
+use Rattle.cache.specs.Atc030.{cache_of}
+use Rattle.cache.specs.Atc040.{cache040_of}
+use Rattle.cache.specs.Pair.{caches_of, SizedAll}
 use Rattle.translate.specs.Stages.{Planned030, Planned, Searched040, end040, Answered}
 use Rattle.translate.specs.declared.Plan.{Plan}
 
 -- a plan r, with the 68030 array after it
 pub record PlannedIn030 (p : Planned030) (r : Plan) (c030 : List ℕ) : Type 0 where
   pub plans : r ≡ p.plan
-  pub leaves : cacheOf c030 ≡ p.cache
+  pub leaves : cache_of c030 ≡ p.cache
   pub sized : length c030 ≡ 69
 
 -- and with both arrays
 pub record PlannedIn (p : Planned) (r : Plan) (c030 c040 : List ℕ) : Type 0 where
   pub plans : r ≡ p.plan
-  pub leaves : cachesOf c030 c040 ≡ p.caches
+  pub leaves : caches_of c030 c040 ≡ p.caches
   pub whole : SizedAll c030 c040
 
 -- a 68040 search's answer r, with the arrays after it
 pub record Ended040 (s : Searched040) (r : Translation) (c040 : List ℕ) : Type 0 where
   pub answers : r ≡ s.answer
-  pub leaves : cache040Of c040 ≡ s.cache
+  pub leaves : cache040_of c040 ≡ s.cache
   pub sized : length c040 ≡ 128
 
 -- what a walk w gives an access: the answer, its count, and the array of its cache after them. A code has three bits
@@ -45,5 +45,5 @@ Gave040 g a c supervisor w answer count c040 =
 pub record AnsweredIn (a : Answered) (answer : Translation) (count : ℕ) (c030 c040 : List ℕ) : Type 0 where
   pub answers : answer ≡ a.answer
   pub counts : count ≡ a.count
-  pub leaves : cachesOf c030 c040 ≡ a.caches
+  pub leaves : caches_of c030 c040 ≡ a.caches
   pub whole : SizedAll c030 c040

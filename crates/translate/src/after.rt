@@ -1,9 +1,9 @@
 // What a walk's end gives an access: the answer, its count, and what is cached.
 ghost use Rattle.std.specs.Prelude.{◌≡◌, length};
-ghost use Rattle.cache.specs.Atc030.{cacheOf};
-ghost use Rattle.cache.specs.Atc040.{cache040Of};
-ghost use Rattle.cache.specs.Pair.{cachesOf};
-ghost use Rattle.translate.specs.Stages.{resident040, end040, concludedOf};
+ghost use Rattle.cache.specs.Atc030.{cache_of};
+ghost use Rattle.cache.specs.Atc040.{cache040_of};
+ghost use Rattle.cache.specs.Pair.{caches_of};
+ghost use Rattle.translate.specs.Stages.{resident040, end040, concluded_of};
 ghost use Rattle.translate.specs.InPlace.{Ended040, Gave030, Gave040, AnsweredIn};
 
 use crate::{Found, Outcome};
@@ -25,7 +25,7 @@ fn resident(
     sup: bool,
 ) -> Translation
     requires { length c040.old ≡ 128 }
-    ensures { Ended040 (resident040 tc (cache040Of c040.old) address supervisor write field wp sup) result c040.new }
+    ensures { Ended040 (resident040 tc (cache040_of c040.old) address supervisor write field wp sup) result c040.new }
 {
     if write & wp {
         return search::fault(FaultCause::WriteProtect, address);
@@ -50,7 +50,7 @@ fn end_040(
     end: End040,
 ) -> Translation
     requires { length c040.old ≡ 128 }
-    ensures { Ended040 (end040 tc (cache040Of c040.old) address supervisor write end) result c040.new }
+    ensures { Ended040 (end040 tc (cache040_of c040.old) address supervisor write end) result c040.new }
 {
     match end {
         End040::Resident { field, wp, sup } => resident(
@@ -63,7 +63,7 @@ fn end_040(
 
 // What a 68030 walk gives, and the longs that it asked for. A code has three bits.
 fn by_030(c030: &mut Atc030, g: Registers, code: u32, a: Access, w: Walked) -> Outcome
-    ensures { Gave030 g a (cacheOf c030.old) code w result.answer result.count c030.new }
+    ensures { Gave030 g a (cache_of c030.old) code w result.answer result.count c030.new }
 {
     let answer = search::end_030(c030, g.tc, code, a.address, a.write, w);
     Outcome {
@@ -75,7 +75,7 @@ fn by_030(c030: &mut Atc030, g: Registers, code: u32, a: Access, w: Walked) -> O
 // What a 68040 walk gives, and the longs that it asked for.
 fn by_040(c040: &mut Atc040, g: Registers, supervisor: bool, a: Access, w: Walked040) -> Outcome
     requires { length c040.old ≡ 128 }
-    ensures { Gave040 g a (cache040Of c040.old) supervisor w result.answer result.count c040.new }
+    ensures { Gave040 g a (cache040_of c040.old) supervisor w result.answer result.count c040.new }
 {
     let end = w.end;
     let answer = end_040(c040, g.tc, a.address, supervisor, a.write, end);
@@ -93,7 +93,7 @@ pub fn concluded(
     a: Access,
     found: Found,
 ) -> Outcome
-    ensures { AnsweredIn (concludedOf g a (cachesOf c030.old c040.old) found) result.answer result.count c030.new c040.new }
+    ensures { AnsweredIn (concluded_of g a (caches_of c030.old c040.old) found) result.answer result.count c030.new c040.new }
 {
     checks::lengths(c030, c040);
     match found {

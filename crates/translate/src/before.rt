@@ -1,12 +1,12 @@
 // The plan of an access: the refusals, the transparent registers, the cache, and the walk to make where none of them answers.
 ghost use Rattle.std.specs.Prelude.{◌≡◌, ◌/◌, ◌%◌, ◌^◌};
 ghost use Rattle.definition.specs.Walk030.{shift_of};
-ghost use Rattle.definition.specs.Walk040.{pageBits};
+ghost use Rattle.definition.specs.Walk040.{page_bits};
 ghost use Rattle.definition.specs.Cache040.{hit040};
-ghost use Rattle.cache.specs.Atc030.{cacheOf};
-ghost use Rattle.cache.specs.Atc040.{cache040Of};
-ghost use Rattle.cache.specs.Pair.{cachesOf, SizedAll};
-ghost use Rattle.translate.specs.Stages.{settledAt, lookPlan, plan030, lookPlan040, planOn, planAccess};
+ghost use Rattle.cache.specs.Atc030.{cache_of};
+ghost use Rattle.cache.specs.Atc040.{cache040_of};
+ghost use Rattle.cache.specs.Pair.{caches_of, SizedAll};
+ghost use Rattle.translate.specs.Stages.{settled_at, look_plan, plan030, look_plan040, plan_on, plan_access};
 ghost use Rattle.translate.specs.InPlace.{PlannedIn030, PlannedIn};
 
 use crate::Plan;
@@ -16,14 +16,14 @@ use definition::{Access, Hit, Registers, Shift, Translation};
 
 // The answer is an address, and no table is asked.
 fn at_address(address: u32) -> Plan
-    ensures { result ≡ settledAt address }
+    ensures { result ≡ settled_at address }
 {
     Plan::Settled(Translation::Address(address))
 }
 
 // By what the look gave: a hit adds the address's low page-shift bits.
 fn looked(hit: Hit, code: u32, address: u32, shift: u32) -> Plan
-    ensures { result ≡ lookPlan code address shift hit }
+    ensures { result ≡ look_plan code address shift hit }
 {
     match hit {
         Hit::At(base) => at_address(memory::page030::hit_address(base, address, shift)),
@@ -40,7 +40,7 @@ fn plan_030(
     write: bool,
     recorded: bool,
 ) -> Plan
-    ensures { PlannedIn030 (plan030 (cacheOf c030.old) recorded (code % 8) address write (shift_of tc)) result c030.new }
+    ensures { PlannedIn030 (plan030 (cache_of c030.old) recorded (code % 8) address write (shift_of tc)) result c030.new }
 {
     checks::sized(c030);
     let code = code % 8;
@@ -56,7 +56,7 @@ fn plan_030(
 
 // By what the look into the 68040 cache gave: a hit joins base and low bits.
 fn looked_040(hit: Hit, tc: u32, address: u32, supervisor: bool) -> Plan
-    ensures { result ≡ lookPlan040 tc address supervisor hit }
+    ensures { result ≡ look_plan040 tc address supervisor hit }
 {
     match hit {
         Hit::At(base) => at_address(memory::page040::joined_040(tc, base, address)),
@@ -66,7 +66,7 @@ fn looked_040(hit: Hit, tc: u32, address: u32, supervisor: bool) -> Plan
 
 // The 68040 cache, keyed by frame and supervisor; else the walk.
 fn plan_040(c040: &Atc040, tc: u32, address: u32, supervisor: bool, write: bool) -> Plan
-    ensures { result ≡ lookPlan040 tc address supervisor (hit040 (cache040Of c040.now) (address / 2 ^ pageBits tc) supervisor write) }
+    ensures { result ≡ look_plan040 tc address supervisor (hit040 (cache040_of c040.now) (address / 2 ^ page_bits tc) supervisor write) }
 {
     let bits = memory::page040::page_bits(tc);
     let frame = address >> bits;
@@ -77,7 +77,7 @@ fn plan_040(c040: &Atc040, tc: u32, address: u32, supervisor: bool, write: bool)
 // The transparent registers before either cache.
 fn plan_on(c030: &mut Atc030, c040: &Atc040, g: Registers, a: Access) -> Plan
     requires { SizedAll c030.old c040.now }
-    ensures { PlannedIn (planOn g a (cachesOf c030.old c040.now)) result c030.new c040.now }
+    ensures { PlannedIn (plan_on g a (caches_of c030.old c040.now)) result c030.new c040.now }
 {
     let compared = checks::compared_code(a);
     let instruction = checks::as_instruction(a);
@@ -101,7 +101,7 @@ pub fn plan_access(
     g: Registers,
     a: Access,
 ) -> Plan
-    ensures { PlannedIn (planAccess g a two crossed (cachesOf c030.old c040.old)) result c030.new c040.new }
+    ensures { PlannedIn (plan_access g a two crossed (caches_of c030.old c040.old)) result c030.new c040.new }
 {
     checks::lengths(c030, c040);
     let code = a.code;

@@ -6,8 +6,8 @@ mod before;
 
 ghost use Rattle.std.specs.Prelude.{◌≡◌};
 ghost use Rattle.definition.specs.Memory.{memory};
-ghost use Rattle.cache.specs.Pair.{cachesOf};
-ghost use Rattle.translate.specs.Stages.{foundOf, shownTranslated, translateGiven};
+ghost use Rattle.cache.specs.Pair.{caches_of};
+ghost use Rattle.translate.specs.Stages.{found_of, shown_translated, translate_given};
 ghost use Rattle.translate.specs.InPlace.{AnsweredIn};
 ghost use Rattle.translate.specs.declared.Found.{Found};
 
@@ -64,7 +64,7 @@ fn by_040(supervisor: bool, walk: Walked040) -> Found
 
 // The walk that a plan asks for.
 fn walked(longs: &[u32], base: u32, ranges: &[Range], g: Registers, a: Access, plan: Plan) -> Found
-    ensures { result ≡ foundOf (memory longs.now base ranges.now) g a plan }
+    ensures { result ≡ found_of (memory longs.now base ranges.now) g a plan }
 {
     match plan {
         Plan::Settled(answer) => settled(answer),
@@ -96,7 +96,7 @@ pub fn translate(
     g: Registers,
     a: Access,
 ) -> Outcome
-    ensures { AnsweredIn (shownTranslated (translateGiven crossed g a (memory longs.now base ranges.now) (cachesOf c030.old c040.old))) result.answer result.count c030.new c040.new }
+    ensures { AnsweredIn (shown_translated (translate_given crossed g a (memory longs.now base ranges.now) (caches_of c030.old c040.old))) result.answer result.count c030.new c040.new }
 {
     let two = checks::bad_longs(longs, base);
     let plan = before::plan_access(c030, c040, two, crossed, g, a);

@@ -7,12 +7,12 @@ use Rattle.definition.specs.Words.{if◌then◌else◌, bit_of}
 use Rattle.definition.specs.Transparent.{matches030, matches040, transparent030, transparent040, transparent}
 use Rattle.definition.specs.declared.Registers.{Registers}
 use Rattle.transparent.proofs.Choices.{neither}
-use Rattle.transparent.specs.Chosen.{matches_by, eitherBy, firstBy, secondBy}
+use Rattle.transparent.specs.Chosen.{matches_by, either_by, first_by, second_by}
 
 module _ (g : Registers) (address code : ℕ) (instruction write : Bool) where
-  by-family : eitherBy g.family (firstBy g instruction) (secondBy g instruction) address code write ≡ transparent g address code instruction write
+  by_family : either_by g.family (first_by g instruction) (second_by g instruction) address code write ≡ transparent g address code instruction write
   unfolding transparent
-  by-family = go (eqb g.family 30) (eqb g.family 40) instruction
+  by_family = go (eqb g.family 30) (eqb g.family 40) instruction
     where
       by : Bool → Bool → ℕ → Bool
       by x y tt = if x then matches030 tt address code write else if y then matches040 tt address (bit_of code 2) else false
@@ -33,11 +33,11 @@ module _ (g : Registers) (address code : ℕ) (instruction write : Bool) where
       go false true = rw h
       go false false = refl
 
-  module _ {first : ℕ} (e : first ≡ firstBy g instruction) {second : ℕ} (f : second ≡ secondBy g instruction) where
-    pub compared : {r : Bool} → r ≡ eitherBy g.family first second address code write → r ≡ transparent g address code instruction write
-    compared er = er ∙ rw (e, f) by-family
+  module _ {first : ℕ} (e : first ≡ first_by g instruction) {second : ℕ} (f : second ≡ second_by g instruction) where
+    pub compared : {r : Bool} → r ≡ either_by g.family first second address code write → r ≡ transparent g address code instruction write
+    compared er = er ∙ rw (e, f) by_family
 
-    pub none-enabled : {x : Bool} → x ≡ bit_of first 15 → {y : Bool} → y ≡ bit_of second 15 → (x || y) ≡ false → false ≡ transparent g address code instruction write
-    none-enabled {x} ex {y} ey h =
+    pub none_enabled : {x : Bool} → x ≡ bit_of first 15 → {y : Bool} → y ≡ bit_of second 15 → (x || y) ≡ false → false ≡ transparent g address code instruction write
+    none_enabled {x} ex {y} ey h =
         let off = neither x y h in
         compared (rw (disabled first (sym ex ∙ off.0), disabled second (sym ey ∙ off.1)))

@@ -10,12 +10,12 @@ matches_by family tt address code write =
     then matches030 tt address code write
     else if eqb family 40 then matches040 tt address (bit_of code 2) else false
 
-abbrev pub eitherBy : ℕ → ℕ → ℕ → ℕ → ℕ → Bool → Bool
-eitherBy family first second address code write =
+abbrev pub either_by : ℕ → ℕ → ℕ → ℕ → ℕ → Bool → Bool
+either_by family first second address code write =
     matches_by family first address code write || matches_by family second address code write
 
-abbrev pub firstBy : Registers → Bool → ℕ
-firstBy g instruction = if eqb g.family 30 then g.tt0 else if instruction then g.itt0 else g.dtt0
+abbrev pub first_by : Registers → Bool → ℕ
+first_by g instruction = if eqb g.family 30 then g.tt0 else if instruction then g.itt0 else g.dtt0
 
-abbrev pub secondBy : Registers → Bool → ℕ
-secondBy g instruction = if eqb g.family 30 then g.tt1 else if instruction then g.itt1 else g.dtt1
+abbrev pub second_by : Registers → Bool → ℕ
+second_by g instruction = if eqb g.family 30 then g.tt1 else if instruction then g.itt1 else g.dtt1

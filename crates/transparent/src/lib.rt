@@ -2,7 +2,7 @@
 ghost use Rattle.std.specs.Prelude.{◌≡◌};
 ghost use Rattle.definition.specs.Words.{bit_of, agrees};
 ghost use Rattle.definition.specs.Transparent.{covers, directed, matches030, privilege, matches040, transparent030, transparent};
-ghost use Rattle.transparent.specs.Chosen.{matches_by, eitherBy, firstBy, secondBy};
+ghost use Rattle.transparent.specs.Chosen.{matches_by, either_by, first_by, second_by};
 
 use definition::Registers;
 
@@ -89,7 +89,7 @@ fn matches(family: u32, tt: u32, address: u32, code: u32, write: bool) -> bool
 
 // Either of two of them.
 fn either(family: u32, first: u32, second: u32, address: u32, code: u32, write: bool) -> bool
-    ensures { result ≡ eitherBy family first second address code write }
+    ensures { result ≡ either_by family first second address code write }
 {
     if matches(family, first, address, code, write) {
         return true;
@@ -106,7 +106,7 @@ pub fn transparent_030(g: Registers, address: u32, code: u32, write: bool) -> bo
 
 // The first register that an access is compared with: TT0, or ITT0 for instructions and DTT0 for data.
 fn first_of(g: Registers, instruction: bool) -> u32
-    ensures { result ≡ firstBy g instruction }
+    ensures { result ≡ first_by g instruction }
 {
     if g.family == 30 {
         return g.tt0;
@@ -119,7 +119,7 @@ fn first_of(g: Registers, instruction: bool) -> u32
 
 // The second: TT1, or ITT1 for instructions and DTT1 for data.
 fn second_of(g: Registers, instruction: bool) -> u32
-    ensures { result ≡ secondBy g instruction }
+    ensures { result ≡ second_by g instruction }
 {
     if g.family == 30 {
         return g.tt1;

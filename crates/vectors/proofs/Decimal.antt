@@ -7,20 +7,20 @@ use native.Mathlib.Omega.{arith}
 use native.Mathlib.Nat.{pow-suc, mul_assoc}
 use borrow.Author.Tests.{lt-ltb, le-leb, lt-leb}
 use Rattle.io.specs.Digits.{last_digits, hex_digit_ascii}
-use Rattle.vectors.specs.Rows.{digitOf, numberFrom, number_at}
+use Rattle.vectors.specs.Rows.{digit_of, number_from, number_at}
 use Rattle.vectors.specs.declared.Number.TheVariants as number
 
-digit_glyph : (d : ℕ) → d < 10 → digitOf (hex_digit_ascii d) ≡ d
+digit_glyph : (d : ℕ) → d < 10 → digit_of (hex_digit_ascii d) ≡ d
 digit_glyph d h =
     rw (lt-ltb d 10 h, le-leb 48 (48 + d) (omega arith), le-leb (48 + d) 57 (omega arith)) (omega arith)
 
 -- one digit more
-one-digit : (start v i d : ℕ) (rest : List ℕ) → d < 10 → v * 10 + d < 2 ^ 32 → numberFrom start v i (hex_digit_ascii d ∷ rest) ≡ numberFrom start (v * 10 + d) (i + 1) rest
-unfolding numberFrom
-one-digit start v i d rest h k = rw (digit_glyph d h, lt-leb 10 d h, lt-leb (2 ^ 32) (v * 10 + d) k)
+one_digit : (start v i d : ℕ) (rest : List ℕ) → d < 10 → v * 10 + d < 2 ^ 32 → number_from start v i (hex_digit_ascii d ∷ rest) ≡ number_from start (v * 10 + d) (i + 1) rest
+unfolding number_from
+one_digit start v i d rest h k = rw (digit_glyph d h, lt-leb 10 d h, lt-leb (2 ^ 32) (v * 10 + d) k)
 
 -- the last k digits of n come after those that make v
-all_digits : (start k v i n : ℕ) (rest : List ℕ) → n < 10 ^ k → v * 10 ^ k + n < 2 ^ 32 → numberFrom start v i (last_digits 10 k n ++ rest) ≡ numberFrom start (v * 10 ^ k + n) (i + k) rest
+all_digits : (start k v i n : ℕ) (rest : List ℕ) → n < 10 ^ k → v * 10 ^ k + n < 2 ^ 32 → number_from start v i (last_digits 10 k n ++ rest) ≡ number_from start (v * 10 ^ k + n) (i + k) rest
 all_digits start zero v i n rest h b =
     let e : v * 1 + n ≡ v = omega arith in
     let f : i + 0 ≡ i = omega arith in
@@ -33,11 +33,11 @@ all_digits start (suc k) v i n rest h b =
     let f : i + k + 1 ≡ i + suc k = omega arith in
     rw append_assoc
     (all_digits start k v i (n / 10) (hex_digit_ascii (n % 10) ∷ rest) hᵏ bᵏ
-    ∙ one-digit start (v * 10 ^ k + n / 10) (i + k) (n % 10) rest (omega arith) (omega (arith, e)) ∙ rw (e, f))
+    ∙ one_digit start (v * 10 ^ k + n / 10) (i + k) (n % 10) rest (omega arith) (omega (arith, e)) ∙ rw (e, f))
 
 -- a number that is written with k digits, at the start of a text, and closed by a space
 pub read_back : (k n : ℕ) (rest : List ℕ) → 0 < k → n < 10 ^ k → n < 2 ^ 32 → number_at (last_digits 10 k n ++ (32 ∷ rest)) 0 ≡ number.Is n false (record { at = k + 1 })
-unfolding numberFrom
+unfolding number_from
 read_back k n rest p h b =
     let e : 0 * 10 ^ k + n ≡ n = omega arith in
     let f : 0 + k ≡ k = omega arith in

@@ -11,7 +11,7 @@ use borrow.Author.Tests.{le-leb, lt-leb}
 use lib.Dec.{ltb, leb, eqb}
 use lib.ListN.{length, get_or, take, drop, set, length-drop, length-set, drop_of_length-le}
 use lib.Seq.{drop-cons, take-suc, take-suc-set, drop-set-lt, drop-drop, get_or-drop}
-use Rattle.vectors.specs.Rows.{digitOf, closedBy, numberFrom, number_at, Ahead, Found, whole, ended, malformed, after, onNumber, row_at, Within}
+use Rattle.vectors.specs.Rows.{digit_of, closed_by, number_from, number_at, Ahead, Found, whole, ended, malformed, after, on_number, row_at, Within}
 use Rattle.vectors.specs.declared.Number.{Number}
 use Rattle.vectors.specs.declared.Number.TheVariants as number
 use Rattle.vectors.specs.declared.Row.TheVariants as row
@@ -19,38 +19,38 @@ use Rattle.vectors.specs.declared.Cursor.{Cursor}
 
 -- the digits from start up to i are read, and make value
 pub record Reading (l : List ℕ) (start value i : ℕ) : Type 0 where
-  pub same : number_at l start ≡ numberFrom start value i (drop i l)
+  pub same : number_at l start ≡ number_from start value i (drop i l)
   pub small : value < 2 ^ 32
 
 module _ {l : List ℕ} {start value i : ℕ} (r : Reading l start value i) where
   -- the text ends
   pub over : length l ≤ i → number.End ≡ number_at l start
-  unfolding numberFrom
+  unfolding number_from
   over h = rw (r.same, drop_of_length-le l {i = i} h)
 
-  module _ (h : i < length l) (d : ℕ) (e : d ≡ digitOf (get_or l i 0)) where
+  module _ (h : i < length l) (d : ℕ) (e : d ≡ digit_of (get_or l i 0)) where
     -- the byte at i closes the number
-    pub closes : 10 ≤ d → closedBy (ltb start i) value (get_or l i 0) (i + 1) ≡ number_at l start
-    unfolding numberFrom
-    closes t = rw (r.same, drop-cons l i 0, le-leb 10 (digitOf (get_or l i 0)) (rw e at t))
+    pub closes : 10 ≤ d → closed_by (ltb start i) value (get_or l i 0) (i + 1) ≡ number_at l start
+    unfolding number_from
+    closes t = rw (r.same, drop-cons l i 0, le-leb 10 (digit_of (get_or l i 0)) (rw e at t))
 
     -- one more digit makes it too large
     pub too_large : d < 10 → 2 ^ 32 ≤ value * 10 + d → number.Malformed ≡ number_at l start
-    unfolding numberFrom
+    unfolding number_from
     too_large t u =
-        rw (r.same, drop-cons l i 0, lt-leb 10 (digitOf (get_or l i 0)) (rw e at t), le-leb (2 ^ 32) (value * 10 + digitOf (get_or l i 0)) (rw e at u))
+        rw (r.same, drop-cons l i 0, lt-leb 10 (digit_of (get_or l i 0)) (rw e at t), le-leb (2 ^ 32) (value * 10 + digit_of (get_or l i 0)) (rw e at u))
 
     -- one more digit
     pub more : d < 10 → value * 10 + d < 2 ^ 32 → Reading l start (value * 10 + d) (i + 1)
-    unfolding numberFrom
+    unfolding number_from
     more t u =
         record {
           same =
               rw (
                 r.same,
                 drop-cons l i 0,
-                lt-leb 10 (digitOf (get_or l i 0)) (rw e at t),
-                lt-leb (2 ^ 32) (value * 10 + digitOf (get_or l i 0)) (rw e at u),
+                lt-leb 10 (digit_of (get_or l i 0)) (rw e at t),
+                lt-leb (2 ^ 32) (value * 10 + digit_of (get_or l i 0)) (rw e at u),
                 ← e,
                 add-one,
               );
@@ -63,40 +63,40 @@ module _ (at size : ℕ) where
   either true x y a b = a
   either false x y a b = b
 
-  closed-ahead : (t : Bool) (value b next : ℕ) → at < next → next ≤ size → Ahead (closedBy t value b next) at size
+  closed_ahead : (t : Bool) (value b next : ℕ) → at < next → next ≤ size → Ahead (closed_by t value b next) at size
   unfolding Ahead
-  closed-ahead t value b next h k = choose (t && (eqb b 32 || eqb b 10))
+  closed_ahead t value b next h k = choose (t && (eqb b 32 || eqb b 10))
     where
       choose : (u : Bool) → Ahead (cond u (number.Is value (eqb b 10) (record { at = next })) number.Malformed) at size
       choose true = (h, k)
       choose false = tt
 
-  no-ahead : Ahead number.Malformed at size
+  no_ahead : Ahead number.Malformed at size
   unfolding Ahead
-  no-ahead = tt
+  no_ahead = tt
 
-  end-ahead : Ahead number.End at size
+  end_ahead : Ahead number.End at size
   unfolding Ahead
-  end-ahead = tt
+  end_ahead = tt
 
-  from-ahead : (s : List ℕ) (start value i : ℕ) → at ≤ i → i + length s ≤ size → Ahead (numberFrom start value i s) at size
-  unfolding numberFrom
-  from-ahead [] start value i h k = end-ahead
-  from-ahead (b ∷ rest) start value i h k =
-      either (leb 10 (digitOf b)) _ _ (closed-ahead (ltb start i) value b (i + 1) (omega arith) (omega arith))
-      (either (leb (2 ^ 32) (value * 10 + digitOf b)) _ _ no-ahead (from-ahead rest start (value * 10 + digitOf b) (i + 1) (omega arith) (omega arith)))
+  from_ahead : (s : List ℕ) (start value i : ℕ) → at ≤ i → i + length s ≤ size → Ahead (number_from start value i s) at size
+  unfolding number_from
+  from_ahead [] start value i h k = end_ahead
+  from_ahead (b ∷ rest) start value i h k =
+      either (leb 10 (digit_of b)) _ _ (closed_ahead (ltb start i) value b (i + 1) (omega arith) (omega arith))
+      (either (leb (2 ^ 32) (value * 10 + digit_of b)) _ _ no_ahead (from_ahead rest start (value * 10 + digit_of b) (i + 1) (omega arith) (omega arith)))
 
-number-ahead : (l : List ℕ) (at : ℕ) → Ahead (number_at l at) at (length l)
-unfolding numberFrom Ahead
-number-ahead l at = go (dec_le at (length l))
+number_ahead : (l : List ℕ) (at : ℕ) → Ahead (number_at l at) at (length l)
+unfolding number_from Ahead
+number_ahead l at = go (dec_le at (length l))
   where
     go : Dec (at ≤ length l) → Ahead (number_at l at) at (length l)
-    go (yes h) = from-ahead at (length l) (drop at l) at 0 at (le_refl at) (simp length-drop (omega arith))
+    go (yes h) = from_ahead at (length l) (drop at l) at 0 at (le_refl at) (simp length-drop (omega arith))
     go (no h) = rw (drop_of_length-le l {i = at} (omega arith)) tt
 
 -- what a number's contract says follows from what the number is
 pub settled : (l : List ℕ) (at : ℕ) (r : Number) → r ≡ number_at l at → (r ≡ number_at l at) × Ahead r at (length l)
-settled l at r e = (e, rw e (number-ahead l at))
+settled l at r e = (e, rw e (number_ahead l at))
 
 ahead_of : {r : Number} {v at size : ℕ} {last : Bool} {next : Cursor} → r ≡ number.Is v last next → Ahead r at size → (at < next.at) × (next.at ≤ size)
 unfolding Ahead
@@ -109,15 +109,15 @@ before vs (whole ws next) = whole (vs ++ ws) next
 before vs ended = ended
 before vs malformed = malformed
 
-before-none : (f : Found) → before [] f ≡ f
-before-none (whole ws next) = refl
-before-none ended = refl
-before-none malformed = refl
+before_none : (f : Found) → before [] f ≡ f
+before_none (whole ws next) = refl
+before_none ended = refl
+before_none malformed = refl
 
-before-after : (vs : List ℕ) (v : ℕ) (f : Found) → before vs (after v f) ≡ before (vs ++ (v ∷ [])) f
-before-after vs v (whole ws next) = rw append_assoc
-before-after vs v ended = refl
-before-after vs v malformed = refl
+before_after : (vs : List ℕ) (v : ℕ) (f : Found) → before vs (after v f) ≡ before (vs ++ (v ∷ [])) f
+before_after vs v (whole ws next) = rw append_assoc
+before_after vs v ended = refl
+before_after vs v malformed = refl
 
 -- count numbers are read and put, and the next one starts at `at`
 pub record Filling (text first : List ℕ) (at₀ : ℕ) (numbers : List ℕ) (at count : ℕ) : Type 0 where
@@ -125,10 +125,10 @@ pub record Filling (text first : List ℕ) (at₀ : ℕ) (numbers : List ℕ) (a
   pub kept : length numbers ≡ length first
   pub ahead : at₀ ≤ at
 
-pub none-put : (text first : List ℕ) (at : ℕ) → Filling text first at first at 0
-none-put text first at =
+pub none_put : (text first : List ℕ) (at : ℕ) → Filling text first at first at 0
+none_put text first at =
     let e : length first - 0 ≡ length first = omega arith in
-    record { same = rw e (sym (before-none (row_at text (length first) at))); kept = refl; ahead = le_refl at }
+    record { same = rw e (sym (before_none (row_at text (length first) at))); kept = refl; ahead = le_refl at }
 
 module _ {text first : List ℕ} {at₀ : ℕ} {numbers : List ℕ} {at count : ℕ} (f : Filling text first at₀ numbers at count) where
   -- there is no room for another number
@@ -139,7 +139,7 @@ module _ {text first : List ℕ} {at₀ : ℕ} {numbers : List ℕ} {at count : 
       rw (f.same, e)
 
   module _ (h : count < length numbers) where
-    one_more : row_at text (length first - count) at ≡ onNumber (λ (next : ℕ). row_at text (length first - (count + 1)) next) (number_at text at)
+    one_more : row_at text (length first - count) at ≡ on_number (λ (next : ℕ). row_at text (length first - (count + 1)) next) (number_at text at)
     unfolding row_at
     one_more =
         let e : length first - count ≡ suc (length first - (count + 1)) = omega (arith, f.kept) in
@@ -155,15 +155,15 @@ module _ {text first : List ℕ} {at₀ : ℕ} {numbers : List ℕ} {at count : 
 
     module _ {r : Number} {v : ℕ} {last : Bool} {next : Cursor} (n : r ≡ number_at text at) (a : Ahead r at (length text)) (e : r ≡ number.Is v last next) where
       -- it is the last number
-      pub last-put : last ≡ true → (whole (take (count + 1) (set numbers count v)) next.at ≡ row_at text (length first) at₀) × Within (row.Whole (count + 1) next) (length first) (length text) at₀
+      pub last_put : last ≡ true → (whole (take (count + 1) (set numbers count v)) next.at ≡ row_at text (length first) at₀) × Within (row.Whole (count + 1) next) (length first) (length text) at₀
       unfolding Within
-      last-put t =
+      last_put t =
           let k = ahead_of e a in
           (rw (f.same, one_more, ← n, e, t, add-one, take-suc-set numbers count v h), (omega arith, omega (arith, f.kept), omega (arith, k.0, f.ahead), k.1))
 
       -- it is not the last
-      pub more-put : last ≡ false → Filling text first at₀ (set numbers count v) next.at (count + 1)
-      more-put t =
+      pub more_put : last ≡ false → Filling text first at₀ (set numbers count v) next.at (count + 1)
+      more_put t =
           record {
             same =
                 rw (
@@ -172,7 +172,7 @@ module _ {text first : List ℕ} {at₀ : ℕ} {numbers : List ℕ} {at count : 
                   ← n,
                   e,
                   t,
-                  before-after (take count numbers) v (row_at text (length first - (count + 1)) next.at),
+                  before_after (take count numbers) v (row_at text (length first - (count + 1)) next.at),
                   ← take-suc-set numbers count v h,
                   ← add-one,
                 );
@@ -182,13 +182,13 @@ module _ {text first : List ℕ} {at₀ : ℕ} {numbers : List ℕ} {at count : 
 
 -- ---- where a row ends
 module _ (room size at : ℕ) where
-  pub ended-within : Within row.End room size at
+  pub ended_within : Within row.End room size at
   unfolding Within
-  ended-within = tt
+  ended_within = tt
 
-  pub bad-within : Within row.Malformed room size at
+  pub bad_within : Within row.Malformed room size at
   unfolding Within
-  bad-within = tt
+  bad_within = tt
 
 -- ---- bytes that are moved to the front
 -- the first i of them are moved, and those from i on are as they were
@@ -197,11 +197,11 @@ pub record Moving (first : List ℕ) (from : ℕ) (l : List ℕ) (i : ℕ) : Typ
   pub rest : drop i l ≡ drop i first
   pub kept : length l ≡ length first
 
-pub none-moved : (first : List ℕ) (from : ℕ) → Moving first from first 0
-none-moved first from = record { moved = refl; rest = refl; kept = refl }
+pub none_moved : (first : List ℕ) (from : ℕ) → Moving first from first 0
+none_moved first from = record { moved = refl; rest = refl; kept = refl }
 
-pub one-moved : {first l : List ℕ} {from i : ℕ} → Moving first from l i → from + i < length l → Moving first from (set l i (get_or l (from + i) 0)) (i + 1)
-one-moved {first} {l} {from} {i} m h =
+pub one_moved : {first l : List ℕ} {from i : ℕ} → Moving first from l i → from + i < length l → Moving first from (set l i (get_or l (from + i) 0)) (i + 1)
+one_moved {first} {l} {from} {i} m h =
     let e : i + from ≡ from + i = omega arith in
     let k : i < length l = omega arith in
     let k' : i < length (drop from first) = simp length-drop (omega (arith, m.kept)) in

@@ -1,7 +1,7 @@
 // Rows of decimal numbers out of a file, over a buffer that does not grow with the file, and a tally of rows that differ.
 // A row is numbers below 2^32, one space between two, and a line's end after the last.
 ghost use Rattle.std.specs.Prelude.{◌≡◌, ◌+◌, ◌≤◌, length, take, drop};
-ghost use Rattle.vectors.specs.Rows.{digitOf, closedBy, number_at, Ahead, row_at, shown, Within};
+ghost use Rattle.vectors.specs.Rows.{digit_of, closed_by, number_at, Ahead, row_at, shown, Within};
 
 use libc::STDOUT_FILENO;
 
@@ -35,7 +35,7 @@ pub enum Row {
 
 // The digit that a byte is, and 10 where it is none.
 fn digit_of(b: u8) -> u64
-    ensures { result ≡ digitOf b }
+    ensures { result ≡ digit_of b }
 {
     if 48 <= b {
         if b <= 57 {
@@ -47,7 +47,7 @@ fn digit_of(b: u8) -> u64
 
 // The number whose digits, if there are `some`, come before the byte `b`: a space, or a line's end after the row's last.
 fn closed_by(some: bool, value: u32, b: u8, next: usize) -> Number
-    ensures { result ≡ closedBy some value b next }
+    ensures { result ≡ closed_by some value b next }
 {
     if some & ((b == 32) | (b == 10)) {
         return Number::Is {

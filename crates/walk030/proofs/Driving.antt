@@ -3,7 +3,7 @@
 use Prim.Native.Nat.{ℕ, zero, suc, ◌+◌, ◌-◌, ◌*◌, ◌/◌, ◌%◌, ◌≤◌, ◌<◌}
 use mathlib.Core.Path.{◌≡◌, refl, ap, sym, subst, ◌∙◌}
 use mathlib.Core.List.{List, [], ◌∷◌, ◌++◌}
-use mathlib.Core.Bool.{Bool, true, false, not, ◌||◌, and-false, or-true, or-false}
+use mathlib.Core.Bool.{Bool, true, false, not, ◌||◌, and-false, or-true, or_false}
 use native.Mathlib.Omega.{arith}
 use native.Mathlib.Numerals.{add-one}
 use native.Mathlib.Decide.{dec_le}
@@ -12,54 +12,54 @@ use lib.Dec.{T, eqb, ltb}
 use lib.ListN.{length, get_or, drop, length-append, length-drop, drop_of_length-le}
 use lib.Seq.{drop-cons}
 use Rattle.definition.specs.Words.{if◌then◌else◌, bit_of}
-use Rattle.definition.specs.Memory.{Memory, fetchOf}
-use Rattle.definition.specs.Walk030.{entry_of, Descriptor, Whole, Lost, short_of, longOf, onSecond, read_of, is_of, used, widthsOf, topIndex, Step, steps, stepsWith, Found, Outcome, ended, asking, deeper, guarded, by_kind, onTarget, onTable, onDescriptor, walkFrom, start, walkSteps, outcomeOf, walk030}
-use Rattle.definition.specs.Registers.{rootOf}
+use Rattle.definition.specs.Memory.{Memory, fetch_of}
+use Rattle.definition.specs.Walk030.{entry_of, Descriptor, Whole, Lost, short_of, long_of, on_second, read_of, is_of, used, widths_of, top_index, Step, steps, steps_with, Found, Outcome, ended, asking, deeper, guarded, by_kind, on_target, on_table, on_descriptor, walk_from, start, walk_steps, outcome_of, walk030}
+use Rattle.definition.specs.Registers.{root_of}
 use Rattle.definition.specs.declared.Registers.{Registers}
 use Rattle.definition.specs.declared.Root.{Root}
 use Rattle.definition.specs.declared.Fetched.{Fetched}
 use Rattle.definition.specs.declared.Fetched.TheVariants.{Long, Failed}
-use Rattle.definition.proofs.Asked030.{askedFor}
-use Rattle.memory.specs.Descriptors.{shownRead}
+use Rattle.definition.proofs.Asked030.{asked_for}
+use Rattle.memory.specs.Descriptors.{shown_read}
 use Rattle.memory.specs.declared.descriptor.Descriptor.{Descriptor as Read}
 use Rattle.memory.specs.declared.descriptor.Descriptor.TheVariants as given
 use Rattle.definition.specs.declared.End.{End}
 use Rattle.definition.specs.declared.End.TheVariants.{Page, Invalid, LevelStop, BusError, Config}
 use Rattle.walk030.specs.Walked.{shown}
-use Rattle.walk030.specs.Machine.{noWalk, misconfiguredOf, beginOf, atLimit, aimedOf, nextK, aim_of, addsOf, asked_of, levelsOf, held_of, seenOf, toTarget, to_table, onwardOf, answered}
+use Rattle.walk030.specs.Machine.{no_walk, misconfigured_of, begin_of, at_limit, aimed_of, next_k, aim_of, adds_of, asked_of, levels_of, held_of, seen_of, to_target, to_table, onward_of, answered}
 use Rattle.walk030.specs.declared.Walked.{Walked}
 use Rattle.walk030.specs.declared.machine.Walking030.{Walking030}
 use Rattle.memory.proofs.Tests.{T_true, T_false, clash}
-use Rattle.memory.proofs.Shown.{lost-is, whole_is}
-use Rattle.memory.proofs.Widths.{used-at, width_small, widths-few}
+use Rattle.memory.proofs.Shown.{lost_is, whole_is}
+use Rattle.memory.proofs.Widths.{used_at, width_small, widths_few}
 use Rattle.walk030.proofs.Aiming as aim
 
 -- ---- what a descriptor asks for
-second-few : (first at next : ℕ) (r : Fetched) → length (askedFor (onSecond first at next r)) ≤ 2
-second-few first at next (Long second) = omega arith
-second-few first at next Failed = omega arith
+second_few : (first at next : ℕ) (r : Fetched) → length (asked_for (on_second first at next r)) ≤ 2
+second_few first at next (Long second) = omega arith
+second_few first at next Failed = omega arith
 
-long-few : (m : Memory) (at : ℕ) (r : Fetched) → length (askedFor (longOf m at r)) ≤ 2
-long-few m at (Long first) = second-few first at (entry_of at 1 false) (fetchOf m (entry_of at 1 false))
-long-few m at Failed = omega arith
+long_few : (m : Memory) (at : ℕ) (r : Fetched) → length (asked_for (long_of m at r)) ≤ 2
+long_few m at (Long first) = second_few first at (entry_of at 1 false) (fetch_of m (entry_of at 1 false))
+long_few m at Failed = omega arith
 
-short-few : (at : ℕ) (r : Fetched) → length (askedFor (short_of at r)) ≤ 2
-short-few at (Long first) = omega arith
-short-few at Failed = omega arith
+short_few : (at : ℕ) (r : Fetched) → length (asked_for (short_of at r)) ≤ 2
+short_few at (Long first) = omega arith
+short_few at Failed = omega arith
 
-read-few : (m : Memory) (at : ℕ) (long : Bool) → length (askedFor (read_of m at long)) ≤ 2
+read_few : (m : Memory) (at : ℕ) (long : Bool) → length (asked_for (read_of m at long)) ≤ 2
 unfolding read_of
-read-few m at true = long-few m at (fetchOf m at)
-read-few m at false = short-few at (fetchOf m at)
+read_few m at true = long_few m at (fetch_of m at)
+read_few m at false = short_few at (fetch_of m at)
 
 -- the code counts them
-counted : (d : Descriptor) → asked_of (shownRead d) ≡ length (askedFor d)
+counted : (d : Descriptor) → asked_of (shown_read d) ≡ length (asked_for d)
 counted (Whole kind field wp sup x) = refl
 counted (Lost at x) = refl
 
-steps-length : (address consumed : ℕ) (ws : List ℕ) → length (steps address consumed ws) ≡ length ws
-steps-length address consumed [] = refl
-steps-length address consumed (w ∷ ws) = ap suc (steps-length address (consumed + w) ws)
+steps_length : (address consumed : ℕ) (ws : List ℕ) → length (steps address consumed ws) ≡ length ws
+steps_length address consumed [] = refl
+steps_length address consumed (w ∷ ws) = ap suc (steps_length address (consumed + w) ws)
 
 -- what was found, as the machine has it
 abbrev pub found : Walking030 → List ℕ → Found
@@ -69,44 +69,44 @@ found s asked = record { wp = s.wp; sup = s.sup; levels = s.levels; last = s.las
 abbrev at_last : ℕ → Found → Found
 at_last last f = record { wp = f.wp; sup = f.sup; levels = f.levels; last = last; asked = f.asked }
 
-target-last : (consumed at last : ℕ) (f : Found) (d : Descriptor) → onTarget consumed at f d ≡ onTarget consumed at (at_last last f) d
-target-last consumed at last f (Lost lost n) = refl
-target-last consumed at last f (Whole kind field wp sup n) = refl
+target_last : (consumed at last : ℕ) (f : Found) (d : Descriptor) → on_target consumed at f d ≡ on_target consumed at (at_last last f) d
+target_last consumed at last f (Lost lost n) = refl
+target_last consumed at last f (Whole kind field wp sup n) = refl
 
-level-last : (m : Memory) (consumed at last : ℕ) (f : Found) (ss : List Step) (next : ℕ → Bool → Found → Outcome) (d : Descriptor)
-    → onDescriptor m consumed at f ss next d ≡ onDescriptor m consumed at (at_last last f) ss next d
-level-last m consumed at last f ss next (Lost lost n) = refl
-level-last m consumed at last f ss next (Whole kind field wp sup n) = refl
+level_last : (m : Memory) (consumed at last : ℕ) (f : Found) (ss : List Step) (next : ℕ → Bool → Found → Outcome) (d : Descriptor)
+    → on_descriptor m consumed at f ss next d ≡ on_descriptor m consumed at (at_last last f) ss next d
+level_last m consumed at last f ss next (Lost lost n) = refl
+level_last m consumed at last f ss next (Whole kind field wp sup n) = refl
 
 module _ (m : Memory) (tc : ℕ) (root : Root) (address code limit : ℕ) where
   abbrev pub us : List ℕ
-  us = used (widthsOf tc)
+  us = used (widths_of tc)
 
   abbrev pub whole : Outcome
-  whole = outcomeOf m tc root address code limit
+  whole = outcome_of m tc root address code limit
 
   -- the levels of the widths left, and with the function code's
   abbrev pub later : Walking030 → List Step
   later s = steps address s.consumed (drop s.k us)
 
   abbrev pub ahead : Walking030 → List Step
-  ahead s = stepsWith s.coded code address s.consumed (drop s.k us)
+  ahead s = steps_with s.coded code address s.consumed (drop s.k us)
 
-  later-length : (s : Walking030) → length (later s) ≡ length us - s.k
-  later-length s = steps-length address s.consumed (drop s.k us) ∙ length-drop s.k us
+  later_length : (s : Walking030) → length (later s) ≡ length us - s.k
+  later_length s = steps_length address s.consumed (drop s.k us) ∙ length-drop s.k us
 
   -- the walk from here: before a descriptor, and once the descriptor d of the next place is read
   abbrev pub rest : Walking030 → List ℕ → Outcome
   rest s asked =
       if s.target
-      then onTarget s.consumed s.last (found s asked) (read_of m s.last s.long)
-      else walkFrom m limit (ahead s) s.table s.long (found s asked)
+      then on_target s.consumed s.last (found s asked) (read_of m s.last s.long)
+      else walk_from m limit (ahead s) s.table s.long (found s asked)
 
   abbrev pub onward : Walking030 → List ℕ → Descriptor → Outcome
   onward s asked d =
       if s.target
-      then onTarget s.consumed s.last (found s asked) d
-      else onDescriptor m s.consumed s.last (found s asked) (later s) (λ t l f. walkFrom m limit (later s) t l f) d
+      then on_target s.consumed s.last (found s asked) d
+      else on_descriptor m s.consumed s.last (found s asked) (later s) (λ t l f. walk_from m limit (later s) t l f) d
 
   -- how many descriptors can still be read
   abbrev pub rank : Walking030 → ℕ
@@ -132,20 +132,20 @@ module _ (m : Memory) (tc : ℕ) (root : Root) (address code limit : ℕ) where
     pub levels≤ : s.levels + r ≤ 6
     pub asked≤ : s.asked + 2 * r ≤ 12
 
-  stop : (ss : List Step) (table : ℕ) (long : Bool) (f : Found) → 0 < length ss → limit ≤ f.levels → walkFrom m limit ss table long f ≡ ended LevelStop f
-  unfolding walkFrom
+  stop : (ss : List Step) (table : ℕ) (long : Bool) (f : Found) → 0 < length ss → limit ≤ f.levels → walk_from m limit ss table long f ≡ ended LevelStop f
+  unfolding walk_from
   stop [] table long f h l = absurd (omega arith)
   stop (step ∷ ss) table long f h l = rw (le-leb limit f.levels l)
 
   walks : (step : Step) (ss : List Step) (table : ℕ) (long : Bool) (f : Found) → f.levels < limit
-      → walkFrom m limit (step ∷ ss) table long f
-      ≡ onDescriptor m step.consumed (entry_of table step.index long) f ss (λ t l g. walkFrom m limit ss t l g) (read_of m (entry_of table step.index long) long)
-  unfolding walkFrom
+      → walk_from m limit (step ∷ ss) table long f
+      ≡ on_descriptor m step.consumed (entry_of table step.index long) f ss (λ t l g. walk_from m limit ss t l g) (read_of m (entry_of table step.index long) long)
+  unfolding walk_from
   walks step ss table long f l = rw (lt-leb limit f.levels l)
 
   -- ---- the level stop, and the next descriptor's place
   module _ (s : Walking030) (asked : List ℕ) (st : Stands s asked) where
-    stops : atLimit limit s ≡ true → whole ≡ ended LevelStop (found s asked)
+    stops : at_limit limit s ≡ true → whole ≡ ended LevelStop (found s asked)
     stops h = st.same ∙ go s.target refl (dec_le limit s.levels)
       where
         go : (t : Bool) → s.target ≡ t → Dec (limit ≤ s.levels) → rest s asked ≡ ended LevelStop (found s asked)
@@ -153,8 +153,8 @@ module _ (m : Memory) (tc : ℕ) (root : Root) (address code limit : ℕ) where
         go false t (yes l) = rw t (stop (ahead s) s.table s.long (found s asked) (st.some t) l)
         go false t (no l) = absurd (clash (sym (rw (t, lt-leb limit s.levels (omega arith)) at h)))
 
-    aims-target : s.target ≡ true → Aims (rank s) s asked
-    aims-target t =
+    aims_target : s.target ≡ true → Aims (rank s) s asked
+    aims_target t =
         record {
           same = st.same ∙ rw t;
           count = st.count;
@@ -166,23 +166,23 @@ module _ (m : Memory) (tc : ℕ) (root : Root) (address code limit : ℕ) where
         }
 
     module _ (t : s.target ≡ false) (l : s.levels < limit) where
-      walking : whole ≡ walkFrom m limit (ahead s) s.table s.long (found s asked)
+      walking : whole ≡ walk_from m limit (ahead s) s.table s.long (found s asked)
       walking = st.same ∙ rw t
 
       rank_is : rank s ≡ suc (length (ahead s))
       rank_is = rw t
 
       -- at a level's descriptor, by its index
-      aims-at : (b : Bool) (index consumed k : ℕ) → b ≡ false → ahead s ≡ record { index = index; consumed = consumed } ∷ steps address consumed (drop k us)
-          → k ≤ length us → consumed ≤ 15 + 15 * k → Aims (rank s) (aimedOf s b consumed k (entry_of s.table index s.long)) asked
-      aims-at b index consumed k eb es hk hc =
+      aims_at : (b : Bool) (index consumed k : ℕ) → b ≡ false → ahead s ≡ record { index = index; consumed = consumed } ∷ steps address consumed (drop k us)
+          → k ≤ length us → consumed ≤ 15 + 15 * k → Aims (rank s) (aimed_of s b consumed k (entry_of s.table index s.long)) asked
+      aims_at b index consumed k eb es hk hc =
           let at = entry_of s.table index s.long in
           let ss = steps address consumed (drop k us) in
           record {
             same = rw t
-                (walking ∙ ap (λ (l : List Step). walkFrom m limit l s.table s.long (found s asked)) es
+                (walking ∙ ap (λ (l : List Step). walk_from m limit l s.table s.long (found s asked)) es
                 ∙ walks (record { index = index; consumed = consumed }) ss s.table s.long (found s asked) l
-                ∙ level-last m consumed at at (found s asked) ss (λ t l g. walkFrom m limit ss t l g) (read_of m at s.long));
+                ∙ level_last m consumed at at (found s asked) ss (λ t l g. walk_from m limit ss t l g) (read_of m at s.long));
             count = st.count;
             plain = λ f. (eb, omega (arith, rank_is, ap length es));
             k≤ = hk;
@@ -191,44 +191,44 @@ module _ (m : Memory) (tc : ℕ) (root : Root) (address code limit : ℕ) where
             asked≤ = st.asked≤;
           }
 
-      aims-code : s.coded ≡ true → Aims (rank s) (aimedOf s false s.consumed s.k (entry_of s.table code s.long)) asked
-      aims-code c = aims-at false code s.consumed s.k refl (rw c) st.k≤ st.consumed≤
+      aims_code : s.coded ≡ true → Aims (rank s) (aimed_of s false s.consumed s.k (entry_of s.table code s.long)) asked
+      aims_code c = aims_at false code s.consumed s.k refl (rw c) st.k≤ st.consumed≤
 
       module _ (c : s.coded ≡ false) where
-        width-left : s.k < length us
-        width-left = let h = rw c at (st.some t) in omega (arith, later-length s)
+        width_left : s.k < length us
+        width_left = let h = rw c at (st.some t) in omega (arith, later_length s)
 
-        aims-width : Aims (rank s) (aimedOf s s.coded (s.consumed + get_or (widthsOf tc) s.k 0) (nextK s.k)
-            (entry_of s.table (topIndex address s.consumed (get_or (widthsOf tc) s.k 0)) s.long)) asked
-        aims-width =
-            let h : s.k < length us = width-left in
-            let next : nextK s.k ≡ s.k + 1 = rw (lt-ltb s.k 4 (omega (arith, widths-few tc))) in
-            aims-at s.coded (topIndex address s.consumed (get_or (widthsOf tc) s.k 0)) (s.consumed + get_or (widthsOf tc) s.k 0) (nextK s.k) c
-            (rw (c, next, add-one, drop-cons us s.k 0, (used-at (widthsOf tc) s.k h).0)) (omega arith)
+        aims_width : Aims (rank s) (aimed_of s s.coded (s.consumed + get_or (widths_of tc) s.k 0) (next_k s.k)
+            (entry_of s.table (top_index address s.consumed (get_or (widths_of tc) s.k 0)) s.long)) asked
+        aims_width =
+            let h : s.k < length us = width_left in
+            let next : next_k s.k ≡ s.k + 1 = rw (lt-ltb s.k 4 (omega (arith, widths_few tc))) in
+            aims_at s.coded (top_index address s.consumed (get_or (widths_of tc) s.k 0)) (s.consumed + get_or (widths_of tc) s.k 0) (next_k s.k) c
+            (rw (c, next, add-one, drop-cons us s.k 0, (used_at (widths_of tc) s.k h).0)) (omega arith)
             (omega (arith, st.consumed≤, width_small tc s.k))
 
-    aimed : atLimit limit s ≡ false → Aims (rank s) (aim_of (widthsOf tc) address code s) asked
+    aimed : at_limit limit s ≡ false → Aims (rank s) (aim_of (widths_of tc) address code s) asked
     aimed h = go s.target refl (dec_le limit s.levels) s.coded refl
       where
         by : {s₁ s₂ : Walking030} → s₁ ≡ s₂ → Aims (rank s) s₁ asked → Aims (rank s) s₂ asked
         by e a = rw (← e) a
 
-        go : (b : Bool) → s.target ≡ b → Dec (limit ≤ s.levels) → (c : Bool) → s.coded ≡ c → Aims (rank s) (aim_of (widthsOf tc) address code s) asked
-        go true t l c e = by (aim.target (widthsOf tc) address code s t) (aims-target t)
+        go : (b : Bool) → s.target ≡ b → Dec (limit ≤ s.levels) → (c : Bool) → s.coded ≡ c → Aims (rank s) (aim_of (widths_of tc) address code s) asked
+        go true t l c e = by (aim.target (widths_of tc) address code s t) (aims_target t)
         go false t (yes l) c e = absurd (clash (rw (t, le-leb limit s.levels l) at h))
-        go false t (no l) true e = by (aim.by_code (widthsOf tc) address code s t e refl) (aims-code t (omega arith) e)
-        go false t (no l) false e = by (aim.by_width (widthsOf tc) address code s t e refl refl refl refl) (aims-width t (omega arith) e)
+        go false t (no l) true e = by (aim.by_code (widths_of tc) address code s t e refl) (aims_code t (omega arith) e)
+        go false t (no l) false e = by (aim.by_width (widths_of tc) address code s t e refl refl refl refl) (aims_width t (omega arith) e)
 
   -- ---- what a descriptor decides, where s holds what was found with it
   abbrev decided : Walking030 → List ℕ → ℕ → ℕ → Outcome
   decided s asked kind field =
       if eqb kind 1
       then ended (Page field s.consumed) (found s asked)
-      else if by_kind kind true false s.target then ended (Invalid s.target) (found s asked) else rest (onwardOf (length us) s kind field) asked
+      else if by_kind kind true false s.target then ended (Invalid s.target) (found s asked) else rest (onward_of (length us) s kind field) asked
 
   lost : (s : Walking030) (asked : List ℕ) (at : ℕ) (x : List ℕ)
-      → onward s asked (Lost at x) ≡ ended (BusError at) (found (seenOf (length us) s (shownRead (Lost at x))) (asked ++ x))
-  unfolding seenOf
+      → onward s asked (Lost at x) ≡ ended (BusError at) (found (seen_of (length us) s (shown_read (Lost at x))) (asked ++ x))
+  unfolding seen_of
   lost s asked at x = go s.target
     where
       go : (t : Bool) → (if t then ended (BusError at) (asking s.last x (found s asked)) else ended (BusError at) (asking s.last x (found s asked)))
@@ -239,7 +239,7 @@ module _ (m : Memory) (tc : ℕ) (root : Root) (address code limit : ℕ) where
   module _ (r : ℕ) (s : Walking030) (asked : List ℕ) (a : Aims r s asked) (kind field : ℕ) (x : List ℕ) (wp sup : Bool) where
     -- with the descriptor, and with the longs asked for it
     abbrev with_it : Walking030
-    with_it = seenOf (length us) s (shownRead (Whole kind field wp sup x))
+    with_it = seen_of (length us) s (shown_read (Whole kind field wp sup x))
 
     abbrev grown : List ℕ
     grown = asked ++ x
@@ -247,9 +247,9 @@ module _ (m : Memory) (tc : ℕ) (root : Root) (address code limit : ℕ) where
     abbrev held : Bool → Bool → ℕ → Walking030
     held w p n = held_of s w p n (s.asked + length x)
 
-    decides-target : s.target ≡ true → onward s asked (Whole kind field wp sup x) ≡ decided with_it grown kind field
-    unfolding seenOf
-    decides-target t = rw t (go (eqb kind 1) (ltb kind 2) (asking s.last x (found s asked)) _)
+    decides_target : s.target ≡ true → onward s asked (Whole kind field wp sup x) ≡ decided with_it grown kind field
+    unfolding seen_of
+    decides_target t = rw t (go (eqb kind 1) (ltb kind 2) (asking s.last x (found s asked)) _)
       where
         go : (b c : Bool) (f : Found) (o : Outcome)
             → ended (if b then Page field s.consumed else Invalid true) (guarded wp sup f)
@@ -263,58 +263,58 @@ module _ (m : Memory) (tc : ℕ) (root : Root) (address code limit : ℕ) where
       abbrev after : Found
       after = deeper (asking s.last x (found s asked))
 
-      abbrev table-next : Outcome
-      table-next = onTable m s.consumed kind field wp sup after (later s) (λ t l f. walkFrom m limit (later s) t l f)
+      abbrev table_next : Outcome
+      table_next = on_table m s.consumed kind field wp sup after (later s) (λ t l f. walk_from m limit (later s) t l f)
 
-      to-target : s.k ≡ length us → table-next ≡ rest (toTarget (held s.wp s.sup (s.levels + 1)) kind field) grown
-      to-target e =
-          rw (drop_of_length-le us {i = s.k} (omega arith)) (target-last s.consumed (field / 4 * 4) (field / 4 * 4) after (read_of m (field / 4 * 4) (eqb kind 3)))
+      to_target_lem : s.k ≡ length us → table_next ≡ rest (to_target (held s.wp s.sup (s.levels + 1)) kind field) grown
+      to_target_lem e =
+          rw (drop_of_length-le us {i = s.k} (omega arith)) (target_last s.consumed (field / 4 * 4) (field / 4 * 4) after (read_of m (field / 4 * 4) (eqb kind 3)))
 
-      some-later : (s.k ≡ length us → ⊥) → 0 < length (later s)
-      some-later e = omega (arith, later-length s, a.k≤)
+      some_later : (s.k ≡ length us → ⊥) → 0 < length (later s)
+      some_later e = omega (arith, later_length s, a.k≤)
 
-      to-table : (s.k ≡ length us → ⊥) → table-next ≡ walkFrom m limit (later s) (field / 16 * 16) (eqb kind 3) (guarded wp sup after)
-      to-table e = go (later s) (some-later e)
+      to_table_lem : (s.k ≡ length us → ⊥) → table_next ≡ walk_from m limit (later s) (field / 16 * 16) (eqb kind 3) (guarded wp sup after)
+      to_table_lem e = go (later s) (some_later e)
         where
           go : (ss : List Step) → 0 < length ss
-              → onTable m s.consumed kind field wp sup after ss (λ t l f. walkFrom m limit ss t l f) ≡ walkFrom m limit ss (field / 16 * 16) (eqb kind 3) (guarded wp sup after)
+              → on_table m s.consumed kind field wp sup after ss (λ t l f. walk_from m limit ss t l f) ≡ walk_from m limit ss (field / 16 * 16) (eqb kind 3) (guarded wp sup after)
           go [] h = absurd (omega arith)
           go (step ∷ ss) h = refl
 
       -- with its WP and S, or without
-      adding : addsOf (length us) s kind ≡ true → with_it ≡ held (s.wp || wp) (s.sup || sup) (s.levels + 1)
-      unfolding seenOf
+      adding : adds_of (length us) s kind ≡ true → with_it ≡ held (s.wp || wp) (s.sup || sup) (s.levels + 1)
+      unfolding seen_of
       adding e = rw (e, t)
 
-      keeping : addsOf (length us) s kind ≡ false → with_it ≡ held s.wp s.sup (s.levels + 1)
-      unfolding seenOf
-      keeping e = rw (e, t, or-false s.wp, or-false s.sup)
+      keeping : adds_of (length us) s kind ≡ false → with_it ≡ held s.wp s.sup (s.levels + 1)
+      unfolding seen_of
+      keeping e = rw (e, t, or_false s.wp, or_false s.sup)
 
-      decides-level : onward s asked (Whole kind field wp sup x) ≡ decided with_it grown kind field
-      decides-level = go (eqb kind 1) refl (ltb kind 2) refl (eqb s.k (length us)) refl
+      decides_level : onward s asked (Whole kind field wp sup x) ≡ decided with_it grown kind field
+      decides_level = go (eqb kind 1) refl (ltb kind 2) refl (eqb s.k (length us)) refl
         where
           go : (b : Bool) → eqb kind 1 ≡ b → (c : Bool) → ltb kind 2 ≡ c → (e : Bool) → eqb s.k (length us) ≡ e
               → onward s asked (Whole kind field wp sup x) ≡ decided with_it grown kind field
           go true hb c hc e he = rw (adding (rw (t, hb)), t, hb)
           go false hb true hc e he = rw (keeping (rw (t, hb, hc)), t, hb, hc)
-          go false hb false hc true he = rw (keeping (rw (t, hb, hc, he)), t, hb, hc, he) (to-target (eqb-true s.k (length us) he))
-          go false hb false hc false he = rw (adding (rw (t, hb, hc, he)), t, hb, hc, he, (a.plain t).0) (to-table (eqb-false s.k (length us) he))
+          go false hb false hc true he = rw (keeping (rw (t, hb, hc, he)), t, hb, hc, he) (to_target_lem (eqb-true s.k (length us) he))
+          go false hb false hc false he = rw (adding (rw (t, hb, hc, he)), t, hb, hc, he, (a.plain t).0) (to_table_lem (eqb-false s.k (length us) he))
 
       -- the walk goes on
-      goes_on : length x ≤ 2 → whole ≡ rest (onwardOf (length us) with_it kind field) grown
-          → Stands (onwardOf (length us) with_it kind field) grown × (rank (onwardOf (length us) with_it kind field) < r)
-      unfolding seenOf
+      goes_on : length x ≤ 2 → whole ≡ rest (onward_of (length us) with_it kind field) grown
+          → Stands (onward_of (length us) with_it kind field) grown × (rank (onward_of (length us) with_it kind field) < r)
+      unfolding seen_of
       goes_on few e = go (eqb s.k (length us)) refl e
         where
           count : length grown ≡ s.asked + length x
           count = omega (arith, length-append asked x, a.count)
 
-          deep : levelsOf s ≡ s.levels + 1
+          deep : levels_of s ≡ s.levels + 1
           deep = rw t
 
-          go : (b : Bool) → eqb s.k (length us) ≡ b → whole ≡ rest (if b then toTarget with_it kind field else to_table with_it kind field) grown
-              → Stands (if b then toTarget with_it kind field else to_table with_it kind field) grown
-              × (rank (if b then toTarget with_it kind field else to_table with_it kind field) < r)
+          go : (b : Bool) → eqb s.k (length us) ≡ b → whole ≡ rest (if b then to_target with_it kind field else to_table with_it kind field) grown
+              → Stands (if b then to_target with_it kind field else to_table with_it kind field) grown
+              × (rank (if b then to_target with_it kind field else to_table with_it kind field) < r)
           go true h same = (
             record {
               same = same;
@@ -332,7 +332,7 @@ module _ (m : Memory) (tc : ℕ) (root : Root) (address code limit : ℕ) where
                 record {
                   same = same;
                   count = count;
-                  some = λ f. rw (a.plain t).0 (some-later (eqb-false s.k (length us) h));
+                  some = λ f. rw (a.plain t).0 (some_later (eqb-false s.k (length us) h));
                   k≤ = a.k≤;
                   consumed≤ = a.consumed≤;
                   levels≤ = omega (arith, deep, left, a.levels≤, (a.plain t).1);
@@ -345,23 +345,23 @@ module _ (m : Memory) (tc : ℕ) (root : Root) (address code limit : ℕ) where
     decides = go s.target refl
       where
         go : (t : Bool) → s.target ≡ t → onward s asked (Whole kind field wp sup x) ≡ decided with_it grown kind field
-        go true t = decides-target t
-        go false t = decides-level t
+        go true t = decides_target t
+        go false t = decides_level t
 
-  seen-asked : (n : ℕ) (s : Walking030) (d : Read) → (seenOf n s d).asked ≡ s.asked + asked_of d
-  unfolding seenOf
-  seen-asked n s (given.Whole kind field wp sup x) = refl
-  seen-asked n s (given.Lost at x) = refl
+  seen_asked : (n : ℕ) (s : Walking030) (d : Read) → (seen_of n s d).asked ≡ s.asked + asked_of d
+  unfolding seen_of
+  seen_asked n s (given.Whole kind field wp sup x) = refl
+  seen_asked n s (given.Lost at x) = refl
 
-  seen-target : (n : ℕ) (s : Walking030) (d : Read) → (seenOf n s d).target ≡ s.target
-  unfolding seenOf
-  seen-target n s (given.Whole kind field wp sup x) = refl
-  seen-target n s (given.Lost at x) = refl
+  seen_target : (n : ℕ) (s : Walking030) (d : Read) → (seen_of n s d).target ≡ s.target
+  unfolding seen_of
+  seen_target n s (given.Whole kind field wp sup x) = refl
+  seen_target n s (given.Lost at x) = refl
 
   -- ---- where it begins
   config : (ss : List Step) (b : Bool)
-      → (if b then ended Config (start root.address) else walkFrom m limit ss (root.address / 16 * 16) (eqb (root.limit % 4) 3) (start root.address))
-      ≡ (if b || false then ended Config (start root.address) else walkFrom m limit ss (root.address / 16 * 16) (eqb (root.limit % 4) 3) (start root.address))
+      → (if b then ended Config (start root.address) else walk_from m limit ss (root.address / 16 * 16) (eqb (root.limit % 4) 3) (start root.address))
+      ≡ (if b || false then ended Config (start root.address) else walk_from m limit ss (root.address / 16 * 16) (eqb (root.limit % 4) 3) (start root.address))
   config ss true = refl
   config ss false = refl
 
@@ -370,26 +370,26 @@ module _ (m : Memory) (tc : ℕ) (root : Root) (address code limit : ℕ) where
   none false o = refl
 
   begins : (b : Bool) (consumed : ℕ) (ws : List ℕ)
-      → walkSteps m root limit (stepsWith b code address consumed ws)
-      ≡ (if noWalk (root.limit % 4) (length ws) b
+      → walk_steps m root limit (steps_with b code address consumed ws)
+      ≡ (if no_walk (root.limit % 4) (length ws) b
       then ended Config (start root.address)
-      else walkFrom m limit (stepsWith b code address consumed ws) (root.address / 16 * 16) (eqb (root.limit % 4) 3) (start root.address))
-  begins true consumed ws = rw (and-false (eqb (length ws) 0)) (config (stepsWith true code address consumed ws) (ltb (root.limit % 4) 2))
+      else walk_from m limit (steps_with b code address consumed ws) (root.address / 16 * 16) (eqb (root.limit % 4) 3) (start root.address))
+  begins true consumed ws = rw (and-false (eqb (length ws) 0)) (config (steps_with true code address consumed ws) (ltb (root.limit % 4) 2))
   begins false consumed [] = none (ltb (root.limit % 4) 2) _
-  begins false consumed (w ∷ ws) = rw (ne_eqb (suc (length ws)) 0 (λ e. omega arith)) (config (stepsWith false code address consumed (w ∷ ws)) (ltb (root.limit % 4) 2))
+  begins false consumed (w ∷ ws) = rw (ne_eqb (suc (length ws)) 0 (λ e. omega arith)) (config (steps_with false code address consumed (w ∷ ws)) (ltb (root.limit % 4) 2))
 
-  some_level : (b : Bool) (consumed : ℕ) (ws : List ℕ) → noWalk (root.limit % 4) (length ws) b ≡ false → 0 < length (stepsWith b code address consumed ws)
+  some_level : (b : Bool) (consumed : ℕ) (ws : List ℕ) → no_walk (root.limit % 4) (length ws) b ≡ false → 0 < length (steps_with b code address consumed ws)
   some_level true consumed ws h = omega arith
   some_level false consumed [] h = absurd (clash (sym (or-true (ltb (root.limit % 4) 2)) ∙ h))
   some_level false consumed (w ∷ ws) h = omega arith
 
-  few-levels : (b : Bool) (consumed : ℕ) → length (stepsWith b code address consumed us) ≤ 5
-  few-levels true consumed = omega (arith, steps-length address consumed us, widths-few tc)
-  few-levels false consumed = omega (arith, steps-length address consumed us, widths-few tc)
+  few_levels : (b : Bool) (consumed : ℕ) → length (steps_with b code address consumed us) ≤ 5
+  few_levels true consumed = omega (arith, steps_length address consumed us, widths_few tc)
+  few_levels false consumed = omega (arith, steps_length address consumed us, widths_few tc)
 
-  begun : noWalk (root.limit % 4) (length us) (bit_of tc 24) ≡ false → Stands (beginOf tc root) []
+  begun : no_walk (root.limit % 4) (length us) (bit_of tc 24) ≡ false → Stands (begin_of tc root) []
   begun h =
-      let few = few-levels (bit_of tc 24) (is_of tc) in
+      let few = few_levels (bit_of tc 24) (is_of tc) in
       record {
         same = begins (bit_of tc 24) (is_of tc) us ∙ rw h;
         count = refl;
@@ -406,32 +406,32 @@ module _ (m : Memory) (tc : ℕ) (root : Root) (address code limit : ℕ) where
     pub n : ℕ
     pub s : Walking030
     pub asked : List ℕ
-    pub ws-is : ws ≡ widthsOf tc
-    pub n-is : n ≡ length us
+    pub ws_is : ws ≡ widths_of tc
+    pub n_is : n ≡ length us
     pub stands : Stands s asked
 
   abbrev pub left : Turn → ℕ
   left t = rank t.s
 
-  module _ {ws : List ℕ} (ew : ws ≡ widthsOf tc) {n : ℕ} (en : n ≡ length (used ws)) {b : Bool} (eb : b ≡ noWalk (root.limit % 4) n (bit_of tc 24)) where
-    pub begin-n : n ≡ length us
-    begin-n = en ∙ ap (λ (l : List ℕ). length (used l)) ew
+  module _ {ws : List ℕ} (ew : ws ≡ widths_of tc) {n : ℕ} (en : n ≡ length (used ws)) {b : Bool} (eb : b ≡ no_walk (root.limit % 4) n (bit_of tc 24)) where
+    pub begin_n : n ≡ length us
+    begin_n = en ∙ ap (λ (l : List ℕ). length (used l)) ew
 
-    no_walk : b ≡ noWalk (root.limit % 4) (length us) (bit_of tc 24)
-    no_walk = eb ∙ ap (λ (n : ℕ). noWalk (root.limit % 4) n (bit_of tc 24)) begin-n
+    no_walk_lem : b ≡ no_walk (root.limit % 4) (length us) (bit_of tc 24)
+    no_walk_lem = eb ∙ ap (λ (n : ℕ). no_walk (root.limit % 4) n (bit_of tc 24)) begin_n
 
     -- the way out at a configuration fault
-    pub ends-config : T b → {w : Walked} → w ≡ misconfiguredOf root → w ≡ shown whole
-    ends-config h e =
-        let c : whole ≡ ended Config (start root.address) = begins (bit_of tc 24) (is_of tc) us ∙ rw (sym no_walk ∙ T_true b h) in
+    pub ends_config : T b → {w : Walked} → w ≡ misconfigured_of root → w ≡ shown whole
+    ends_config h e =
+        let c : whole ≡ ended Config (start root.address) = begins (bit_of tc 24) (is_of tc) us ∙ rw (sym no_walk_lem ∙ T_true b h) in
         e ∙ rw c
 
-    module _ (h : T (not b)) {s : Walking030} (es : s ≡ beginOf tc root) where
-      pub begin-stands : Stands s []
-      begin-stands = subst (λ (s : Walking030). Stands s []) (sym es) (begun (sym no_walk ∙ T_false b h))
+    module _ (h : T (not b)) {s : Walking030} (es : s ≡ begin_of tc root) where
+      pub begin_stands : Stands s []
+      begin_stands = subst (λ (s : Walking030). Stands s []) (sym es) (begun (sym no_walk_lem ∙ T_false b h))
 
       abbrev pub begin : Turn
-      begin = record { ws = ws; n = n; s = s; asked = []; ws-is = ew; n-is = begin-n; stands = begin-stands }
+      begin = record { ws = ws; n = n; s = s; asked = []; ws_is = ew; n_is = begin_n; stands = begin_stands }
 
   -- the walk ends with what q holds
   ended_so : (q : Walking030) (l : List ℕ) (e : End) → whole ≡ ended e (found q l) → length l ≡ q.asked → {x : End} → x ≡ e → {w : Walked} → w ≡ answered q x → w ≡ shown whole
@@ -439,113 +439,113 @@ module _ (m : Memory) (tc : ℕ) (root : Root) (address code limit : ℕ) where
 
   -- ---- a turn
   -- what `aim` asks
-  pub aim-asks : (t : Turn) → ((k : ℕ) → get_or t.ws k 0 < 16) × (t.s.consumed < 1000)
-  aim-asks t = (λ k. rw t.ws-is (width_small tc k), omega (arith, t.stands.consumed≤, t.stands.k≤, widths-few tc))
+  pub aim_asks : (t : Turn) → ((k : ℕ) → get_or t.ws k 0 < 16) × (t.s.consumed < 1000)
+  aim_asks t = (λ k. rw t.ws_is (width_small tc k), omega (arith, t.stands.consumed≤, t.stands.k≤, widths_few tc))
 
-  module _ (t : Turn) {b : Bool} (eb : b ≡ atLimit limit t.s) where
+  module _ (t : Turn) {b : Bool} (eb : b ≡ at_limit limit t.s) where
     -- the way out at the level stop
-    pub ends-stop : T b → {w : Walked} → w ≡ answered t.s LevelStop → w ≡ shown whole
-    ends-stop h ew = ended_so t.s t.asked LevelStop (stops t.s t.asked t.stands (sym eb ∙ T_true b h)) t.stands.count refl ew
+    pub ends_stop : T b → {w : Walked} → w ≡ answered t.s LevelStop → w ≡ shown whole
+    ends_stop h ew = ended_so t.s t.asked LevelStop (stops t.s t.asked t.stands (sym eb ∙ T_true b h)) t.stands.count refl ew
 
-    module _ (h : T (not b)) {r : Walking030} (e : r ≡ aim_of t.ws address code t.s) {w : ℕ} (ew : w ≡ r.last) {l : Bool} (el : l ≡ r.long) {d : Read} (ed : d ≡ shownRead (read_of m w l)) where
+    module _ (h : T (not b)) {r : Walking030} (e : r ≡ aim_of t.ws address code t.s) {w : ℕ} (ew : w ≡ r.last) {l : Bool} (el : l ≡ r.long) {d : Read} (ed : d ≡ shown_read (read_of m w l)) where
       aims : Aims (rank t.s) r t.asked
       aims =
-          subst (λ (s : Walking030). Aims (rank t.s) s t.asked) (sym (e ∙ rw t.ws-is))
+          subst (λ (s : Walking030). Aims (rank t.s) s t.asked) (sym (e ∙ rw t.ws_is))
           (aimed t.s t.asked t.stands (sym eb ∙ T_false b h))
 
       -- the descriptor that was read, and the longs asked for it
       abbrev it : Descriptor
       it = read_of m r.last r.long
 
-      read : d ≡ shownRead it
+      read : d ≡ shown_read it
       read = ed ∙ rw (ew, el)
 
-      counts-it : asked_of d ≡ length (askedFor it)
-      counts-it = ap asked_of read ∙ counted it
+      counts_it : asked_of d ≡ length (asked_for it)
+      counts_it = ap asked_of read ∙ counted it
 
-      few : length (askedFor it) ≤ 2
-      few = read-few m r.last r.long
+      few : length (asked_for it) ≤ 2
+      few = read_few m r.last r.long
 
       -- what `seen` asks
-      pub seen-asks : (r.levels < 1000) × (r.asked < 1000) × (asked_of d < 1000)
-      seen-asks = (omega (arith, aims.levels≤), omega (arith, aims.asked≤), omega (arith, few, counts-it))
+      pub seen_asks : (r.levels < 1000) × (r.asked < 1000) × (asked_of d < 1000)
+      seen_asks = (omega (arith, aims.levels≤), omega (arith, aims.asked≤), omega (arith, few, counts_it))
 
-      module _ {q : Walking030} (eq : q ≡ seenOf t.n r d) where
-        seen-is : q ≡ seenOf (length us) r d
-        seen-is = eq ∙ ap (λ (n : ℕ). seenOf n r d) t.n-is
+      module _ {q : Walking030} (eq : q ≡ seen_of t.n r d) where
+        seen_is : q ≡ seen_of (length us) r d
+        seen_is = eq ∙ ap (λ (n : ℕ). seen_of n r d) t.n_is
 
         -- the longs asked for, with those for the descriptor
         abbrev pub now : List ℕ
-        now = t.asked ++ askedFor it
+        now = t.asked ++ asked_for it
 
         counts : length now ≡ q.asked
         counts =
-            omega (arith, length-append t.asked (askedFor it), counts-it, aims.count, ap (λ (s : Walking030). s.asked) seen-is, seen-asked (length us) r d)
+            omega (arith, length-append t.asked (asked_for it), counts_it, aims.count, ap (λ (s : Walking030). s.asked) seen_is, seen_asked (length us) r d)
 
         -- the way out at a bus error
-        pub ends-lost : {at n : ℕ} → d ≡ given.Lost at n → {a : Walked} → a ≡ answered q (BusError at) → a ≡ shown whole
-        ends-lost {at} {n} el ea =
-            let is_lost = lost-is it (sym read ∙ el) in
+        pub ends_lost : {at n : ℕ} → d ≡ given.Lost at n → {a : Walked} → a ≡ answered q (BusError at) → a ≡ shown whole
+        ends_lost {at} {n} el ea =
+            let is_lost = lost_is it (sym read ∙ el) in
             ended_so q now (BusError at)
-            (aims.same ∙ ap (onward r t.asked) is_lost ∙ lost r t.asked at (askedFor it)
-            ∙ ap (λ (s : Walking030). ended (BusError at) (found s now)) (sym (seen-is ∙ ap (seenOf (length us) r) (read ∙ ap shownRead is_lost))))
+            (aims.same ∙ ap (onward r t.asked) is_lost ∙ lost r t.asked at (asked_for it)
+            ∙ ap (λ (s : Walking030). ended (BusError at) (found s now)) (sym (seen_is ∙ ap (seen_of (length us) r) (read ∙ ap shown_read is_lost))))
             counts refl ea
 
         module _ {kind field n : ℕ} {wp sup : Bool} (is_whole : d ≡ given.Whole kind field wp sup n) {p : Bool} (ep : p ≡ eqb kind 1) where
-          it-is : it ≡ Whole kind field wp sup (askedFor it)
-          it-is = whole_is it (sym read ∙ is_whole)
+          it_is : it ≡ Whole kind field wp sup (asked_for it)
+          it_is = whole_is it (sym read ∙ is_whole)
 
-          holds : q ≡ seenOf (length us) r (shownRead (Whole kind field wp sup (askedFor it)))
-          holds = seen-is ∙ ap (seenOf (length us) r) (read ∙ ap shownRead it-is)
+          holds : q ≡ seen_of (length us) r (shown_read (Whole kind field wp sup (asked_for it)))
+          holds = seen_is ∙ ap (seen_of (length us) r) (read ∙ ap shown_read it_is)
 
           settles : whole ≡ decided q now kind field
           settles =
-              aims.same ∙ ap (onward r t.asked) it-is ∙ decides (rank t.s) r t.asked aims kind field (askedFor it) wp sup
+              aims.same ∙ ap (onward r t.asked) it_is ∙ decides (rank t.s) r t.asked aims kind field (asked_for it) wp sup
               ∙ ap (λ (s : Walking030). decided s now kind field) (sym holds)
 
           -- the way out at a page
-          pub ends-page : T p → {c : ℕ} → c ≡ q.consumed → {a : Walked} → a ≡ answered q (Page field c) → a ≡ shown whole
-          ends-page hp ec ea = ended_so q now (Page field q.consumed) (settles ∙ rw (sym ep ∙ T_true p hp)) counts (rw ec) ea
+          pub ends_page : T p → {c : ℕ} → c ≡ q.consumed → {a : Walked} → a ≡ answered q (Page field c) → a ≡ shown whole
+          ends_page hp ec ea = ended_so q now (Page field q.consumed) (settles ∙ rw (sym ep ∙ T_true p hp)) counts (rw ec) ea
 
           module _ (hp : T (not p)) {i : Bool} (ei : i ≡ by_kind kind true false q.target) where
             -- the way out at an invalid descriptor
-            pub ends-invalid : T i → {c : Bool} → c ≡ q.target → {a : Walked} → a ≡ answered q (Invalid c) → a ≡ shown whole
-            ends-invalid hi ec ea =
+            pub ends_invalid : T i → {c : Bool} → c ≡ q.target → {a : Walked} → a ≡ answered q (Invalid c) → a ≡ shown whole
+            ends_invalid hi ec ea =
                 ended_so q now (Invalid q.target) (settles ∙ rw (sym ei ∙ T_true i hi, sym ep ∙ T_false p hp)) counts (rw ec) ea
 
             -- the walk goes on
-            module _ (hi : T (not i)) {r₂ : Walking030} (e₂ : r₂ ≡ onwardOf t.n q kind field) where
+            module _ (hi : T (not i)) {r₂ : Walking030} (e₂ : r₂ ≡ onward_of t.n q kind field) where
               no_target : r.target ≡ false
-              no_target = sym (seen-target (length us) r d) ∙ ap (λ (s : Walking030). s.target) (sym seen-is) ∙ go (eqb kind 1) (sym ep ∙ T_false p hp) (ltb kind 2) q.target (sym ei ∙ T_false i hi)
+              no_target = sym (seen_target (length us) r d) ∙ ap (λ (s : Walking030). s.target) (sym seen_is) ∙ go (eqb kind 1) (sym ep ∙ T_false p hp) (ltb kind 2) q.target (sym ei ∙ T_false i hi)
                 where
                   go : (a : Bool) → a ≡ false → (b c : Bool) → (if a then false else if b then true else c) ≡ false → c ≡ false
                   go true f b c h = absurd (clash f)
                   go false f true c h = absurd (clash h)
                   go false f false c h = h
 
-              onward-is : r₂ ≡ onwardOf (length us) (seenOf (length us) r (shownRead (Whole kind field wp sup (askedFor it)))) kind field
-              onward-is = e₂ ∙ ap (λ (n : ℕ). onwardOf n q kind field) t.n-is ∙ ap (λ (s : Walking030). onwardOf (length us) s kind field) holds
+              onward_is : r₂ ≡ onward_of (length us) (seen_of (length us) r (shown_read (Whole kind field wp sup (asked_for it)))) kind field
+              onward_is = e₂ ∙ ap (λ (n : ℕ). onward_of n q kind field) t.n_is ∙ ap (λ (s : Walking030). onward_of (length us) s kind field) holds
 
               goes : whole ≡ rest r₂ now
               goes =
                   settles ∙ rw (sym ei ∙ T_false i hi, sym ep ∙ T_false p hp)
-                  (ap (λ (s : Walking030). rest s now) (sym (e₂ ∙ ap (λ (n : ℕ). onwardOf n q kind field) t.n-is)))
+                  (ap (λ (s : Walking030). rest s now) (sym (e₂ ∙ ap (λ (n : ℕ). onward_of n q kind field) t.n_is)))
 
               turned : Stands r₂ now × (rank r₂ < rank t.s)
               turned =
-                  subst (λ (s : Walking030). Stands s now × (rank s < rank t.s)) (sym onward-is)
-                  (goes_on (rank t.s) r t.asked aims kind field (askedFor it) wp sup no_target few (goes ∙ ap (λ (s : Walking030). rest s now) onward-is))
+                  subst (λ (s : Walking030). Stands s now × (rank s < rank t.s)) (sym onward_is)
+                  (goes_on (rank t.s) r t.asked aims kind field (asked_for it) wp sup no_target few (goes ∙ ap (λ (s : Walking030). rest s now) onward_is))
 
-              pub next-stands : Stands r₂ now
-              next-stands = turned.0
+              pub next_stands : Stands r₂ now
+              next_stands = turned.0
 
               pub less : rank r₂ < rank t.s
               less = turned.1
 
               abbrev pub next : Turn
-              next = record { ws = t.ws; n = t.n; s = r₂; asked = now; ws-is = t.ws-is; n-is = t.n-is; stands = next-stands }
+              next = record { ws = t.ws; n = t.n; s = r₂; asked = now; ws_is = t.ws_is; n_is = t.n_is; stands = next_stands }
 
 -- from the root of a code's space it is the definition's walk
-pub from-root : (m : Memory) (g : Registers) (address code limit : ℕ) {tc : ℕ} → tc ≡ g.tc → {root : Root} → root ≡ rootOf g code
-    → {w : Walked} → w ≡ shown (outcomeOf m tc root address code limit) → w ≡ shown (walk030 m g address code limit)
-from-root m g address code limit et er ew = ew ∙ rw (et, er)
+pub from_root : (m : Memory) (g : Registers) (address code limit : ℕ) {tc : ℕ} → tc ≡ g.tc → {root : Root} → root ≡ root_of g code
+    → {w : Walked} → w ≡ shown (outcome_of m tc root address code limit) → w ≡ shown (walk030 m g address code limit)
+from_root m g address code limit et er ew = ew ∙ rw (et, er)

@@ -2,7 +2,7 @@
 -- This serves the code alone; the meaning is `Walk030` of `definition`.
 use Rattle.std.specs.Prelude.{ℕ, ◌+◌, ◌*◌, ◌/◌, ◌%◌, List, Bool, true, false, not, ◌&&◌, ◌||◌, get_or, ltb, leb, eqb}
 use Rattle.definition.specs.Words.{if◌then◌else◌, bit_of}
-use Rattle.definition.specs.Walk030.{entry_of, is_of, topIndex, by_kind}
+use Rattle.definition.specs.Walk030.{entry_of, is_of, top_index, by_kind}
 use Rattle.memory.specs.declared.descriptor.Descriptor.{Descriptor}
 use Rattle.memory.specs.declared.descriptor.Descriptor.TheVariants.{Whole, Lost}
 use Rattle.definition.specs.declared.End.{End}
@@ -12,14 +12,14 @@ use Rattle.walk030.specs.declared.Walked.{Walked}
 use Rattle.walk030.specs.declared.machine.Walking030.{Walking030}
 
 -- the root or the widths leave nothing to walk
-abbrev pub noWalk : ℕ → ℕ → Bool → Bool
-noWalk kind n coded = ltb kind 2 || (eqb n 0 && not coded)
+abbrev pub no_walk : ℕ → ℕ → Bool → Bool
+no_walk kind n coded = ltb kind 2 || (eqb n 0 && not coded)
 
-abbrev pub misconfiguredOf : Root → Walked
-misconfiguredOf root = record { end = Config; wp = false; sup = false; levels = 0; last = root.address; asked = 0 }
+abbrev pub misconfigured_of : Root → Walked
+misconfigured_of root = record { end = Config; wp = false; sup = false; levels = 0; last = root.address; asked = 0 }
 
-abbrev pub beginOf : ℕ → Root → Walking030
-beginOf tc root =
+abbrev pub begin_of : ℕ → Root → Walking030
+begin_of tc root =
     record {
       target = false;
       coded = bit_of tc 24;
@@ -35,12 +35,12 @@ beginOf tc root =
     }
 
 -- the level stop
-abbrev pub atLimit : ℕ → Walking030 → Bool
-atLimit limit s = not s.target && leb limit s.levels
+abbrev pub at_limit : ℕ → Walking030 → Bool
+at_limit limit s = not s.target && leb limit s.levels
 
 -- once the level's descriptor is known
-abbrev pub aimedOf : Walking030 → Bool → ℕ → ℕ → ℕ → Walking030
-aimedOf s coded consumed k last =
+abbrev pub aimed_of : Walking030 → Bool → ℕ → ℕ → ℕ → Walking030
+aimed_of s coded consumed k last =
     record {
       target = s.target;
       coded = coded;
@@ -55,17 +55,17 @@ aimedOf s coded consumed k last =
       last = last;
     }
 
-abbrev pub nextK : ℕ → ℕ
-nextK k = if ltb k 4 then k + 1 else k
+abbrev pub next_k : ℕ → ℕ
+next_k k = if ltb k 4 then k + 1 else k
 
 unfoldable pub aim_of : List ℕ → ℕ → ℕ → Walking030 → Walking030
 aim_of ws address code s =
     if s.target
     then s
     else if s.coded
-    then aimedOf s false s.consumed s.k (entry_of s.table code s.long)
-    else aimedOf s s.coded (s.consumed + get_or ws s.k 0) (nextK s.k)
-    (entry_of s.table (topIndex address s.consumed (get_or ws s.k 0)) s.long)
+    then aimed_of s false s.consumed s.k (entry_of s.table code s.long)
+    else aimed_of s s.coded (s.consumed + get_or ws s.k 0) (next_k s.k)
+    (entry_of s.table (top_index address s.consumed (get_or ws s.k 0)) s.long)
 
 -- how many longs were asked for a descriptor
 abbrev pub asked_of : Descriptor → ℕ
@@ -73,11 +73,11 @@ asked_of (Whole kind field wp sup n) = n
 asked_of (Lost at n) = n
 
 -- its WP and S count; n is the number of the widths that are used
-abbrev pub addsOf : ℕ → Walking030 → ℕ → Bool
-addsOf n s kind = if s.target then true else by_kind kind false true (not (eqb s.k n))
+abbrev pub adds_of : ℕ → Walking030 → ℕ → Bool
+adds_of n s kind = if s.target then true else by_kind kind false true (not (eqb s.k n))
 
-abbrev pub levelsOf : Walking030 → ℕ
-levelsOf s = if s.target then s.levels else s.levels + 1
+abbrev pub levels_of : Walking030 → ℕ
+levels_of s = if s.target then s.levels else s.levels + 1
 
 -- with what was found
 abbrev pub held_of : Walking030 → Bool → Bool → ℕ → ℕ → Walking030
@@ -96,14 +96,14 @@ held_of s wp sup levels asked =
       last = s.last;
     }
 
-unfoldable pub seenOf : ℕ → Walking030 → Descriptor → Walking030
-seenOf n s (Lost at m) = held_of s s.wp s.sup s.levels (s.asked + m)
-seenOf n s (Whole kind field wp sup m) =
-    held_of s (s.wp || (addsOf n s kind && wp)) (s.sup || (addsOf n s kind && sup)) (levelsOf s) (s.asked + m)
+unfoldable pub seen_of : ℕ → Walking030 → Descriptor → Walking030
+seen_of n s (Lost at m) = held_of s s.wp s.sup s.levels (s.asked + m)
+seen_of n s (Whole kind field wp sup m) =
+    held_of s (s.wp || (adds_of n s kind && wp)) (s.sup || (adds_of n s kind && sup)) (levels_of s) (s.asked + m)
 
 -- to the target of an indirect descriptor, or to the next table
-abbrev pub toTarget : Walking030 → ℕ → ℕ → Walking030
-toTarget s kind field =
+abbrev pub to_target : Walking030 → ℕ → ℕ → Walking030
+to_target s kind field =
     record {
       target = true;
       coded = s.coded;
@@ -134,8 +134,8 @@ to_table s kind field =
       last = s.last;
     }
 
-abbrev pub onwardOf : ℕ → Walking030 → ℕ → ℕ → Walking030
-onwardOf n s kind field = if eqb s.k n then toTarget s kind field else to_table s kind field
+abbrev pub onward_of : ℕ → Walking030 → ℕ → ℕ → Walking030
+onward_of n s kind field = if eqb s.k n then to_target s kind field else to_table s kind field
 
 abbrev pub answered : Walking030 → End → Walked
 answered s e = record { end = e; wp = s.wp; sup = s.sup; levels = s.levels; last = s.last; asked = s.asked }

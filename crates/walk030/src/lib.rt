@@ -3,8 +3,8 @@ mod machine;
 
 ghost use Rattle.std.specs.Prelude.{◌≡◌};
 ghost use Rattle.definition.specs.Memory.{memory};
-ghost use Rattle.definition.specs.Registers.{rootOf};
-ghost use Rattle.definition.specs.Walk030.{everyLevel, outcomeOf, walk030};
+ghost use Rattle.definition.specs.Registers.{root_of};
+ghost use Rattle.definition.specs.Walk030.{every_level, outcome_of, walk030};
 ghost use Rattle.walk030.specs.Walked.{shown};
 
 use definition::{End, Range, Registers, Root};
@@ -26,7 +26,7 @@ pub struct Walked {
 
 // SRP is used if TC bit 25 is set and code bit 2 is set; else CRP.
 pub fn root_of(g: Registers, code: u32) -> Root
-    ensures { result ≡ rootOf g code }
+    ensures { result ≡ root_of g code }
 {
     let sre = bit(g.tc, 25);
     let supervisor = bit(code, 2);
@@ -40,7 +40,7 @@ pub fn root_of(g: Registers, code: u32) -> Root
 
 // As many levels as there can be: the function code's and four widths.
 pub fn every_level() -> u32
-    ensures { result ≡ everyLevel }
+    ensures { result ≡ every_level }
 {
     5
 }
@@ -57,7 +57,7 @@ pub fn walk_030(
     code: u32,
     limit: u32,
 ) -> Walked
-    ensures { result ≡ shown (outcomeOf (memory longs.now base ranges.now) tc root address code limit) }
+    ensures { result ≡ shown (outcome_of (memory longs.now base ranges.now) tc root address code limit) }
 {
     let ws = widths(tc);
     let n = machine::level_count(ws);

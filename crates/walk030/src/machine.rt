@@ -1,8 +1,8 @@
 // Where a 68030 walk stands before a descriptor, and what one descriptor changes.
 ghost use Rattle.std.specs.Prelude.{◌≡◌, false, true, ◌%◌, ◌<◌, ℕ, get_or, length, eqb};
-ghost use Rattle.definition.specs.Walk030.{by_kind, topIndex, used};
+ghost use Rattle.definition.specs.Walk030.{by_kind, top_index, used};
 ghost use Rattle.definition.specs.Words.{bit_of};
-ghost use Rattle.walk030.specs.Machine.{addsOf, aim_of, answered, asked_of, atLimit, beginOf, levelsOf, misconfiguredOf, nextK, noWalk, onwardOf, seenOf};
+ghost use Rattle.walk030.specs.Machine.{adds_of, aim_of, answered, asked_of, at_limit, begin_of, levels_of, misconfigured_of, next_k, no_walk, onward_of, seen_of};
 
 use crate::Walked;
 use definition::{End, Root};
@@ -43,7 +43,7 @@ pub fn level_count(ws: [u32; 4]) -> usize
 // An index is the address shifted left by (consumed mod 32), bits lost, then right by 32 - width.
 fn top_index(address: u32, consumed: u32, width: u32) -> u32
     requires { width < 16 }
-    ensures { result ≡ topIndex address consumed width }
+    ensures { result ≡ top_index address consumed width }
 {
     if width == 0 {
         return 0;
@@ -53,7 +53,7 @@ fn top_index(address: u32, consumed: u32, width: u32) -> u32
 
 // Root type is limit bits 1:0. Types 0 and 1 are a configuration fault, and no level at all is one too.
 pub fn no_walk(tc: u32, root: Root, n: usize) -> bool
-    ensures { result ≡ noWalk (root.limit % 4) n (bit_of tc 24) }
+    ensures { result ≡ no_walk (root.limit % 4) n (bit_of tc 24) }
 {
     let kind = kind_of(root.limit);
     let coded = bit(tc, 24);
@@ -62,7 +62,7 @@ pub fn no_walk(tc: u32, root: Root, n: usize) -> bool
 
 // A configuration fault has the root's address for the last descriptor's.
 pub fn misconfigured(root: Root) -> Walked
-    ensures { result ≡ misconfiguredOf root }
+    ensures { result ≡ misconfigured_of root }
 {
     Walked {
         end: End::Config,
@@ -76,7 +76,7 @@ pub fn misconfigured(root: Root) -> Walked
 
 // The table is at address & FFFFFFF0. IS (19:16) is consumed first; TC bit 24 adds a function-code level.
 pub fn begin(tc: u32, root: Root) -> Walking030
-    ensures { result ≡ beginOf tc root }
+    ensures { result ≡ begin_of tc root }
 {
     let kind = kind_of(root.limit);
     let coded = bit(tc, 24);
@@ -98,7 +98,7 @@ pub fn begin(tc: u32, root: Root) -> Walking030
 
 // At most `limit` levels; a target is none.
 pub fn is_at_limit(s: Walking030, limit: u32) -> bool
-    ensures { result ≡ atLimit limit s }
+    ensures { result ≡ at_limit limit s }
 {
     !s.target & (limit <= s.levels)
 }
@@ -115,7 +115,7 @@ fn width_at(ws: [u32; 4], k: usize) -> u32
 
 // The number of widths consumed after one more.
 fn next_k(k: usize) -> usize
-    ensures { result ≡ nextK k }
+    ensures { result ≡ next_k k }
 {
     if k < 4 {
         return k + 1;
@@ -163,7 +163,7 @@ pub fn wants_long(s: Walking030) -> bool
 
 // WP and S add up over all but type 0 and the indirect one; a target adds its own whatever its type. `n` widths are used.
 fn adds(s: Walking030, n: usize, kind: u32) -> bool
-    ensures { result ≡ addsOf n s kind }
+    ensures { result ≡ adds_of n s kind }
 {
     if s.target {
         return true;
@@ -178,7 +178,7 @@ fn adds(s: Walking030, n: usize, kind: u32) -> bool
 // A level's descriptor is one level more, a target is none.
 fn levels_with(s: Walking030) -> u32
     requires { s.levels < 1000 }
-    ensures { result ≡ levelsOf s }
+    ensures { result ≡ levels_of s }
 {
     if s.target {
         return s.levels;
@@ -189,7 +189,7 @@ fn levels_with(s: Walking030) -> u32
 // What a descriptor adds to what was found. A failing fetch isn't in the levels.
 pub fn seen(s: Walking030, n: usize, d: Descriptor) -> Walking030
     requires { (s.levels < 1000) × (s.asked < 1000) × (asked_of d < 1000) }
-    ensures { result ≡ seenOf n s d }
+    ensures { result ≡ seen_of n s d }
 {
     let mut t = s;
     match d {
@@ -248,7 +248,7 @@ pub fn is_target(s: Walking030) -> bool
 
 // Types 2 and 3 name the next table; on the last level, where `n` widths are consumed, they are indirect.
 pub fn onward(s: Walking030, n: usize, kind: u32, field: u32) -> Walking030
-    ensures { result ≡ onwardOf n s kind field }
+    ensures { result ≡ onward_of n s kind field }
 {
     let mut t = s;
     t.long = kind == 3;

@@ -8,8 +8,8 @@ use borrow.Author.Tests.{eqb-true}
 use lib.Dec.{T, ltb, eqb}
 use lib.ListN.{length, length-append}
 use Rattle.definition.specs.Words.{if◌then◌else◌, bit_of}
-use Rattle.definition.specs.Memory.{Memory, fetchOf}
-use Rattle.definition.specs.Walk040.{Outcome040, ended040, asks, rootAt, pointerAt, pageAt, onPage, on_entry, walk040, walk040From}
+use Rattle.definition.specs.Memory.{Memory, fetch_of}
+use Rattle.definition.specs.Walk040.{Outcome040, ended040, asks, root_at, pointer_at, page_at, on_page, on_entry, walk040, walk040_from}
 use Rattle.definition.specs.declared.Registers.{Registers}
 use Rattle.definition.specs.declared.Fetched.{Fetched}
 use Rattle.definition.specs.declared.Fetched.TheVariants.{Long, Failed}
@@ -38,44 +38,44 @@ resident wp page = Resident page (wp || bit_of page 2) (bit_of page 7)
 
 module _ (m : Memory) (tc first address : ℕ) where
   -- what the definition makes of a level's long, with W of the levels above it
-  abbrev pub onPointerLong : Bool → ℕ → List ℕ → Outcome040
-  onPointerLong wp x asked =
+  abbrev pub on_pointer_long : Bool → ℕ → List ℕ → Outcome040
+  on_pointer_long wp x asked =
       if ltb (x % 4) 2
       then ended040 (Absent cause.PointerB) asked
-      else asks m (pageAt tc x address) asked (λ y ys. on_entry m (wp || bit_of x 2) y ys)
+      else asks m (page_at tc x address) asked (λ y ys. on_entry m (wp || bit_of x 2) y ys)
 
-  abbrev pub onLevel : Level → Bool → ℕ → List ℕ → Outcome040
-  onLevel level.Root wp x asked =
+  abbrev pub on_level : Level → Bool → ℕ → List ℕ → Outcome040
+  on_level level.Root wp x asked =
       if ltb (x % 4) 2
       then ended040 (Absent cause.PointerA) asked
-      else asks m (pointerAt x address) asked (λ y ys. onPointerLong (wp || bit_of x 2) y ys)
-  onLevel level.Pointer wp x asked = onPointerLong wp x asked
-  onLevel level.Page wp x asked = on_entry m wp x asked
-  onLevel level.Target wp x asked = onPage wp cause.Indirect x asked
+      else asks m (pointer_at x address) asked (λ y ys. on_pointer_long (wp || bit_of x 2) y ys)
+  on_level level.Pointer wp x asked = on_pointer_long wp x asked
+  on_level level.Page wp x asked = on_entry m wp x asked
+  on_level level.Target wp x asked = on_page wp cause.Indirect x asked
 
   -- the walk from here, after the longs asked for before
   abbrev pub rest : Walking040 → List ℕ → Outcome040
-  rest s before = asks m s.at before (onLevel s.level s.wp)
+  rest s before = asks m s.at before (on_level s.level s.wp)
 
   -- what a long decides is what the definition makes of it
   abbrev Decides : Level → Bool → ℕ → ℕ → List ℕ → Type 0
   Decides l wp x n asked =
-      onLevel l wp x asked
+      on_level l wp x asked
       ≡ (if invalid040 l x
       then ended040 (Absent (missing040 l)) asked
       else if page040 l x then ended040 (resident wp x) asked else rest (next040 tc address l wp x n) asked)
 
-  decides-target : (wp : Bool) (x n : ℕ) (asked : List ℕ) → Decides level.Target wp x n asked
-  decides-target wp x n asked = go (eqb (x % 4) 0)
+  decides_target : (wp : Bool) (x n : ℕ) (asked : List ℕ) → Decides level.Target wp x n asked
+  decides_target wp x n asked = go (eqb (x % 4) 0)
     where
       go : (b : Bool) → ended040 (if b then Absent cause.Indirect else resident wp x) asked
           ≡ (if b then ended040 (Absent cause.Indirect) asked else ended040 (resident wp x) asked)
       go true = refl
       go false = refl
 
-  decides-page : (wp : Bool) (x n : ℕ) (asked : List ℕ) → Decides level.Page wp x n asked
+  decides_page : (wp : Bool) (x n : ℕ) (asked : List ℕ) → Decides level.Page wp x n asked
   unfolding next040
-  decides-page wp x n asked = go (asks m (x / 4 * 4) asked (λ y ys. onPage wp cause.Indirect y ys)) (eqb (x % 4) 0) refl (eqb (x % 4) 2) refl
+  decides_page wp x n asked = go (asks m (x / 4 * 4) asked (λ y ys. on_page wp cause.Indirect y ys)) (eqb (x % 4) 0) refl (eqb (x % 4) 2) refl
     where
       go : (to : Outcome040) (a : Bool) → eqb (x % 4) 0 ≡ a → (b : Bool) → eqb (x % 4) 2 ≡ b
           → (if b then to else ended040 (if a then Absent cause.PageFault else resident wp x) asked)
@@ -89,8 +89,8 @@ module _ (m : Memory) (tc first address : ℕ) where
   unfolding next040
   decides level.Root wp x n asked = refl
   decides level.Pointer wp x n asked = refl
-  decides level.Page wp x n asked = decides-page wp x n asked
-  decides level.Target wp x n asked = decides-target wp x n asked
+  decides level.Page wp x n asked = decides_page wp x n asked
+  decides level.Target wp x n asked = decides_target wp x n asked
 
   -- a long that leads on leaves fewer to ask for
   deeper : (l : Level) (wp : Bool) (x n : ℕ) → page040 l x ≡ false → depth (next040 tc address l wp x n).level < depth l
@@ -108,7 +108,7 @@ module _ (m : Memory) (tc first address : ℕ) where
   counts level.Target wp x n = refl
 
   abbrev pub whole : Outcome040
-  whole = walk040From m tc first address
+  whole = walk040_from m tc first address
 
   -- what is known at the loop's head
   pub record Turn : Type 0 where
@@ -123,25 +123,25 @@ module _ (m : Memory) (tc first address : ℕ) where
 
   -- where it begins
   module _ {s : Walking040} (e : s ≡ begin040 first) where
-    pub begin-same : whole ≡ rest s []
-    begin-same = rw e
+    pub begin_same : whole ≡ rest s []
+    begin_same = rw e
 
-    pub begin-counted : length {A = ℕ} [] ≡ s.asked
-    begin-counted = rw e
+    pub begin_counted : length {A = ℕ} [] ≡ s.asked
+    begin_counted = rw e
 
-    pub begin-room : s.asked + depth s.level ≤ 4
-    begin-room = rw e (omega arith)
+    pub begin_room : s.asked + depth s.level ≤ 4
+    begin_room = rw e (omega arith)
 
     abbrev pub begin : Turn
-    begin = record { s = s; before = []; same = begin-same; counted = begin-counted; room = begin-room }
+    begin = record { s = s; before = []; same = begin_same; counted = begin_counted; room = begin_room }
 
   -- a turn: the long is asked for
   module _ (t : Turn) where
     abbrev pub after : List ℕ
     after = t.before ++ (t.s.at ∷ [])
 
-    after-length : length after ≡ t.s.asked + 1
-    after-length = omega (arith, length-append t.before (t.s.at ∷ []), t.counted)
+    after_length : length after ≡ t.s.asked + 1
+    after_length = omega (arith, length-append t.before (t.s.at ∷ []), t.counted)
 
     -- what `next_040` and `answer_040` ask
     pub few : t.s.asked < 1000
@@ -149,15 +149,15 @@ module _ (m : Memory) (tc first address : ℕ) where
 
     -- the walk ends here
     ended_so : (e : End040) → whole ≡ ended040 e after → {x : End040} → x ≡ e → {a : Walked040} → a ≡ answered040 t.s x → a ≡ shown040 whole
-    ended_so e ew ex ea = ea ∙ rw (ex, ew, after-length)
+    ended_so e ew ex ea = ea ∙ rw (ex, ew, after_length)
 
-    module _ {w : ℕ} (ew : w ≡ t.s.at) {f : Fetched} (ef : f ≡ fetchOf m w) where
-      gave : fetchOf m t.s.at ≡ f
-      gave = ap (fetchOf m) (sym ew) ∙ sym ef
+    module _ {w : ℕ} (ew : w ≡ t.s.at) {f : Fetched} (ef : f ≡ fetch_of m w) where
+      gave : fetch_of m t.s.at ≡ f
+      gave = ap (fetch_of m) (sym ew) ∙ sym ef
 
       -- the way out at a bus error
-      pub ends-lost : f ≡ Failed → {a : Walked040} → a ≡ answered040 t.s (Lost w) → a ≡ shown040 whole
-      ends-lost h ea = ended_so (Lost t.s.at) (t.same ∙ rw (gave ∙ h)) (ap Lost ew) ea
+      pub ends_lost : f ≡ Failed → {a : Walked040} → a ≡ answered040 t.s (Lost w) → a ≡ shown040 whole
+      ends_lost h ea = ended_so (Lost t.s.at) (t.same ∙ rw (gave ∙ h)) (ap Lost ew) ea
 
       module _ {x : ℕ} (ex : f ≡ Long x) {i : Bool} (ei : i ≡ invalid040 t.s.level x) where
         decided : whole
@@ -169,40 +169,40 @@ module _ (m : Memory) (tc first address : ℕ) where
         decided = t.same ∙ rw (gave ∙ ex) (rw ei (decides t.s.level t.s.wp x (t.s.asked + 1) after))
 
         -- the way out at an invalid long
-        pub ends-absent : T i → {c : FaultCause} → c ≡ missing040 t.s.level → {a : Walked040} → a ≡ answered040 t.s (Absent c) → a ≡ shown040 whole
-        ends-absent hi ec ea = ended_so (Absent (missing040 t.s.level)) (decided ∙ rw (T_true i hi)) (ap Absent ec) ea
+        pub ends_absent : T i → {c : FaultCause} → c ≡ missing040 t.s.level → {a : Walked040} → a ≡ answered040 t.s (Absent c) → a ≡ shown040 whole
+        ends_absent hi ec ea = ended_so (Absent (missing040 t.s.level)) (decided ∙ rw (T_true i hi)) (ap Absent ec) ea
 
         module _ (hi : T (not i)) {p : Bool} (ep : p ≡ page040 t.s.level x) where
           -- the way out at a page
-          pub ends-page : T p → {wp : Bool} → wp ≡ (t.s.wp || bit_of x 2) → {sup : Bool} → sup ≡ bit_of x 7 → {a : Walked040} → a ≡ answered040 t.s (Resident x wp sup)
+          pub ends_page : T p → {wp : Bool} → wp ≡ (t.s.wp || bit_of x 2) → {sup : Bool} → sup ≡ bit_of x 7 → {a : Walked040} → a ≡ answered040 t.s (Resident x wp sup)
               → a ≡ shown040 whole
-          ends-page hp ewp esup ea = ended_so (resident t.s.wp x) (decided ∙ rw (T_false i hi, sym ep ∙ T_true p hp)) (rw (ewp, esup)) ea
+          ends_page hp ewp esup ea = ended_so (resident t.s.wp x) (decided ∙ rw (T_false i hi, sym ep ∙ T_true p hp)) (rw (ewp, esup)) ea
 
           -- the walk goes on
           module _ (hp : T (not p)) {r : Walking040} (er : r ≡ next040 tc address t.s.level t.s.wp x (t.s.asked + 1)) where
-            no-page : page040 t.s.level x ≡ false
-            no-page = sym ep ∙ T_false p hp
+            no_page : page040 t.s.level x ≡ false
+            no_page = sym ep ∙ T_false p hp
 
-            pub next-same : whole ≡ rest r after
-            next-same = decided ∙ rw (T_false i hi, no-page, er)
+            pub next_same : whole ≡ rest r after
+            next_same = decided ∙ rw (T_false i hi, no_page, er)
 
-            next-asked : r.asked ≡ t.s.asked + 1
-            next-asked = rw er (counts t.s.level t.s.wp x (t.s.asked + 1))
+            next_asked : r.asked ≡ t.s.asked + 1
+            next_asked = rw er (counts t.s.level t.s.wp x (t.s.asked + 1))
 
-            pub next-counted : length after ≡ r.asked
-            next-counted = after-length ∙ sym next-asked
+            pub next_counted : length after ≡ r.asked
+            next_counted = after_length ∙ sym next_asked
 
             pub less : depth r.level < depth t.s.level
-            less = rw er (deeper t.s.level t.s.wp x (t.s.asked + 1) no-page)
+            less = rw er (deeper t.s.level t.s.wp x (t.s.asked + 1) no_page)
 
-            pub next-room : r.asked + depth r.level ≤ 4
-            next-room = omega (arith, t.room, next-asked, less)
+            pub next_room : r.asked + depth r.level ≤ 4
+            next_room = omega (arith, t.room, next_asked, less)
 
             abbrev pub next : Turn
-            next = record { s = r; before = after; same = next-same; counted = next-counted; room = next-room }
+            next = record { s = r; before = after; same = next_same; counted = next_counted; room = next_room }
 
 -- from the root table's entry of a supervisor or a user it is the definition's walk
-pub from-root : (m : Memory) (g : Registers) (address : ℕ) (supervisor : Bool) {tc : ℕ} → tc ≡ g.tc → {first : ℕ} → first ≡ rootAt g supervisor address
-    → {w : Walked040} → w ≡ shown040 (walk040From m tc first address) → w ≡ shown040 (walk040 m g address supervisor)
+pub from_root : (m : Memory) (g : Registers) (address : ℕ) (supervisor : Bool) {tc : ℕ} → tc ≡ g.tc → {first : ℕ} → first ≡ root_at g supervisor address
+    → {w : Walked040} → w ≡ shown040 (walk040_from m tc first address) → w ≡ shown040 (walk040 m g address supervisor)
 unfolding walk040
-from-root m g address supervisor et ef ew = ew ∙ rw (et, ef)
+from_root m g address supervisor et ef ew = ew ∙ rw (et, ef)

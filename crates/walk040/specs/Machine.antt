@@ -2,7 +2,7 @@
 -- This serves the code alone; the meaning is `Walk040` of `definition`.
 use Rattle.std.specs.Prelude.{ℕ, ◌+◌, ◌*◌, ◌/◌, ◌%◌, Bool, true, false, not, ◌||◌, ltb, eqb}
 use Rattle.definition.specs.Words.{bit_of}
-use Rattle.definition.specs.Walk040.{pointerAt, pageAt}
+use Rattle.definition.specs.Walk040.{pointer_at, page_at}
 use Rattle.definition.specs.declared.End040.{End040}
 use Rattle.definition.specs.declared.FaultCause.{FaultCause}
 use Rattle.definition.specs.declared.FaultCause.TheVariants as cause
@@ -40,8 +40,8 @@ page040 level.Target x = true
 
 -- or else it leads on; a target never does
 unfoldable pub next040 : ℕ → ℕ → Level → Bool → ℕ → ℕ → Walking040
-next040 tc address level.Root wp x asked = onward040 level.Pointer (wp || bit_of x 2) (pointerAt x address) asked
-next040 tc address level.Pointer wp x asked = onward040 level.Page (wp || bit_of x 2) (pageAt tc x address) asked
+next040 tc address level.Root wp x asked = onward040 level.Pointer (wp || bit_of x 2) (pointer_at x address) asked
+next040 tc address level.Pointer wp x asked = onward040 level.Page (wp || bit_of x 2) (page_at tc x address) asked
 next040 tc address level.Page wp x asked = onward040 level.Target wp (x / 4 * 4) asked
 next040 tc address level.Target wp x asked = onward040 level.Target wp (x / 4 * 4) asked
 

@@ -3,7 +3,7 @@ mod machine;
 
 ghost use Rattle.std.specs.Prelude.{◌≡◌};
 ghost use Rattle.definition.specs.Memory.{memory};
-ghost use Rattle.definition.specs.Walk040.{rootAt, walk040, walk040From};
+ghost use Rattle.definition.specs.Walk040.{root_at, walk040, walk040_from};
 ghost use Rattle.walk040.specs.Walked.{shown040};
 
 use definition::{End040, Fetched, Range, Registers};
@@ -20,7 +20,7 @@ pub struct Walked040 {
 
 // Root SRP (supervisor) or CRP & FFFFFE00, index bits 31:25.
 fn root_at(g: Registers, supervisor: bool, address: u32) -> u32
-    ensures { result ≡ rootAt g supervisor address }
+    ensures { result ≡ root_at g supervisor address }
 {
     let mut root = g.crp.address;
     if supervisor {
@@ -38,7 +38,7 @@ fn walk_040(
     first: u32,
     address: u32,
 ) -> Walked040
-    ensures { result ≡ shown040 (walk040From (memory longs.now base ranges.now) tc first address) }
+    ensures { result ≡ shown040 (walk040_from (memory longs.now base ranges.now) tc first address) }
 {
     let mut s = machine::begin(first);
     let end = loop {

@@ -1,6 +1,6 @@
 // Where a 68040 walk stands before a long, and what the long decides.
 ghost use Rattle.std.specs.Prelude.{◌≡◌, ◌||◌, ◌+◌, ◌<◌};
-ghost use Rattle.definition.specs.Walk040.{pageAt, pointerAt};
+ghost use Rattle.definition.specs.Walk040.{page_at, pointer_at};
 ghost use Rattle.definition.specs.Words.{bit_of};
 ghost use Rattle.walk040.specs.Machine.{answered040, begin040, invalid040, missing040, next040, onward040, page040};
 
@@ -29,14 +29,14 @@ pub struct Walking040 {
 
 // Table & FFFFFE00, index 24:18.
 fn pointer_at(root: u32, address: u32) -> u32
-    ensures { result ≡ pointerAt root address }
+    ensures { result ≡ pointer_at root address }
 {
     entry(root - root % 512, (address >> 18) % 128, false)
 }
 
 // Page table & FFFFFF00 with 17:12, or with TC bit 14 & FFFFFF80 with 17:13.
 fn page_at(tc: u32, pointer: u32, address: u32) -> u32
-    ensures { result ≡ pageAt tc pointer address }
+    ensures { result ≡ page_at tc pointer address }
 {
     if bit(tc, 14) {
         return entry(pointer - pointer % 128, (address >> 13) % 32, false);

@@ -1,7 +1,7 @@
 -- What it is to have written a trace's lines.
 use Rattle.std.specs.Prelude.{ℕ, ◌+◌, ◌≤◌, ◌<◌, ◌≡◌, List, ◌++◌, eqb, length, take}
 use Rattle.definition.specs.Words.{if◌then◌else◌}
-use Rattle.definition.specs.Trace.{malformedLine, text, ending}
+use Rattle.definition.specs.Trace.{malformed_line, text, ending}
 use Rattle.replay.specs.declared.run.Why.{Why}
 use Rattle.replay.specs.declared.run.Why.TheVariants as why
 use Rattle.whole.specs.declared.Played.{Played}
@@ -14,7 +14,7 @@ Shows lines out played.NoRoom = length out < length lines + 44
 
 -- refusal 7
 abbrev pub refused : List ℕ
-refused = text malformedLine
+refused = text malformed_line
 
 -- the last line, where `left` bytes hold no whole record
 abbrev pub finished : ℕ → List ℕ

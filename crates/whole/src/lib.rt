@@ -1,6 +1,6 @@
 // A whole trace in memory, from the state that a replay starts from.
 ghost use Rattle.std.specs.Prelude.{◌++◌, take};
-ghost use Rattle.definition.specs.Trace.{firstState, playFrom, play as Trace·play};
+ghost use Rattle.definition.specs.Trace.{first_state, play_from, play as Trace·play};
 ghost use Rattle.whole.specs.Shown.{Shows, refused, finished, Closes};
 
 use replay::run::Why;
@@ -49,7 +49,7 @@ fn last_line(out: &mut [u8], at: usize, why: Why, left: usize) -> Played
 
 // Plays the records of a trace, what comes after its version byte.
 fn play_records(bytes: &[u8], out: &mut [u8]) -> Played
-    ensures { Shows (playFrom firstState bytes.now) out.new result }
+    ensures { Shows (play_from first_state bytes.now) out.new result }
 {
     let mut c030 = [0u64; 69];
     let mut c040 = [0u64; 128];

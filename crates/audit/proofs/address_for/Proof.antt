@@ -12,7 +12,7 @@ first-address-requires c κs = search rules
 
 -- src/lib.rt:244:9
 returns : tie.Need-returns
-returns c = law.address-for-030 _ _ c.before.before.if1.true c.first-address.ensures
+returns c = law.address_for_030 _ _ c.before.before.if1.true c.first-address.ensures
 
 -- src/lib.rt:246:5
 first-address-requires-2 : tie.Need-first-address-requires-2
@@ -20,7 +20,7 @@ first-address-requires-2 c κs = search rules
 
 -- src/lib.rt:240:1
 returns-2 : tie.Need-returns-2
-returns-2 c = law.address-for-040 _ _ c.before.before.if1.false c.first-address2.ensures
+returns-2 c = law.address_for_040 _ _ c.before.before.if1.false c.first-address2.ensures
 
 pub address-for-spec : {M : Type 1} → statement M
 address-for-spec =

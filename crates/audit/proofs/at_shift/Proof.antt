@@ -28,7 +28,7 @@ returns c = law.no_shift _ _ c.before.before.page-shift.ensures c.enum_told.give
 
 -- src/lib.rt:68:1
 returns-2 : tie.Need-returns-2
-returns-2 c = law.some-shift _ _ c.before.before.before.page-shift.ensures c.before.s.given.1
+returns-2 c = law.some_shift _ _ c.before.before.before.page-shift.ensures c.before.s.given.1
 
 pub at-shift-spec : {M : Type 1} → statement M
 at-shift-spec =

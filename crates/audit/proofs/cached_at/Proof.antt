@@ -22,7 +22,7 @@ number-at-requires c κs = search rules
 
 -- src/lib.rt:152:9
 returns : tie.Need-returns
-returns c = law.cached-030 _ _ _ _ c.before.before.before.before.before.before.if1.true c.before.before.before.before.part_at.ensures c.before.before.part-at2.ensures c.number_at.ensures
+returns c = law.cached_030 _ _ _ _ c.before.before.before.before.before.before.if1.true c.before.before.before.before.part_at.ensures c.before.before.part-at2.ensures c.number_at.ensures
 
 -- src/lib.rt:154:9
 part-at-requires-3 : tie.Need-part-at-requires-3
@@ -42,7 +42,7 @@ cast-t22 c = search rules
 
 -- src/lib.rt:145:1
 returns-2 : tie.Need-returns-2
-returns-2 c = law.cached-040 _ _ _ _ c.before.before.before.before.before.if1.false c.before.before.before.part-at3.ensures c.before.part-at4.ensures c.page-bits.ensures
+returns-2 c = law.cached_040 _ _ _ _ c.before.before.before.before.before.if1.false c.before.before.before.part-at3.ensures c.before.part-at4.ensures c.page-bits.ensures
 
 pub cached-at-spec : {M : Type 1} → statement M
 cached-at-spec =

@@ -13,7 +13,7 @@ going-requires c κs = search rules
 
 -- src/lib.rt:60:9
 returns : tie.Need-returns
-returns c = law.from-within c.before.before.args.from c.before.before.args.size c.before.if1.true c.going.ensures
+returns c = law.from_within c.before.before.args.from c.before.before.args.size c.before.if1.true c.going.ensures
 
 -- src/lib.rt:62:5
 done-requires : tie.Need-done-requires

@@ -36,7 +36,7 @@ enum-told-4 c = search rules
 
 -- src/lib.rt:182:1
 returns : tie.Need-returns
-returns c = law.end-030 c.before.before.before.before.args.t c.before.before.before.before.args.p c.before.before.before.before.args.address c.before.before.before.before.args.wp c.before.before.before.before.args.sup c.before.before.end.given.1 c.physical.ensures
+returns c = law.end_030 c.before.before.before.before.args.t c.before.before.before.before.args.p c.before.before.before.before.args.address c.before.before.before.before.args.wp c.before.before.before.before.args.sup c.before.before.end.given.1 c.physical.ensures
 
 -- src/lib.rt:182:1
 returns-2 : tie.Need-returns-2

@@ -28,7 +28,7 @@ enum-told-2 c = search rules
 
 -- src/lib.rt:199:1
 returns : tie.Need-returns
-returns c = law.end-040 c.before.before.before.before.args.tc c.before.before.before.before.args.k c.before.before.before.before.args.b c.before.before.end.given.1 c.frame-base.ensures
+returns c = law.end_040 c.before.before.before.before.args.tc c.before.before.before.before.args.k c.before.before.before.before.args.b c.before.before.end.given.1 c.frame-base.ensures
 
 -- src/lib.rt:199:1
 returns-2 : tie.Need-returns-2

@@ -20,7 +20,7 @@ done-requires c κs = search rules
 
 -- src/lib.rt:102:9
 returns : tie.Need-returns
-returns c = law.begin-refused _ _ _ _ _ c.before.before.refusal.ensures c.before.if1.true c.done.ensures
+returns c = law.begin_refused _ _ _ _ _ c.before.before.refusal.ensures c.before.if1.true c.done.ensures
 
 -- src/lib.rt:105:13
 number-at-requires : tie.Need-number-at-requires
@@ -36,7 +36,7 @@ going-from-requires c κs = search rules
 
 -- src/lib.rt:107:13
 returns-2 : tie.Need-returns-2
-returns-2 c = law.begin-030 _ _ _ _ _ c.before.before.before.before.before.before.before.before.refusal.ensures c.before.before.before.before.before.before.before.if1.false c.before.before.before.before.before.if2.true c.before.before.before.number_at.ensures c.before.before.at-shift.ensures c.before.if3.true c.going-from.ensures
+returns-2 c = law.begin_030 _ _ _ _ _ c.before.before.before.before.before.before.before.before.refusal.ensures c.before.before.before.before.before.before.before.if1.false c.before.before.before.before.before.if2.true c.before.before.before.number_at.ensures c.before.before.at-shift.ensures c.before.if3.true c.going-from.ensures
 
 -- src/lib.rt:109:9
 done-requires-2 : tie.Need-done-requires-2
@@ -44,7 +44,7 @@ done-requires-2 c κs = search rules
 
 -- src/lib.rt:109:9
 returns-3 : tie.Need-returns-3
-returns-3 c = law.begin-other _ _ _ _ _ c.before.before.before.before.before.before.before.before.refusal.ensures c.before.before.before.before.before.before.before.if1.false c.before.before.before.before.before.if2.true c.before.before.before.number_at.ensures c.before.before.at-shift.ensures c.before.if3.false c.done2.ensures
+returns-3 c = law.begin_other _ _ _ _ _ c.before.before.before.before.before.before.before.before.refusal.ensures c.before.before.before.before.before.before.before.if1.false c.before.before.before.before.before.if2.true c.before.before.before.number_at.ensures c.before.before.at-shift.ensures c.before.if3.false c.done2.ensures
 
 -- src/lib.rt:111:5
 going-from-requires-2 : tie.Need-going-from-requires-2
@@ -52,7 +52,7 @@ going-from-requires-2 c κs = search rules
 
 -- src/lib.rt:97:1
 returns-4 : tie.Need-returns-4
-returns-4 c = law.begin-040 _ _ _ _ _ c.before.before.before.before.refusal.ensures c.before.before.before.if1.false c.before.if2.false c.going-from2.ensures
+returns-4 c = law.begin_040 _ _ _ _ _ c.before.before.before.before.refusal.ensures c.before.before.before.if1.false c.before.if2.false c.going-from2.ensures
 
 pub opened-spec : {M : Type 1} → statement M
 opened-spec =

@@ -16,11 +16,11 @@ number-at-requires c κs = search rules
 
 -- src/lib.rt:84:9
 returns : tie.Need-returns
-returns c = law.in-part c.before.before.before.args.list.now c.before.before.before.args.start c.before.before.before.args.size c.before.before.before.args.i c.before.if1.true c.number_at.ensures
+returns c = law.in_part c.before.before.before.args.list.now c.before.before.before.args.start c.before.before.before.args.size c.before.before.before.args.i c.before.if1.true c.number_at.ensures
 
 -- src/lib.rt:80:1
 returns-2 : tie.Need-returns-2
-returns-2 c = law.past-part c.before.before.args.list.now c.before.before.args.start c.before.before.args.size c.before.before.args.i c.if1.false
+returns-2 c = law.past_part c.before.before.args.list.now c.before.before.args.start c.before.before.args.size c.before.before.args.i c.if1.false
 
 pub part-at-spec : {M : Type 1} → statement M
 part-at-spec = tie.close (tie.spec add-number-at number-at-requires returns returns-2)

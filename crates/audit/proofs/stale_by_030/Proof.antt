@@ -28,7 +28,7 @@ returns c = search rules
 
 -- src/lib.rt:214:1
 returns-2 : tie.Need-returns-2
-returns-2 c = law.stale-030 c.before.before.before.before.args.t c.before.before.before.before.args.p c.before.before.before.before.args.address c.before.before.walks.given.1 c.is-end-030.ensures
+returns-2 c = law.stale_030 c.before.before.before.before.args.t c.before.before.before.before.args.p c.before.before.before.before.args.address c.before.before.walks.given.1 c.is-end-030.ensures
 
 -- src/lib.rt:214:1
 returns-3 : tie.Need-returns-3

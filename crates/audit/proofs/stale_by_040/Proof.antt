@@ -32,7 +32,7 @@ returns-2 c = search rules
 
 -- src/lib.rt:228:1
 returns-3 : tie.Need-returns-3
-returns-3 c = law.stale-040 c.before.before.before.before.args.tc c.before.before.before.before.args.k c.before.before.before.before.args.b c.before.before.walks.given.1 c.is-end-040.ensures
+returns-3 c = law.stale_040 c.before.before.before.before.args.tc c.before.before.before.before.args.k c.before.before.before.before.args.b c.before.before.walks.given.1 c.is-end-040.ensures
 
 pub stale-by-040-spec : {M : Type 1} → statement M
 stale-by-040-spec =

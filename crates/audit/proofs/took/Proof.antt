@@ -18,7 +18,7 @@ turned-requires c κs = search rules
 
 -- src/lib.rt:308:9
 returns : tie.Need-returns
-returns c = law.took-030 _ _ _ _ _ c.before.before.if1.true c.before.stale-by-030.ensures c.turned.ensures
+returns c = law.took_030 _ _ _ _ _ c.before.before.if1.true c.before.stale-by-030.ensures c.turned.ensures
 
 -- src/lib.rt:310:9
 stale-by-040-requires : tie.Need-stale-by-040-requires
@@ -30,7 +30,7 @@ turned-requires-2 c κs = search rules
 
 -- src/lib.rt:302:1
 returns-2 : tie.Need-returns-2
-returns-2 c = law.took-040 _ _ _ _ _ c.before.before.if1.false c.before.stale-by-040.ensures c.turned2.ensures
+returns-2 c = law.took_040 _ _ _ _ _ c.before.before.if1.false c.before.stale-by-040.ensures c.turned2.ensures
 
 pub took-spec : {M : Type 1} → statement M
 took-spec =

@@ -13,7 +13,7 @@ done-requires c κs = search rules
 
 -- src/lib.rt:246:9
 returns : tie.Need-returns
-returns c = law.turned-stale c.before.before.args.i c.before.before.args.last c.before.before.args.named c.before.if1.true c.done.ensures
+returns c = law.turned_stale c.before.before.args.i c.before.before.args.last c.before.before.args.named c.before.if1.true c.done.ensures
 
 -- src/lib.rt:249:22
 add-going : tie.Need-overflow-add-going
@@ -25,7 +25,7 @@ going-requires c κs = search rules
 
 -- src/lib.rt:249:9
 returns-2 : tie.Need-returns-2
-returns-2 c = law.turned-next c.before.before.before.args.i c.before.before.before.args.last c.before.before.before.args.named c.before.before.if1.false c.before.if2.true c.going.ensures
+returns-2 c = law.turned_next c.before.before.before.args.i c.before.before.before.args.last c.before.before.before.args.named c.before.before.if1.false c.before.if2.true c.going.ensures
 
 -- src/lib.rt:251:5
 done-requires-2 : tie.Need-done-requires-2
@@ -33,7 +33,7 @@ done-requires-2 c κs = search rules
 
 -- src/lib.rt:242:1
 returns-3 : tie.Need-returns-3
-returns-3 c = law.turned-last c.before.before.before.args.i c.before.before.before.args.last c.before.before.before.args.named c.before.before.if1.false c.before.if2.false c.done2.ensures
+returns-3 c = law.turned_last c.before.before.before.args.i c.before.before.before.args.last c.before.before.before.args.named c.before.before.if1.false c.before.if2.false c.done2.ensures
 
 pub turned-spec : {M : Type 1} → statement M
 turned-spec =

@@ -16,11 +16,11 @@ is-access-code-requires c κs = search rules
 
 -- src/lib.rt:122:9
 returns : tie.Need-returns
-returns c = law.way-met c.before.before.args.t c.before.is-access-code.ensures c.if1.true
+returns c = law.way_met c.before.before.args.t c.before.is-access-code.ensures c.if1.true
 
 -- src/lib.rt:115:1
 returns-2 : tie.Need-returns-2
-returns-2 c = law.way-idle c.before.before.args.t c.before.is-access-code.ensures c.if1.false
+returns-2 c = law.way_idle c.before.before.args.t c.before.is-access-code.ensures c.if1.false
 
 pub way-030-spec : {M : Type 1} → statement M
 way-030-spec = tie.close (tie.spec cast-code is-access-code-requires returns returns-2)

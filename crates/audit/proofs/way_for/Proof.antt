@@ -13,7 +13,7 @@ way-030-requires c κs = search rules
 
 -- src/lib.rt:202:9
 returns : tie.Need-returns
-returns c = law.way-for-030 _ _ c.before.if1.true c.way-030.ensures
+returns c = law.way_for_030 _ _ c.before.if1.true c.way-030.ensures
 
 -- src/lib.rt:204:5
 way-040-requires : tie.Need-way-040-requires
@@ -21,7 +21,7 @@ way-040-requires c κs = search rules
 
 -- src/lib.rt:198:1
 returns-2 : tie.Need-returns-2
-returns-2 c = law.way-for-040 _ _ c.before.if1.false c.way-040.ensures
+returns-2 c = law.way_for_040 _ _ c.before.if1.false c.way-040.ensures
 
 pub way-for-spec : {M : Type 1} → statement M
 way-for-spec = tie.close (tie.spec way-030-requires returns way-040-requires returns-2)

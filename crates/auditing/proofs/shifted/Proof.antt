@@ -39,7 +39,7 @@ loop-again : tie.Need-loop-preserved invariant-loop decreases-loop
 loop-again c =
     let held = c.before.before.loop.invariant in
     let at = c.before.before.before.args in
-    (omega arith, length-set c.before.before.loop.buffer c.before.before.loop.i _ ∙ held.1, law.moved_more at.from c.before.before.loop.i _ _ held.1 (omega arith) held.3 held.2, law.stays-more at.from c.before.before.loop.i _ _ held.1 (omega arith) held.3)
+    (omega arith, length-set c.before.before.loop.buffer c.before.before.loop.i _ ∙ held.1, law.moved_more at.from c.before.before.loop.i _ _ held.1 (omega arith) held.3 held.2, law.stays_more at.from c.before.before.loop.i _ _ held.1 (omega arith) held.3)
 
 same_length : tie.Need-same-length invariant-loop decreases-loop
 same_length c = search rules

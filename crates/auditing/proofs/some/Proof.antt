@@ -18,7 +18,7 @@ same-length-2 : tie.Need-same-length-2
 same-length-2 c = search rules
 
 returns : tie.Need-returns
-returns c = (c.before.before.before.before.before.before.before.before.run.ensures.1 ∙ c.before.before.before.before.before.before.before.before.before.before.before.before.before.before.before.before.before.requires, omega arith, law.went-over)
+returns c = (c.before.before.before.before.before.before.before.before.run.ensures.1 ∙ c.before.before.before.before.before.before.before.before.before.before.before.before.before.before.before.before.before.requires, omega arith, law.went_over)
 
 stepped-requires : tie.Need-stepped-requires
 stepped-requires c κs = search rules
@@ -33,7 +33,7 @@ same-length-5 : tie.Need-same-length-5
 same-length-5 c = search rules
 
 returns-2 : tie.Need-returns-2
-returns-2 c = (c.before.before.before.before.before.before.before.before.before.before.before.before.before.before.before.before.before.run.ensures.1 ∙ c.before.before.before.before.before.before.before.before.before.before.before.before.before.before.before.before.before.before.before.before.before.before.before.before.before.before.requires, omega arith, law.went-over)
+returns-2 c = (c.before.before.before.before.before.before.before.before.before.before.before.before.before.before.before.before.before.run.ensures.1 ∙ c.before.before.before.before.before.before.before.before.before.before.before.before.before.before.before.before.before.before.before.before.before.before.before.before.before.before.requires, omega arith, law.went_over)
 
 after-requires : tie.Need-after-requires
 after-requires c κs = search rules

@@ -39,7 +39,7 @@ same_length : tie.Need-same-length
 same_length c = search rules
 
 returns : tie.Need-returns
-returns c = (law.crossed-stays c.over.ensures.0 c.before.before.before.before.before.before.before.before.before.before.before.before.before.requires, law.turned-over c.over.ensures.1)
+returns c = (law.crossed_stays c.over.ensures.0 c.before.before.before.before.before.before.before.before.before.before.before.before.before.requires, law.turned_over c.over.ensures.1)
 
 same-length-2 : tie.Need-same-length-2
 same-length-2 c = search rules
@@ -51,7 +51,7 @@ same-length-4 : tie.Need-same-length-4
 same-length-4 c = search rules
 
 returns-2 : tie.Need-returns-2
-returns-2 c = (law.crossed-stays c.over2.ensures.0 c.before.before.before.before.before.before.before.before.before.before.before.before.before.before.before.before.before.before.before.before.requires, law.turned-over c.over2.ensures.1)
+returns-2 c = (law.crossed_stays c.over2.ensures.0 c.before.before.before.before.before.before.before.before.before.before.before.before.before.before.before.before.before.before.before.before.requires, law.turned_over c.over2.ensures.1)
 
 same-length-5 : tie.Need-same-length-5
 same-length-5 c = search rules

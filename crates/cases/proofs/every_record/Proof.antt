@@ -1,13 +1,13 @@
 use Rattle.std.proofs.Common.{◌≡◌, ℕ, ◌+◌, ◌-◌, ◌≤◌, false, List, length, take, drop, sym, refl, ◌∙◌, arith, length-drop, length-take, rules}
 use Rattle.definition.specs.Words.{any_of}
 use Rattle.definition.specs.Refusal.{crossed}
-use Rattle.replay.specs.Playing.{rangesOf}
+use Rattle.replay.specs.Playing.{ranges_of}
 use Rattle.replay.specs.declared.Kept.{Kept}
 use Rattle.cases.proofs.every_record.Statement.{statement}
 use Rattle.cases.proofs.every_record.Tie as tie
 
 -- a replay starts without a range
-none-crossed : (k : Kept) → k.n ≡ 0 → any_of crossed (rangesOf k) ≡ false
+none-crossed : (k : Kept) → k.n ≡ 0 → any_of crossed (ranges_of k) ≡ false
 unfolding any_of
 none-crossed k e = rw e
 
@@ -17,7 +17,7 @@ within records at read h k = omega (arith, length-take (length records - at) (dr
 
 abbrev invariant-loop : tie.invariant-loop
 invariant-loop name records expected out₀ c030₀ c040₀ longs₀ line₀ kept₀ now₀ at₀ turns₀ out c030 c040 longs line kept now at turns =
-    (at ≤ length records) × (any_of crossed (rangesOf kept) ≡ false) × (8192 ≡ length longs) × (45 ≡ length line)
+    (at ≤ length records) × (any_of crossed (ranges_of kept) ≡ false) × (8192 ≡ length longs) × (45 ≡ length line)
 
 abbrev decreases-loop : tie.decreases-loop
 decreases-loop name records expected out₀ c030₀ c040₀ longs₀ line₀ kept₀ now₀ at₀ turns₀ out c030 c040 longs line kept now at turns = turns

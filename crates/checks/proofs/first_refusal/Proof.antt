@@ -1,33 +1,33 @@
-use Rattle.definition.specs.Refusal.{refusalOf}
+use Rattle.definition.specs.Refusal.{refusal_of}
 use Rattle.checks.proofs.first_refusal.Statement.{statement}
 use Rattle.checks.proofs.first_refusal.Tie as tie
 
 returns : tie.Need-returns
-unfolding refusalOf
+unfolding refusal_of
 returns c = rw c.if1.true
 
 returns-2 : tie.Need-returns-2
-unfolding refusalOf
+unfolding refusal_of
 returns-2 c = rw (c.before.if1.false, c.if2.true)
 
 returns-3 : tie.Need-returns-3
-unfolding refusalOf
+unfolding refusal_of
 returns-3 c = rw (c.before.before.if1.false, c.before.if2.false, c.if3.true)
 
 returns-4 : tie.Need-returns-4
-unfolding refusalOf
+unfolding refusal_of
 returns-4 c = rw (c.before.before.before.if1.false, c.before.before.if2.false, c.before.if3.false, c.if4.true)
 
 returns-5 : tie.Need-returns-5
-unfolding refusalOf
+unfolding refusal_of
 returns-5 c = rw (c.before.before.before.before.if1.false, c.before.before.before.if2.false, c.before.before.if3.false, c.before.if4.false, c.if5.true)
 
 returns-6 : tie.Need-returns-6
-unfolding refusalOf
+unfolding refusal_of
 returns-6 c = rw (c.before.before.before.before.before.if1.false, c.before.before.before.before.if2.false, c.before.before.before.if3.false, c.before.before.if4.false, c.before.if5.false, c.if6.true)
 
 returns-7 : tie.Need-returns-7
-unfolding refusalOf
+unfolding refusal_of
 returns-7 c = rw (c.before.before.before.before.before.if1.false, c.before.before.before.before.if2.false, c.before.before.before.if3.false, c.before.before.if4.false, c.before.if5.false, c.if6.false)
 
 pub first-refusal-spec : {M : Type 1} → statement M

@@ -1,7 +1,7 @@
-use Rattle.definition.specs.Cache040.{Cache040, flushedFrame}
-use Rattle.definition.specs.Refusal.{badFrame}
+use Rattle.definition.specs.Cache040.{Cache040, flushed_frame}
+use Rattle.definition.specs.Refusal.{bad_frame}
 use Rattle.flush.proofs.Flushing as law
-use Rattle.definition.specs.Flush.{flushFrame}
+use Rattle.definition.specs.Flush.{flush_frame}
 use borrow.Author.Rules.{rules}
 use Rattle.flush.proofs.flush_frame_in.Statement.{statement}
 use Rattle.flush.proofs.flush_frame_in.Tie as tie
@@ -16,15 +16,15 @@ first-refusal-requires : tie.Need-first-refusal-requires
 first-refusal-requires c κs = search rules
 
 returns : tie.Need-returns
-unfolding flushFrame
-returns c = λ x. law.refused-040 (badFrame c.before.before.before.before.before.before.args.frame) x (λ (k : Cache040). flushedFrame k c.before.before.before.before.before.before.args.frame) (rw (← c.before.before.bad-frame.ensures) c.before.first-refusal.ensures) c.if1.true (search rules)
+unfolding flush_frame
+returns c = λ x. law.refused_040 (bad_frame c.before.before.before.before.before.before.args.frame) x (λ (k : Cache040). flushed_frame k c.before.before.before.before.before.before.args.frame) (rw (← c.before.before.bad-frame.ensures) c.before.first-refusal.ensures) c.if1.true (search rules)
 
 flush-frame-requires : tie.Need-flush-frame-requires
 flush-frame-requires c κs = search rules
 
 returns-2 : tie.Need-returns-2
-unfolding flushFrame
-returns-2 c = λ x. law.done-040 (badFrame c.before.before.before.before.before.before.before.before.args.frame) x (λ (k : Cache040). flushedFrame k c.before.before.before.before.before.before.before.before.args.frame) (rw (← c.before.before.before.before.bad-frame.ensures) c.before.before.before.first-refusal.ensures) c.before.before.if1.false c.flush-frame.ensures
+unfolding flush_frame
+returns-2 c = λ x. law.done_040 (bad_frame c.before.before.before.before.before.before.before.before.args.frame) x (λ (k : Cache040). flushed_frame k c.before.before.before.before.before.before.before.before.args.frame) (rw (← c.before.before.before.before.bad-frame.ensures) c.before.before.before.first-refusal.ensures) c.before.before.if1.false c.flush-frame.ensures
 
 pub flush-frame-in-spec : {M : Type 1} → statement M
 flush-frame-in-spec =

@@ -10,7 +10,7 @@ flush-number-requires : tie.Need-flush-number-requires
 flush-number-requires c κs = search rules
 
 returns : tie.Need-returns
-returns c = law.flushed-both c.before.flush-all-in.ensures c.flush-number.ensures
+returns c = law.flushed_both c.before.flush-all-in.ensures c.flush-number.ensures
 
 pub mmu-flush-all-spec : {M : Type 1} → statement M
 mmu-flush-all-spec = tie.close (tie.spec flush-all-in-requires flush-number-requires returns)

@@ -10,7 +10,7 @@ flush-number-requires : tie.Need-flush-number-requires
 flush-number-requires c κs = search rules
 
 returns : tie.Need-returns
-returns c = λ k. law.flushed-030 (c.before.flush-code-in.ensures k) c.flush-number.ensures
+returns c = λ k. law.flushed_030 (c.before.flush-code-in.ensures k) c.flush-number.ensures
 
 pub mmu-flush-code-spec : {M : Type 1} → statement M
 mmu-flush-code-spec = tie.close (tie.spec flush-code-in-requires flush-number-requires returns)

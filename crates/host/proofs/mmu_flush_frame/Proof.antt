@@ -10,7 +10,7 @@ flush-number-requires : tie.Need-flush-number-requires
 flush-number-requires c κs = search rules
 
 returns : tie.Need-returns
-returns c = λ k. law.flushed-040 (c.before.flush-frame-in.ensures k) c.flush-number.ensures
+returns c = λ k. law.flushed_040 (c.before.flush-frame-in.ensures k) c.flush-number.ensures
 
 pub mmu-flush-frame-spec : {M : Type 1} → statement M
 mmu-flush-frame-spec = tie.close (tie.spec flush-frame-in-requires flush-number-requires returns)

@@ -54,13 +54,13 @@ use Rattle.host.proofs.Telling as law
 use Rattle.definition.specs.Cache040.{Cache040}
 use Rattle.definition.specs.Load.{load as load_of}
 use Rattle.definition.specs.Memory.{memory}
-use Rattle.cache.specs.Atc030.{cacheOf}
-use Rattle.cache.specs.Pair.{pairWith}
-use Rattle.numbers.specs.Numbers.{registersOf, LoadedTo}
-use Rattle.numbers.specs.Numbers.{loadNumbers}
+use Rattle.cache.specs.Atc030.{cache_of}
+use Rattle.cache.specs.Pair.{pair_with}
+use Rattle.numbers.specs.Numbers.{registers_of, LoadedTo}
+use Rattle.numbers.specs.Numbers.{load_numbers}
 use Rattle.definition.specs.Refusal.{crossed}
 use Rattle.definition.specs.Words.{any_of}
-use Rattle.load.specs.Loaded.{loadGiven, shownLoaded, LoadedIn}
+use Rattle.load.specs.Loaded.{load_given, shown_loaded, LoadedIn}
 use Rattle.definition.specs.declared.Range.{Range}
 use Rattle.definition.specs.contracts.Range as row-Range
 use Rattle.definition.specs.declared.Registers.{Registers}
@@ -115,7 +115,7 @@ module _ {M : Type 1} {𝓤 : Ura M} (𝓛 : Logic 𝓤) (mem : Memory → SProp
   abbrev Post : Val → SProp 𝓤
   Post = (walk_of 𝓛 self.ended stayed (self.clauses 𝓛 mem run)).post (((κ0, (κ1, (κ2, (κ3, (κ4, tt))))), (q0, (q1, (q2, (q3, (q4, tt))))), tt, (x1, (x2, (x3, (x4, (x5, (x6, (x7, (x8, (x9, tt))))))))), at_entry), tt)
 
-  exits : (y1 : List ℕ) (y9 : List ℕ) (r : Unit {0}) (u : Val) → Is Nothing r (u ∷ []) → ((k : Cache040) → LoadedTo (load_of (registersOf x5.now) x6 x7 x8 (memory x2.now x3 x4.now) (pairWith (cacheOf x1.now) k)) (y9) (cacheOf (y1))) → ent 𝓤 (⋆ 𝓛 (‵ (flft κ0 q0) ∷ ‵ (flft κ1 q1) ∷ ‵ (flft κ2 q2) ∷ ‵ (flft κ3 q3) ∷ ‵ (flft κ4 q4) ∷ ‵ ((ShrSlice (named 1) κ1 u32).own_val x2 (slice_val x2.ref_ptr (length x2.now) ∷ [])) ∷ ‵ ((ShrSlice (named 2) κ2 row-Range.the_row).own_val x4 (slice_val x4.ref_ptr (length x4.now) ∷ [])) ∷ ‵ ((ShrRef (named 3) κ3 (Array u32 13)).own_val x5 (vptr x5.ref_ptr.0 x5.ref_ptr.1 ∷ [])) ∷ ‵ (fobs x1.ghost_name ((Array u64 69).coded.code y1)) ∷ ‵ (fbor κ0 (Behind (mem-of (Array u64 69)) x1.ref_ptr.0 x1.ref_ptr.1 x1.ghost_name)) ∷ ‵ (fobs x9.name ((Array u32 5).coded.code y9)) ∷ ‵ (fbor κ4 (Behind (mem-of (Array u32 5)) x9.ptr.0 x9.ptr.1 x9.name)) ∷ [])) (Post u)
+  exits : (y1 : List ℕ) (y9 : List ℕ) (r : Unit {0}) (u : Val) → Is Nothing r (u ∷ []) → ((k : Cache040) → LoadedTo (load_of (registers_of x5.now) x6 x7 x8 (memory x2.now x3 x4.now) (pair_with (cache_of x1.now) k)) (y9) (cache_of (y1))) → ent 𝓤 (⋆ 𝓛 (‵ (flft κ0 q0) ∷ ‵ (flft κ1 q1) ∷ ‵ (flft κ2 q2) ∷ ‵ (flft κ3 q3) ∷ ‵ (flft κ4 q4) ∷ ‵ ((ShrSlice (named 1) κ1 u32).own_val x2 (slice_val x2.ref_ptr (length x2.now) ∷ [])) ∷ ‵ ((ShrSlice (named 2) κ2 row-Range.the_row).own_val x4 (slice_val x4.ref_ptr (length x4.now) ∷ [])) ∷ ‵ ((ShrRef (named 3) κ3 (Array u32 13)).own_val x5 (vptr x5.ref_ptr.0 x5.ref_ptr.1 ∷ [])) ∷ ‵ (fobs x1.ghost_name ((Array u64 69).coded.code y1)) ∷ ‵ (fbor κ0 (Behind (mem-of (Array u64 69)) x1.ref_ptr.0 x1.ref_ptr.1 x1.ghost_name)) ∷ ‵ (fobs x9.name ((Array u32 5).coded.code y9)) ∷ ‵ (fbor κ4 (Behind (mem-of (Array u32 5)) x9.ptr.0 x9.ptr.1 x9.name)) ∷ [])) (Post u)
   exits y1 y9 r u is e =
       qed 𝓛 (‵ (flft κ0 q0) ∷ ‵ (flft κ1 q1) ∷ ‵ (flft κ2 q2) ∷ ‵ (flft κ3 q3) ∷ ‵ (flft κ4 q4) ∷ ‵ ((ShrSlice (named 1) κ1 u32).own_val x2 (slice_val x2.ref_ptr (length x2.now) ∷ [])) ∷ ‵ ((ShrSlice (named 2) κ2 row-Range.the_row).own_val x4 (slice_val x4.ref_ptr (length x4.now) ∷ [])) ∷ ‵ ((ShrRef (named 3) κ3 (Array u32 13)).own_val x5 (vptr x5.ptr.0 x5.ptr.1 ∷ [])) ∷ ‵ (fobs x1.name ((Array u64 69).coded.code y1)) ∷ ‵ (fbor κ0 (Behind (mem-of (Array u64 69)) x1.ptr.0 x1.ptr.1 x1.name)) ∷ ‵ (fobs x9.name ((Array u32 5).coded.code y9)) ∷ ‵ (fbor κ4 (Behind (mem-of (Array u32 5)) x9.ptr.0 x9.ptr.1 x9.name)) ∷ []) ∵
       suffices ! _ (ends_at 𝓛 self.ended stayed (self.clauses 𝓛 mem run) (((κ0, (κ1, (κ2, (κ3, (κ4, tt))))), (q0, (q1, (q2, (q3, (q4, tt))))), tt, (x1, (x2, (x3, (x4, (x5, (x6, (x7, (x8, (x9, tt))))))))), at_entry), tt) u r (y1, (tt, (tt, (tt, (tt, (tt, (tt, (tt, (y9, tt))))))))) (tt, (tt, (tt, (tt, (tt, (tt, (tt, (tt, (tt, tt)))))))))) $ says ! e $
@@ -129,8 +129,8 @@ module _ {M : Type 1} {𝓤 : Ura M} (𝓛 : Logic 𝓤) (mem : Memory → SProp
   goes-0 a0 v0 =
       qed 𝓛 (‵ (flft κ3 q3) ∷ ‵ ((ShrRef (named 0) κ3 (Array u32 13)).own_val a0 (v0 ∷ [])) ∷ []) ∵ nothing ! $ move ! (2 ∷ 0 ∷ []) $ fjoin ! $ nothing ! $ move ! (2 ∷ 0 ∷ []) $ join ! $ join ! $ frame ! $ done !
 
-  said-0 : (a0 : Bor (List ℕ)) (r : Registers) → ent 𝓤 (ensured 𝓛 c0.ended (c0.clauses 𝓛 mem run) (κ3, tt) (a0, tt) tt r) (fact 𝓤 (r ≡ registersOf a0.now))
-  said-0 a0 r = ex_e 𝓤 _ (λ ws. snd∗ 𝓤 (sem 𝓛 (lasts c0.ended (κ3, tt) (a0, tt) ws)) (fact 𝓤 (r ≡ registersOf a0.now)))
+  said-0 : (a0 : Bor (List ℕ)) (r : Registers) → ent 𝓤 (ensured 𝓛 c0.ended (c0.clauses 𝓛 mem run) (κ3, tt) (a0, tt) tt r) (fact 𝓤 (r ≡ registers_of a0.now))
+  said-0 a0 r = ex_e 𝓤 _ (λ ws. snd∗ 𝓤 (sem 𝓛 (lasts c0.ended (κ3, tt) (a0, tt) ws)) (fact 𝓤 (r ≡ registers_of a0.now)))
 
   -- the call of `ranges.any_crossed`: what it is passed, what it asks, and what is known of its result
   abbrev to-1 : (a0 : Bor (List Range)) (v0 : Val) → (C1 𝓛 mem run).Ghost
@@ -180,7 +180,7 @@ module _ {M : Type 1} {𝓤 : Ura M} (𝓛 : Logic 𝓤) (mem : Memory → SProp
         use1 𝓛 (‵ ((ShrRef (named 3) κ3 (Array u32 13)).own_val x5 (vptr x5.ptr.0 x5.ptr.1 ∷ [])) ⊛ ‵ ((ShrRef (named 3) κ3 (Array u32 13)).own_val x5 (vptr x5.ptr.0 x5.ptr.1 ∷ []))) ((shr_copy 𝓛 (named 3) κ3 (Array u32 13)).twice x5 _) $
         split ! $ move ! (3 ∷ 0 ∷ []) $ group ! 2 $ use1 𝓛 (raw ((C0 𝓛 mem run).pre (to-0 x5 (vptr x5.ptr.0 x5.ptr.1)))) (goes-0 x5 (vptr x5.ptr.0 x5.ptr.1)) $
         calls_at ! fm (C0 𝓛 mem run) known-0 (to-0 x5 (vptr x5.ptr.0 x5.ptr.1)) (and_then ! (load ! (from ! (stop !)) (look ! 32 refl)) (no_more !)) (λ val1.
-        use1 𝓛 (later (some (λ (r : Registers). ((‵ (flft κ3 q3) ⊛ ‵ ftrue) ⊛ ‵ ((row-Registers.the_row).own_val r (val1 ∷ []))) ⊛ raw (ensured 𝓛 c0.ended (c0.clauses 𝓛 mem run) (κ3, tt) (x5, tt) tt r)))) (id⊢ 𝓤 _) $ await ! tt $ choose ! (λ r2. split ! $ move ! (1 ∷ []) $ use1 𝓛 (raw (fact 𝓤 (r2 ≡ registersOf x5.now))) (said-0 x5 r2) $ heard ! (r2 ≡ registersOf x5.now) (λ e3. split ! $
+        use1 𝓛 (later (some (λ (r : Registers). ((‵ (flft κ3 q3) ⊛ ‵ ftrue) ⊛ ‵ ((row-Registers.the_row).own_val r (val1 ∷ []))) ⊛ raw (ensured 𝓛 c0.ended (c0.clauses 𝓛 mem run) (κ3, tt) (x5, tt) tt r)))) (id⊢ 𝓤 _) $ await ! tt $ choose ! (λ r2. split ! $ move ! (1 ∷ []) $ use1 𝓛 (raw (fact 𝓤 (r2 ≡ registers_of x5.now))) (said-0 x5 r2) $ heard ! (r2 ≡ registers_of x5.now) (λ e3. split ! $
         split ! $ move ! (1 ∷ []) $ drop ! $ move ! (1 ∷ []) $
         facts ! row-Registers.the_row (Is row-Registers.the_row) (shows 𝓛 row-Registers.the_row) r2 (val1 ∷ []) (λ is4. land ! (from ! (stop !)) (init ! 22 refl ((LL.lawful row-Registers.the_type law-Registers.the_laws 𝓛).typed r2 _ is4).0) $
         rewrite ! 22 (λ (u : Val). ‵ (fat full_share law-Registers.mir l10 0 u)) (ap only (LL.tells row-Registers.the_type law-Registers.the_laws r2 _ is4)) refl $ move ! (8 ∷ []) $
@@ -202,7 +202,7 @@ module _ {M : Type 1} {𝓤 : Ura M} (𝓛 : Logic 𝓤) (mem : Memory → SProp
         split ! $ move ! (6 ∷ 11 ∷ 7 ∷ 4 ∷ 2 ∷ 0 ∷ []) $ group ! 6 $
         use1 𝓛 (raw ((C2 𝓛 mem run).pre (to-2 (α5 ∷ []) full_share (record { ref_ptr = (x1.ref_ptr.0, x1.ref_ptr.1); ghost_name = δ9; now = x1.now }) (vptr x1.ref_ptr.0 x1.ref_ptr.1) x2 (slice_val x2.ref_ptr (length x2.now)) x3 (vint w32 x3) x4 (slice_val x4.ref_ptr (length x4.now)) r6 (vbool r6) r2 (LL.val row-Registers.the_type law-Registers.the_laws r2) x6 (vint w32 x6) x7 (vbool x7) x8 (vint w32 x8)))) (goes-2 (α5 ∷ []) full_share (record { ref_ptr = (x1.ref_ptr.0, x1.ref_ptr.1); ghost_name = δ9; now = x1.now }) (vptr x1.ref_ptr.0 x1.ref_ptr.1) x2 (slice_val x2.ref_ptr (length x2.now)) x3 (vint w32 x3) x4 (slice_val x4.ref_ptr (length x4.now)) r6 (vbool r6) r2 (LL.val row-Registers.the_type law-Registers.the_laws r2) x6 (vint w32 x6) x7 (vbool x7) x8 (vint w32 x8) i3 (subst (Is Boolean r6) (bool_Tells r6 _ is8) is8) (subst (Is row-Registers.the_row r2) (LL.tells row-Registers.the_type law-Registers.the_laws r2 _ is4) is4) i6 i7 i8) $
         calls_at ! fm (C2 𝓛 mem run) known-2 (to-2 (α5 ∷ []) full_share (record { ref_ptr = (x1.ref_ptr.0, x1.ref_ptr.1); ghost_name = δ9; now = x1.now }) (vptr x1.ref_ptr.0 x1.ref_ptr.1) x2 (slice_val x2.ref_ptr (length x2.now)) x3 (vint w32 x3) x4 (slice_val x4.ref_ptr (length x4.now)) r6 (vbool r6) r2 (LL.val row-Registers.the_type law-Registers.the_laws r2) x6 (vint w32 x6) x7 (vbool x7) x8 (vint w32 x8)) (and_then ! (load ! (from ! (stop !)) (look ! 13 refl)) (and_then ! (load ! (from ! (stop !)) (look ! 35 refl)) (and_then ! (load ! (from ! (stop !)) (look ! 33 refl)) (and_then ! (load ! (from ! (stop !)) (look ! 31 refl)) (and_then ! (load ! (from ! (stop !)) (look ! 17 refl)) (and_then ! (load ! (from ! (stop !)) (look ! 19 refl)) (and_then ! (load ! (from ! (stop !)) (look ! 27 refl)) (and_then ! (load ! (from ! (stop !)) (look ! 25 refl)) (and_then ! (load ! (from ! (stop !)) (look ! 23 refl)) (no_more !)))))))))) (λ val10.
-        use1 𝓛 (later (some (λ (r : LoadOutcome). ((‵ (flft (α5 ∷ []) full_share) ⊛ ‵ (flft κ1 q1) ⊛ ‵ (flft κ2 q2) ⊛ ‵ ftrue) ⊛ ‵ ((row-LoadOutcome.the_row).own_val r (val10 ∷ []))) ⊛ raw (ensured 𝓛 c2.ended (c2.clauses 𝓛 mem run) ((α5 ∷ []), (κ1, (κ2, tt))) ((record { ref_ptr = (x1.ref_ptr.0, x1.ref_ptr.1); ghost_name = δ9; now = x1.now }), (x2, (x3, (x4, (r6, (r2, (x6, (x7, (x8, tt))))))))) tt r)))) (id⊢ 𝓤 _) $ await ! tt $ choose ! (λ r11. split ! $ move ! (1 ∷ []) $ use1 𝓛 (some (λ (ws : Lasts c2.ended ((α5 ∷ []), (κ1, (κ2, tt))) ((record { ref_ptr = (x1.ref_ptr.0, x1.ref_ptr.1); ghost_name = δ9; now = x1.now }), (x2, (x3, (x4, (r6, (r2, (x6, (x7, (x8, tt)))))))))). ‵ (lasts c2.ended ((α5 ∷ []), (κ1, (κ2, tt))) ((record { ref_ptr = (x1.ref_ptr.0, x1.ref_ptr.1); ghost_name = δ9; now = x1.now }), (x2, (x3, (x4, (r6, (r2, (x6, (x7, (x8, tt))))))))) ws) ⊛ raw (fact 𝓤 (((k : Cache040) → LoadedIn (shownLoaded (loadGiven r6 r2 x6 x7 x8 (memory x2.now x3 x4.now) (pairWith (cacheOf (record { ref_ptr = (x1.ref_ptr.0, x1.ref_ptr.1); ghost_name = δ9; now = x1.now }).now) k))) r11.answer r11.count (ws.0)))))) (id⊢ 𝓤 _) $ choose ! (λ ws14. split ! $ move ! (1 ∷ []) $ heard ! (((k : Cache040) → LoadedIn (shownLoaded (loadGiven r6 r2 x6 x7 x8 (memory x2.now x3 x4.now) (pairWith (cacheOf (record { ref_ptr = (x1.ref_ptr.0, x1.ref_ptr.1); ghost_name = δ9; now = x1.now }).now) k))) r11.answer r11.count (ws14.0))) (λ e12.
+        use1 𝓛 (later (some (λ (r : LoadOutcome). ((‵ (flft (α5 ∷ []) full_share) ⊛ ‵ (flft κ1 q1) ⊛ ‵ (flft κ2 q2) ⊛ ‵ ftrue) ⊛ ‵ ((row-LoadOutcome.the_row).own_val r (val10 ∷ []))) ⊛ raw (ensured 𝓛 c2.ended (c2.clauses 𝓛 mem run) ((α5 ∷ []), (κ1, (κ2, tt))) ((record { ref_ptr = (x1.ref_ptr.0, x1.ref_ptr.1); ghost_name = δ9; now = x1.now }), (x2, (x3, (x4, (r6, (r2, (x6, (x7, (x8, tt))))))))) tt r)))) (id⊢ 𝓤 _) $ await ! tt $ choose ! (λ r11. split ! $ move ! (1 ∷ []) $ use1 𝓛 (some (λ (ws : Lasts c2.ended ((α5 ∷ []), (κ1, (κ2, tt))) ((record { ref_ptr = (x1.ref_ptr.0, x1.ref_ptr.1); ghost_name = δ9; now = x1.now }), (x2, (x3, (x4, (r6, (r2, (x6, (x7, (x8, tt)))))))))). ‵ (lasts c2.ended ((α5 ∷ []), (κ1, (κ2, tt))) ((record { ref_ptr = (x1.ref_ptr.0, x1.ref_ptr.1); ghost_name = δ9; now = x1.now }), (x2, (x3, (x4, (r6, (r2, (x6, (x7, (x8, tt))))))))) ws) ⊛ raw (fact 𝓤 (((k : Cache040) → LoadedIn (shown_loaded (load_given r6 r2 x6 x7 x8 (memory x2.now x3 x4.now) (pair_with (cache_of (record { ref_ptr = (x1.ref_ptr.0, x1.ref_ptr.1); ghost_name = δ9; now = x1.now }).now) k))) r11.answer r11.count (ws.0)))))) (id⊢ 𝓤 _) $ choose ! (λ ws14. split ! $ move ! (1 ∷ []) $ heard ! (((k : Cache040) → LoadedIn (shown_loaded (load_given r6 r2 x6 x7 x8 (memory x2.now x3 x4.now) (pair_with (cache_of (record { ref_ptr = (x1.ref_ptr.0, x1.ref_ptr.1); ghost_name = δ9; now = x1.now }).now) k))) r11.answer r11.count (ws14.0))) (λ e12.
         fsplit ! $ move ! (1 ∷ []) $ fsplit ! $ drop ! $ fsplit ! $ drop ! $ fsplit ! $ drop ! $ fsplit ! $ drop ! $ fsplit ! $ drop ! $ fsplit ! $ drop ! $ fsplit ! $ drop ! $
         fsplit ! $ drop ! $ drop ! $ move ! (1 ∷ []) $ split ! $ split ! $ move ! (1 ∷ []) $ split ! $ move ! (1 ∷ []) $ split ! $ move ! (1 ∷ []) $ drop ! $ move ! (3 ∷ []) $
         facts ! row-LoadOutcome.the_row (Is row-LoadOutcome.the_row) (shows 𝓛 row-LoadOutcome.the_row) r11 (val10 ∷ []) (λ is13. land ! (from ! (stop !)) (init ! 18 refl ((LL.lawful row-LoadOutcome.the_type law-LoadOutcome.the_laws 𝓛).typed r11 _ is13).0) $
@@ -215,7 +215,7 @@ module _ {M : Type 1} {𝓤 : Ura M} (𝓛 : Logic 𝓤) (mem : Memory → SProp
         move ! (2 ∷ 0 ∷ []) $ group ! 2 $
         use1 𝓛 (raw ((C3 𝓛 mem run).pre (to-3 (α6 ∷ []) full_share (record { ref_ptr = (x9.ref_ptr.0, x9.ref_ptr.1); ghost_name = δ15; now = x9.now }) (vptr x9.ref_ptr.0 x9.ref_ptr.1) r11 (LL.val row-LoadOutcome.the_type law-LoadOutcome.the_laws r11)))) (goes-3 (α6 ∷ []) full_share (record { ref_ptr = (x9.ref_ptr.0, x9.ref_ptr.1); ghost_name = δ15; now = x9.now }) (vptr x9.ref_ptr.0 x9.ref_ptr.1) r11 (LL.val row-LoadOutcome.the_type law-LoadOutcome.the_laws r11) (subst (Is row-LoadOutcome.the_row r11) (LL.tells row-LoadOutcome.the_type law-LoadOutcome.the_laws r11 _ is13) is13)) $
         calls_at ! fm (C3 𝓛 mem run) known-3 (to-3 (α6 ∷ []) full_share (record { ref_ptr = (x9.ref_ptr.0, x9.ref_ptr.1); ghost_name = δ15; now = x9.now }) (vptr x9.ref_ptr.0 x9.ref_ptr.1) r11 (LL.val row-LoadOutcome.the_type law-LoadOutcome.the_laws r11)) (and_then ! (load ! (from ! (stop !)) (look ! 11 refl)) (and_then ! (load ! (from ! (stop !)) (look ! 17 refl)) (no_more !))) (λ val16.
-        use1 𝓛 (later (some (λ (r : Unit {0}). ((‵ (flft (α6 ∷ []) full_share) ⊛ ‵ ftrue) ⊛ ‵ (Nothing.own r (val16 ∷ []))) ⊛ raw (ensured 𝓛 c3.ended (c3.clauses 𝓛 mem run) ((α6 ∷ []), tt) ((record { ref_ptr = (x9.ref_ptr.0, x9.ref_ptr.1); ghost_name = δ15; now = x9.now }), (r11, tt)) tt r)))) (id⊢ 𝓤 _) $ await ! tt $ choose ! (λ r17. split ! $ move ! (1 ∷ []) $ use1 𝓛 (some (λ (ws : Lasts c3.ended ((α6 ∷ []), tt) ((record { ref_ptr = (x9.ref_ptr.0, x9.ref_ptr.1); ghost_name = δ15; now = x9.now }), (r11, tt))). ‵ (lasts c3.ended ((α6 ∷ []), tt) ((record { ref_ptr = (x9.ref_ptr.0, x9.ref_ptr.1); ghost_name = δ15; now = x9.now }), (r11, tt)) ws) ⊛ raw (fact 𝓤 (ws.0 ≡ loadNumbers r11.answer r11.count)))) (id⊢ 𝓤 _) $ choose ! (λ ws20. split ! $ move ! (1 ∷ []) $ heard ! (ws20.0 ≡ loadNumbers r11.answer r11.count) (λ e18.
+        use1 𝓛 (later (some (λ (r : Unit {0}). ((‵ (flft (α6 ∷ []) full_share) ⊛ ‵ ftrue) ⊛ ‵ (Nothing.own r (val16 ∷ []))) ⊛ raw (ensured 𝓛 c3.ended (c3.clauses 𝓛 mem run) ((α6 ∷ []), tt) ((record { ref_ptr = (x9.ref_ptr.0, x9.ref_ptr.1); ghost_name = δ15; now = x9.now }), (r11, tt)) tt r)))) (id⊢ 𝓤 _) $ await ! tt $ choose ! (λ r17. split ! $ move ! (1 ∷ []) $ use1 𝓛 (some (λ (ws : Lasts c3.ended ((α6 ∷ []), tt) ((record { ref_ptr = (x9.ref_ptr.0, x9.ref_ptr.1); ghost_name = δ15; now = x9.now }), (r11, tt))). ‵ (lasts c3.ended ((α6 ∷ []), tt) ((record { ref_ptr = (x9.ref_ptr.0, x9.ref_ptr.1); ghost_name = δ15; now = x9.now }), (r11, tt)) ws) ⊛ raw (fact 𝓤 (ws.0 ≡ load_numbers r11.answer r11.count)))) (id⊢ 𝓤 _) $ choose ! (λ ws20. split ! $ move ! (1 ∷ []) $ heard ! (ws20.0 ≡ load_numbers r11.answer r11.count) (λ e18.
         fsplit ! $ move ! (1 ∷ []) $ fsplit ! $ drop ! $ drop ! $ move ! (1 ∷ []) $ split ! $ split ! $ move ! (1 ∷ []) $ drop ! $ move ! (1 ∷ []) $
         facts ! Nothing (Is Nothing) (shows 𝓛 Nothing) r17 (val16 ∷ []) (λ is19. land ! (from ! (stop !)) (init ! 14 refl ((Nothing-Lawful 𝓛).typed r17 _ is19).0) $
         rewrite ! 14 (λ (u : Val). ‵ (fat full_share ty_unit l14 0 u)) (ap only (Nothing-Tells r17 _ is19)) refl $ lft_end ! tt $ move ! (0 ∷ 2 ∷ 1 ∷ []) $

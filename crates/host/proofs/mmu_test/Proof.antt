@@ -53,11 +53,11 @@ use denote.Array.{Array}
 use Rattle.host.proofs.Telling as law
 use Rattle.definition.specs.Test.{test as test_of}
 use Rattle.definition.specs.Memory.{memory}
-use Rattle.numbers.specs.Numbers.{registersOf, testedNumbers}
-use Rattle.numbers.specs.Numbers.{testNumbers}
+use Rattle.numbers.specs.Numbers.{registers_of, tested_numbers}
+use Rattle.numbers.specs.Numbers.{test_numbers}
 use Rattle.definition.specs.Refusal.{crossed}
 use Rattle.definition.specs.Words.{any_of}
-use Rattle.test.specs.Tested.{testGiven, shownTested, TestedIn}
+use Rattle.test.specs.Tested.{test_given, shown_tested, TestedIn}
 use Rattle.definition.specs.declared.Range.{Range}
 use Rattle.definition.specs.contracts.Range as row-Range
 use Rattle.definition.specs.declared.Registers.{Registers}
@@ -112,7 +112,7 @@ module _ {M : Type 1} {𝓤 : Ura M} (𝓛 : Logic 𝓤) (mem : Memory → SProp
   abbrev Post : Val → SProp 𝓤
   Post = (walk_of 𝓛 self.ended stayed (self.clauses 𝓛 mem run)).post (((κ0, (κ1, (κ2, (κ3, tt)))), (q0, (q1, (q2, (q3, tt)))), tt, (x1, (x2, (x3, (x4, (x5, (x6, (x7, (x8, (x9, tt))))))))), at_entry), tt)
 
-  exits : (y9 : List ℕ) (r : Unit {0}) (u : Val) → Is Nothing r (u ∷ []) → (y9 ≡ testedNumbers (test_of (registersOf x4.now) x5 x6 x7 x8 (memory x1.now x2 x3.now))) → ent 𝓤 (⋆ 𝓛 (‵ (flft κ0 q0) ∷ ‵ (flft κ1 q1) ∷ ‵ (flft κ2 q2) ∷ ‵ (flft κ3 q3) ∷ ‵ ((ShrSlice (named 0) κ0 u32).own_val x1 (slice_val x1.ref_ptr (length x1.now) ∷ [])) ∷ ‵ ((ShrSlice (named 1) κ1 row-Range.the_row).own_val x3 (slice_val x3.ref_ptr (length x3.now) ∷ [])) ∷ ‵ ((ShrRef (named 2) κ2 (Array u32 13)).own_val x4 (vptr x4.ref_ptr.0 x4.ref_ptr.1 ∷ [])) ∷ ‵ (fobs x9.name ((Array u32 5).coded.code y9)) ∷ ‵ (fbor κ3 (Behind (mem-of (Array u32 5)) x9.ptr.0 x9.ptr.1 x9.name)) ∷ [])) (Post u)
+  exits : (y9 : List ℕ) (r : Unit {0}) (u : Val) → Is Nothing r (u ∷ []) → (y9 ≡ tested_numbers (test_of (registers_of x4.now) x5 x6 x7 x8 (memory x1.now x2 x3.now))) → ent 𝓤 (⋆ 𝓛 (‵ (flft κ0 q0) ∷ ‵ (flft κ1 q1) ∷ ‵ (flft κ2 q2) ∷ ‵ (flft κ3 q3) ∷ ‵ ((ShrSlice (named 0) κ0 u32).own_val x1 (slice_val x1.ref_ptr (length x1.now) ∷ [])) ∷ ‵ ((ShrSlice (named 1) κ1 row-Range.the_row).own_val x3 (slice_val x3.ref_ptr (length x3.now) ∷ [])) ∷ ‵ ((ShrRef (named 2) κ2 (Array u32 13)).own_val x4 (vptr x4.ref_ptr.0 x4.ref_ptr.1 ∷ [])) ∷ ‵ (fobs x9.name ((Array u32 5).coded.code y9)) ∷ ‵ (fbor κ3 (Behind (mem-of (Array u32 5)) x9.ptr.0 x9.ptr.1 x9.name)) ∷ [])) (Post u)
   exits y9 r u is e =
       qed 𝓛 (‵ (flft κ0 q0) ∷ ‵ (flft κ1 q1) ∷ ‵ (flft κ2 q2) ∷ ‵ (flft κ3 q3) ∷ ‵ ((ShrSlice (named 0) κ0 u32).own_val x1 (slice_val x1.ref_ptr (length x1.now) ∷ [])) ∷ ‵ ((ShrSlice (named 1) κ1 row-Range.the_row).own_val x3 (slice_val x3.ref_ptr (length x3.now) ∷ [])) ∷ ‵ ((ShrRef (named 2) κ2 (Array u32 13)).own_val x4 (vptr x4.ptr.0 x4.ptr.1 ∷ [])) ∷ ‵ (fobs x9.name ((Array u32 5).coded.code y9)) ∷ ‵ (fbor κ3 (Behind (mem-of (Array u32 5)) x9.ptr.0 x9.ptr.1 x9.name)) ∷ []) ∵
       suffices ! _ (ends_at 𝓛 self.ended stayed (self.clauses 𝓛 mem run) (((κ0, (κ1, (κ2, (κ3, tt)))), (q0, (q1, (q2, (q3, tt)))), tt, (x1, (x2, (x3, (x4, (x5, (x6, (x7, (x8, (x9, tt))))))))), at_entry), tt) u r (tt, (tt, (tt, (tt, (tt, (tt, (tt, (tt, (y9, tt))))))))) (tt, (tt, (tt, (tt, (tt, (tt, (tt, (tt, (tt, tt)))))))))) $ says ! e $
@@ -126,8 +126,8 @@ module _ {M : Type 1} {𝓤 : Ura M} (𝓛 : Logic 𝓤) (mem : Memory → SProp
   goes-0 a0 v0 =
       qed 𝓛 (‵ (flft κ2 q2) ∷ ‵ ((ShrRef (named 0) κ2 (Array u32 13)).own_val a0 (v0 ∷ [])) ∷ []) ∵ nothing ! $ move ! (2 ∷ 0 ∷ []) $ fjoin ! $ nothing ! $ move ! (2 ∷ 0 ∷ []) $ join ! $ join ! $ frame ! $ done !
 
-  said-0 : (a0 : Bor (List ℕ)) (r : Registers) → ent 𝓤 (ensured 𝓛 c0.ended (c0.clauses 𝓛 mem run) (κ2, tt) (a0, tt) tt r) (fact 𝓤 (r ≡ registersOf a0.now))
-  said-0 a0 r = ex_e 𝓤 _ (λ ws. snd∗ 𝓤 (sem 𝓛 (lasts c0.ended (κ2, tt) (a0, tt) ws)) (fact 𝓤 (r ≡ registersOf a0.now)))
+  said-0 : (a0 : Bor (List ℕ)) (r : Registers) → ent 𝓤 (ensured 𝓛 c0.ended (c0.clauses 𝓛 mem run) (κ2, tt) (a0, tt) tt r) (fact 𝓤 (r ≡ registers_of a0.now))
+  said-0 a0 r = ex_e 𝓤 _ (λ ws. snd∗ 𝓤 (sem 𝓛 (lasts c0.ended (κ2, tt) (a0, tt) ws)) (fact 𝓤 (r ≡ registers_of a0.now)))
 
   -- the call of `ranges.any_crossed`: what it is passed, what it asks, and what is known of its result
   abbrev to-1 : (a0 : Bor (List Range)) (v0 : Val) → (C1 𝓛 mem run).Ghost
@@ -148,8 +148,8 @@ module _ {M : Type 1} {𝓤 : Ura M} (𝓛 : Logic 𝓤) (mem : Memory → SProp
   goes-2 a0 v0 a1 v1 a2 v2 a3 v3 a4 v4 a5 v5 a6 v6 a7 v7 a8 v8 i1 i3 i4 i5 i6 i7 i8 =
       qed 𝓛 (‵ (flft κ0 q0) ∷ ‵ (flft κ1 q1) ∷ ‵ ((ShrSlice (named 0) κ0 u32).own_val a0 (v0 ∷ [])) ∷ ‵ ((ShrSlice (named 1) κ1 row-Range.the_row).own_val a2 (v2 ∷ [])) ∷ []) ∵ nothing ! $ owned ! u32 (Is u32) (uint_Makes 𝓛 w32) a8 _ i8 $ fjoin ! $ owned ! u32 (Is u32) (uint_Makes 𝓛 w32) a7 _ i7 $ fjoin ! $ owned ! Boolean (Is Boolean) (bool_Makes 𝓛) a6 _ i6 $ fjoin ! $ owned ! u32 (Is u32) (uint_Makes 𝓛 w32) a5 _ i5 $ fjoin ! $ owned ! row-Registers.the_row (Is row-Registers.the_row) (LL.makes row-Registers.the_type law-Registers.the_plain 𝓛) a4 _ i4 $ fjoin ! $ owned ! Boolean (Is Boolean) (bool_Makes 𝓛) a3 _ i3 $ fjoin ! $ move ! (4 ∷ 0 ∷ []) $ fjoin ! $ owned ! u32 (Is u32) (uint_Makes 𝓛 w32) a1 _ i1 $ fjoin ! $ move ! (3 ∷ 0 ∷ []) $ fjoin ! $ nothing ! $ move ! (3 ∷ 0 ∷ []) $ join ! $ move ! (2 ∷ 0 ∷ []) $ join ! $ join ! $ frame ! $ done !
 
-  said-2 : (a0 : Bor (List ℕ)) (a1 : ℕ) (a2 : Bor (List Range)) (a3 : Bool) (a4 : Registers) (a5 : ℕ) (a6 : Bool) (a7 : ℕ) (a8 : ℕ) (r : TestOutcome) → ent 𝓤 (ensured 𝓛 c2.ended (c2.clauses 𝓛 mem run) (κ0, (κ1, tt)) (a0, (a1, (a2, (a3, (a4, (a5, (a6, (a7, (a8, tt))))))))) tt r) (fact 𝓤 (TestedIn (shownTested (testGiven a3 a4 a5 a6 a7 a8 (memory a0.now a1 a2.now))) r.answer r.count))
-  said-2 a0 a1 a2 a3 a4 a5 a6 a7 a8 r = ex_e 𝓤 _ (λ ws. snd∗ 𝓤 (sem 𝓛 (lasts c2.ended (κ0, (κ1, tt)) (a0, (a1, (a2, (a3, (a4, (a5, (a6, (a7, (a8, tt))))))))) ws)) (fact 𝓤 (TestedIn (shownTested (testGiven a3 a4 a5 a6 a7 a8 (memory a0.now a1 a2.now))) r.answer r.count)))
+  said-2 : (a0 : Bor (List ℕ)) (a1 : ℕ) (a2 : Bor (List Range)) (a3 : Bool) (a4 : Registers) (a5 : ℕ) (a6 : Bool) (a7 : ℕ) (a8 : ℕ) (r : TestOutcome) → ent 𝓤 (ensured 𝓛 c2.ended (c2.clauses 𝓛 mem run) (κ0, (κ1, tt)) (a0, (a1, (a2, (a3, (a4, (a5, (a6, (a7, (a8, tt))))))))) tt r) (fact 𝓤 (TestedIn (shown_tested (test_given a3 a4 a5 a6 a7 a8 (memory a0.now a1 a2.now))) r.answer r.count))
+  said-2 a0 a1 a2 a3 a4 a5 a6 a7 a8 r = ex_e 𝓤 _ (λ ws. snd∗ 𝓤 (sem 𝓛 (lasts c2.ended (κ0, (κ1, tt)) (a0, (a1, (a2, (a3, (a4, (a5, (a6, (a7, (a8, tt))))))))) ws)) (fact 𝓤 (TestedIn (shown_tested (test_given a3 a4 a5 a6 a7 a8 (memory a0.now a1 a2.now))) r.answer r.count)))
 
   -- the call of `tell_test`: what it is passed, and what it asks
   abbrev to-3 : (κ4 : Lft) (q4 : Share) (a0 : Bor (List ℕ)) (v0 : Val) (a1 : TestOutcome) (v1 : Val) → (C3 𝓛 mem run).Ghost
@@ -180,7 +180,7 @@ module _ {M : Type 1} {𝓤 : Ura M} (𝓛 : Logic 𝓤) (mem : Memory → SProp
         use1 𝓛 (‵ ((ShrRef (named 2) κ2 (Array u32 13)).own_val x4 (vptr x4.ptr.0 x4.ptr.1 ∷ [])) ⊛ ‵ ((ShrRef (named 2) κ2 (Array u32 13)).own_val x4 (vptr x4.ptr.0 x4.ptr.1 ∷ []))) ((shr_copy 𝓛 (named 2) κ2 (Array u32 13)).twice x4 _) $
         split ! $ move ! (3 ∷ 0 ∷ []) $ group ! 2 $ use1 𝓛 (raw ((C0 𝓛 mem run).pre (to-0 x4 (vptr x4.ptr.0 x4.ptr.1)))) (goes-0 x4 (vptr x4.ptr.0 x4.ptr.1)) $
         calls_at ! fm (C0 𝓛 mem run) known-0 (to-0 x4 (vptr x4.ptr.0 x4.ptr.1)) (and_then ! (load ! (from ! (stop !)) (look ! 29 refl)) (no_more !)) (λ val1.
-        use1 𝓛 (later (some (λ (r : Registers). ((‵ (flft κ2 q2) ⊛ ‵ ftrue) ⊛ ‵ ((row-Registers.the_row).own_val r (val1 ∷ []))) ⊛ raw (ensured 𝓛 c0.ended (c0.clauses 𝓛 mem run) (κ2, tt) (x4, tt) tt r)))) (id⊢ 𝓤 _) $ await ! tt $ choose ! (λ r2. split ! $ move ! (1 ∷ []) $ use1 𝓛 (raw (fact 𝓤 (r2 ≡ registersOf x4.now))) (said-0 x4 r2) $ heard ! (r2 ≡ registersOf x4.now) (λ e3. split ! $
+        use1 𝓛 (later (some (λ (r : Registers). ((‵ (flft κ2 q2) ⊛ ‵ ftrue) ⊛ ‵ ((row-Registers.the_row).own_val r (val1 ∷ []))) ⊛ raw (ensured 𝓛 c0.ended (c0.clauses 𝓛 mem run) (κ2, tt) (x4, tt) tt r)))) (id⊢ 𝓤 _) $ await ! tt $ choose ! (λ r2. split ! $ move ! (1 ∷ []) $ use1 𝓛 (raw (fact 𝓤 (r2 ≡ registers_of x4.now))) (said-0 x4 r2) $ heard ! (r2 ≡ registers_of x4.now) (λ e3. split ! $
         split ! $ move ! (1 ∷ []) $ drop ! $ move ! (1 ∷ []) $
         facts ! row-Registers.the_row (Is row-Registers.the_row) (shows 𝓛 row-Registers.the_row) r2 (val1 ∷ []) (λ is4. land ! (from ! (stop !)) (init ! 17 refl ((LL.lawful row-Registers.the_type law-Registers.the_laws 𝓛).typed r2 _ is4).0) $
         rewrite ! 17 (λ (u : Val). ‵ (fat full_share law-Registers.mir l10 0 u)) (ap only (LL.tells row-Registers.the_type law-Registers.the_laws r2 _ is4)) refl $ move ! (7 ∷ []) $
@@ -198,7 +198,7 @@ module _ {M : Type 1} {𝓤 : Ura M} (𝓛 : Logic 𝓤) (mem : Memory → SProp
         split ! $ move ! (8 ∷ 4 ∷ 2 ∷ 0 ∷ []) $ group ! 4 $
         use1 𝓛 (raw ((C2 𝓛 mem run).pre (to-2 x1 (slice_val x1.ref_ptr (length x1.now)) x2 (vint w32 x2) x3 (slice_val x3.ref_ptr (length x3.now)) r6 (vbool r6) r2 (LL.val row-Registers.the_type law-Registers.the_laws r2) x5 (vint w32 x5) x6 (vbool x6) x7 (vint w32 x7) x8 (vint w32 x8)))) (goes-2 x1 (slice_val x1.ref_ptr (length x1.now)) x2 (vint w32 x2) x3 (slice_val x3.ref_ptr (length x3.now)) r6 (vbool r6) r2 (LL.val row-Registers.the_type law-Registers.the_laws r2) x5 (vint w32 x5) x6 (vbool x6) x7 (vint w32 x7) x8 (vint w32 x8) i2 (subst (Is Boolean r6) (bool_Tells r6 _ is8) is8) (subst (Is row-Registers.the_row r2) (LL.tells row-Registers.the_type law-Registers.the_laws r2 _ is4) is4) i5 i6 i7 i8) $
         calls_at ! fm (C2 𝓛 mem run) known-2 (to-2 x1 (slice_val x1.ref_ptr (length x1.now)) x2 (vint w32 x2) x3 (slice_val x3.ref_ptr (length x3.now)) r6 (vbool r6) r2 (LL.val row-Registers.the_type law-Registers.the_laws r2) x5 (vint w32 x5) x6 (vbool x6) x7 (vint w32 x7) x8 (vint w32 x8)) (and_then ! (load ! (from ! (stop !)) (look ! 34 refl)) (and_then ! (load ! (from ! (stop !)) (look ! 32 refl)) (and_then ! (load ! (from ! (stop !)) (look ! 30 refl)) (and_then ! (load ! (from ! (stop !)) (look ! 14 refl)) (and_then ! (load ! (from ! (stop !)) (look ! 16 refl)) (and_then ! (load ! (from ! (stop !)) (look ! 26 refl)) (and_then ! (load ! (from ! (stop !)) (look ! 24 refl)) (and_then ! (load ! (from ! (stop !)) (look ! 22 refl)) (and_then ! (load ! (from ! (stop !)) (look ! 20 refl)) (no_more !)))))))))) (λ val9.
-        use1 𝓛 (later (some (λ (r : TestOutcome). ((‵ (flft κ0 q0) ⊛ ‵ (flft κ1 q1) ⊛ ‵ ftrue) ⊛ ‵ ((row-TestOutcome.the_row).own_val r (val9 ∷ []))) ⊛ raw (ensured 𝓛 c2.ended (c2.clauses 𝓛 mem run) (κ0, (κ1, tt)) (x1, (x2, (x3, (r6, (r2, (x5, (x6, (x7, (x8, tt))))))))) tt r)))) (id⊢ 𝓤 _) $ await ! tt $ choose ! (λ r10. split ! $ move ! (1 ∷ []) $ use1 𝓛 (raw (fact 𝓤 (TestedIn (shownTested (testGiven r6 r2 x5 x6 x7 x8 (memory x1.now x2 x3.now))) r10.answer r10.count))) (said-2 x1 x2 x3 r6 r2 x5 x6 x7 x8 r10) $ heard ! (TestedIn (shownTested (testGiven r6 r2 x5 x6 x7 x8 (memory x1.now x2 x3.now))) r10.answer r10.count) (λ e11. split ! $
+        use1 𝓛 (later (some (λ (r : TestOutcome). ((‵ (flft κ0 q0) ⊛ ‵ (flft κ1 q1) ⊛ ‵ ftrue) ⊛ ‵ ((row-TestOutcome.the_row).own_val r (val9 ∷ []))) ⊛ raw (ensured 𝓛 c2.ended (c2.clauses 𝓛 mem run) (κ0, (κ1, tt)) (x1, (x2, (x3, (r6, (r2, (x5, (x6, (x7, (x8, tt))))))))) tt r)))) (id⊢ 𝓤 _) $ await ! tt $ choose ! (λ r10. split ! $ move ! (1 ∷ []) $ use1 𝓛 (raw (fact 𝓤 (TestedIn (shown_tested (test_given r6 r2 x5 x6 x7 x8 (memory x1.now x2 x3.now))) r10.answer r10.count))) (said-2 x1 x2 x3 r6 r2 x5 x6 x7 x8 r10) $ heard ! (TestedIn (shown_tested (test_given r6 r2 x5 x6 x7 x8 (memory x1.now x2 x3.now))) r10.answer r10.count) (λ e11. split ! $
         split ! $ move ! (1 ∷ []) $ split ! $ move ! (1 ∷ []) $ drop ! $ move ! (2 ∷ []) $
         facts ! row-TestOutcome.the_row (Is row-TestOutcome.the_row) (shows 𝓛 row-TestOutcome.the_row) r10 (val9 ∷ []) (λ is12. land ! (from ! (stop !)) (init ! 13 refl ((LL.lawful row-TestOutcome.the_type law-TestOutcome.the_laws 𝓛).typed r10 _ is12).0) $
         rewrite ! 13 (λ (u : Val). ‵ (fat full_share law-TestOutcome.mir l12 0 u)) (ap only (LL.tells row-TestOutcome.the_type law-TestOutcome.the_laws r10 _ is12)) refl $
@@ -208,7 +208,7 @@ module _ {M : Type 1} {𝓤 : Ura M} (𝓛 : Logic 𝓤) (mem : Memory → SProp
         move ! (2 ∷ 0 ∷ []) $ group ! 2 $
         use1 𝓛 (raw ((C3 𝓛 mem run).pre (to-3 (α4 ∷ []) full_share (record { ref_ptr = (x9.ref_ptr.0, x9.ref_ptr.1); ghost_name = δ13; now = x9.now }) (vptr x9.ref_ptr.0 x9.ref_ptr.1) r10 (LL.val row-TestOutcome.the_type law-TestOutcome.the_laws r10)))) (goes-3 (α4 ∷ []) full_share (record { ref_ptr = (x9.ref_ptr.0, x9.ref_ptr.1); ghost_name = δ13; now = x9.now }) (vptr x9.ref_ptr.0 x9.ref_ptr.1) r10 (LL.val row-TestOutcome.the_type law-TestOutcome.the_laws r10) (subst (Is row-TestOutcome.the_row r10) (LL.tells row-TestOutcome.the_type law-TestOutcome.the_laws r10 _ is12) is12)) $
         calls_at ! fm (C3 𝓛 mem run) known-3 (to-3 (α4 ∷ []) full_share (record { ref_ptr = (x9.ref_ptr.0, x9.ref_ptr.1); ghost_name = δ13; now = x9.now }) (vptr x9.ref_ptr.0 x9.ref_ptr.1) r10 (LL.val row-TestOutcome.the_type law-TestOutcome.the_laws r10)) (and_then ! (load ! (from ! (stop !)) (look ! 8 refl)) (and_then ! (load ! (from ! (stop !)) (look ! 12 refl)) (no_more !))) (λ val14.
-        use1 𝓛 (later (some (λ (r : Unit {0}). ((‵ (flft (α4 ∷ []) full_share) ⊛ ‵ ftrue) ⊛ ‵ (Nothing.own r (val14 ∷ []))) ⊛ raw (ensured 𝓛 c3.ended (c3.clauses 𝓛 mem run) ((α4 ∷ []), tt) ((record { ref_ptr = (x9.ref_ptr.0, x9.ref_ptr.1); ghost_name = δ13; now = x9.now }), (r10, tt)) tt r)))) (id⊢ 𝓤 _) $ await ! tt $ choose ! (λ r15. split ! $ move ! (1 ∷ []) $ use1 𝓛 (some (λ (ws : Lasts c3.ended ((α4 ∷ []), tt) ((record { ref_ptr = (x9.ref_ptr.0, x9.ref_ptr.1); ghost_name = δ13; now = x9.now }), (r10, tt))). ‵ (lasts c3.ended ((α4 ∷ []), tt) ((record { ref_ptr = (x9.ref_ptr.0, x9.ref_ptr.1); ghost_name = δ13; now = x9.now }), (r10, tt)) ws) ⊛ raw (fact 𝓤 (ws.0 ≡ testNumbers r10.answer r10.count)))) (id⊢ 𝓤 _) $ choose ! (λ ws18. split ! $ move ! (1 ∷ []) $ heard ! (ws18.0 ≡ testNumbers r10.answer r10.count) (λ e16.
+        use1 𝓛 (later (some (λ (r : Unit {0}). ((‵ (flft (α4 ∷ []) full_share) ⊛ ‵ ftrue) ⊛ ‵ (Nothing.own r (val14 ∷ []))) ⊛ raw (ensured 𝓛 c3.ended (c3.clauses 𝓛 mem run) ((α4 ∷ []), tt) ((record { ref_ptr = (x9.ref_ptr.0, x9.ref_ptr.1); ghost_name = δ13; now = x9.now }), (r10, tt)) tt r)))) (id⊢ 𝓤 _) $ await ! tt $ choose ! (λ r15. split ! $ move ! (1 ∷ []) $ use1 𝓛 (some (λ (ws : Lasts c3.ended ((α4 ∷ []), tt) ((record { ref_ptr = (x9.ref_ptr.0, x9.ref_ptr.1); ghost_name = δ13; now = x9.now }), (r10, tt))). ‵ (lasts c3.ended ((α4 ∷ []), tt) ((record { ref_ptr = (x9.ref_ptr.0, x9.ref_ptr.1); ghost_name = δ13; now = x9.now }), (r10, tt)) ws) ⊛ raw (fact 𝓤 (ws.0 ≡ test_numbers r10.answer r10.count)))) (id⊢ 𝓤 _) $ choose ! (λ ws18. split ! $ move ! (1 ∷ []) $ heard ! (ws18.0 ≡ test_numbers r10.answer r10.count) (λ e16.
         fsplit ! $ move ! (1 ∷ []) $ fsplit ! $ drop ! $ drop ! $ move ! (1 ∷ []) $ split ! $ split ! $ move ! (1 ∷ []) $ drop ! $ move ! (1 ∷ []) $
         facts ! Nothing (Is Nothing) (shows 𝓛 Nothing) r15 (val14 ∷ []) (λ is17. land ! (from ! (stop !)) (init ! 11 refl ((Nothing-Lawful 𝓛).typed r15 _ is17).0) $
         rewrite ! 11 (λ (u : Val). ‵ (fat full_share ty_unit l13 0 u)) (ap only (Nothing-Tells r15 _ is17)) refl $ lft_end ! tt $ move ! (0 ∷ 2 ∷ 1 ∷ []) $

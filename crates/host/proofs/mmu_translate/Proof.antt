@@ -53,12 +53,12 @@ use denote.Array.{Array}
 use Rattle.host.proofs.Telling as law
 use Rattle.definition.specs.Translate.{translate as translateOf}
 use Rattle.definition.specs.Memory.{memory}
-use Rattle.cache.specs.Pair.{cachesOf}
-use Rattle.numbers.specs.Numbers.{registersOf, accessOf, TranslatedTo}
-use Rattle.numbers.specs.Numbers.{translationNumbers}
+use Rattle.cache.specs.Pair.{caches_of}
+use Rattle.numbers.specs.Numbers.{registers_of, access_of, TranslatedTo}
+use Rattle.numbers.specs.Numbers.{translation_numbers}
 use Rattle.definition.specs.Refusal.{crossed}
 use Rattle.definition.specs.Words.{any_of}
-use Rattle.translate.specs.Stages.{shownTranslated, translateGiven}
+use Rattle.translate.specs.Stages.{shown_translated, translate_given}
 use Rattle.translate.specs.InPlace.{AnsweredIn}
 use Rattle.definition.specs.declared.Access.{Access}
 use Rattle.definition.specs.contracts.Access as row-Access
@@ -124,7 +124,7 @@ module _ {M : Type 1} {𝓤 : Ura M} (𝓛 : Logic 𝓤) (mem : Memory → SProp
   abbrev Post : Val → SProp 𝓤
   Post = (walk_of 𝓛 self.ended stayed (self.clauses 𝓛 mem run)).post (((κ0, (κ1, (κ2, (κ3, (κ4, (κ5, tt)))))), (q0, (q1, (q2, (q3, (q4, (q5, tt)))))), tt, (x1, (x2, (x3, (x4, (x5, (x6, (x7, (x8, (x9, (x10, tt)))))))))), at_entry), tt)
 
-  exits : (y1 : List ℕ) (y2 : List ℕ) (y10 : List ℕ) (r : Unit {0}) (u : Val) → Is Nothing r (u ∷ []) → (TranslatedTo (translateOf (registersOf x6.now) (accessOf x7 x8 x9) (memory x3.now x4 x5.now) (cachesOf x1.now x2.now)) (y10) (cachesOf (y1) (y2))) → ent 𝓤 (⋆ 𝓛 (‵ (flft κ0 q0) ∷ ‵ (flft κ1 q1) ∷ ‵ (flft κ2 q2) ∷ ‵ (flft κ3 q3) ∷ ‵ (flft κ4 q4) ∷ ‵ (flft κ5 q5) ∷ ‵ ((ShrSlice (named 2) κ2 u32).own_val x3 (slice_val x3.ref_ptr (length x3.now) ∷ [])) ∷ ‵ ((ShrSlice (named 3) κ3 row-Range.the_row).own_val x5 (slice_val x5.ref_ptr (length x5.now) ∷ [])) ∷ ‵ ((ShrRef (named 4) κ4 (Array u32 13)).own_val x6 (vptr x6.ref_ptr.0 x6.ref_ptr.1 ∷ [])) ∷ ‵ (fobs x1.ghost_name ((Array u64 69).coded.code y1)) ∷ ‵ (fbor κ0 (Behind (mem-of (Array u64 69)) x1.ref_ptr.0 x1.ref_ptr.1 x1.ghost_name)) ∷ ‵ (fobs x2.ghost_name ((Array u64 128).coded.code y2)) ∷ ‵ (fbor κ1 (Behind (mem-of (Array u64 128)) x2.ref_ptr.0 x2.ref_ptr.1 x2.ghost_name)) ∷ ‵ (fobs x10.name ((Array u32 5).coded.code y10)) ∷ ‵ (fbor κ5 (Behind (mem-of (Array u32 5)) x10.ptr.0 x10.ptr.1 x10.name)) ∷ [])) (Post u)
+  exits : (y1 : List ℕ) (y2 : List ℕ) (y10 : List ℕ) (r : Unit {0}) (u : Val) → Is Nothing r (u ∷ []) → (TranslatedTo (translateOf (registers_of x6.now) (access_of x7 x8 x9) (memory x3.now x4 x5.now) (caches_of x1.now x2.now)) (y10) (caches_of (y1) (y2))) → ent 𝓤 (⋆ 𝓛 (‵ (flft κ0 q0) ∷ ‵ (flft κ1 q1) ∷ ‵ (flft κ2 q2) ∷ ‵ (flft κ3 q3) ∷ ‵ (flft κ4 q4) ∷ ‵ (flft κ5 q5) ∷ ‵ ((ShrSlice (named 2) κ2 u32).own_val x3 (slice_val x3.ref_ptr (length x3.now) ∷ [])) ∷ ‵ ((ShrSlice (named 3) κ3 row-Range.the_row).own_val x5 (slice_val x5.ref_ptr (length x5.now) ∷ [])) ∷ ‵ ((ShrRef (named 4) κ4 (Array u32 13)).own_val x6 (vptr x6.ref_ptr.0 x6.ref_ptr.1 ∷ [])) ∷ ‵ (fobs x1.ghost_name ((Array u64 69).coded.code y1)) ∷ ‵ (fbor κ0 (Behind (mem-of (Array u64 69)) x1.ref_ptr.0 x1.ref_ptr.1 x1.ghost_name)) ∷ ‵ (fobs x2.ghost_name ((Array u64 128).coded.code y2)) ∷ ‵ (fbor κ1 (Behind (mem-of (Array u64 128)) x2.ref_ptr.0 x2.ref_ptr.1 x2.ghost_name)) ∷ ‵ (fobs x10.name ((Array u32 5).coded.code y10)) ∷ ‵ (fbor κ5 (Behind (mem-of (Array u32 5)) x10.ptr.0 x10.ptr.1 x10.name)) ∷ [])) (Post u)
   exits y1 y2 y10 r u is e =
       qed 𝓛 (‵ (flft κ0 q0) ∷ ‵ (flft κ1 q1) ∷ ‵ (flft κ2 q2) ∷ ‵ (flft κ3 q3) ∷ ‵ (flft κ4 q4) ∷ ‵ (flft κ5 q5) ∷ ‵ ((ShrSlice (named 2) κ2 u32).own_val x3 (slice_val x3.ref_ptr (length x3.now) ∷ [])) ∷ ‵ ((ShrSlice (named 3) κ3 row-Range.the_row).own_val x5 (slice_val x5.ref_ptr (length x5.now) ∷ [])) ∷ ‵ ((ShrRef (named 4) κ4 (Array u32 13)).own_val x6 (vptr x6.ptr.0 x6.ptr.1 ∷ [])) ∷ ‵ (fobs x1.name ((Array u64 69).coded.code y1)) ∷ ‵ (fbor κ0 (Behind (mem-of (Array u64 69)) x1.ptr.0 x1.ptr.1 x1.name)) ∷ ‵ (fobs x2.name ((Array u64 128).coded.code y2)) ∷ ‵ (fbor κ1 (Behind (mem-of (Array u64 128)) x2.ptr.0 x2.ptr.1 x2.name)) ∷ ‵ (fobs x10.name ((Array u32 5).coded.code y10)) ∷ ‵ (fbor κ5 (Behind (mem-of (Array u32 5)) x10.ptr.0 x10.ptr.1 x10.name)) ∷ []) ∵
       suffices ! _ (ends_at 𝓛 self.ended stayed (self.clauses 𝓛 mem run) (((κ0, (κ1, (κ2, (κ3, (κ4, (κ5, tt)))))), (q0, (q1, (q2, (q3, (q4, (q5, tt)))))), tt, (x1, (x2, (x3, (x4, (x5, (x6, (x7, (x8, (x9, (x10, tt)))))))))), at_entry), tt) u r (y1, (y2, (tt, (tt, (tt, (tt, (tt, (tt, (tt, (y10, tt)))))))))) (tt, (tt, (tt, (tt, (tt, (tt, (tt, (tt, (tt, (tt, tt))))))))))) $ says ! e $
@@ -138,8 +138,8 @@ module _ {M : Type 1} {𝓤 : Ura M} (𝓛 : Logic 𝓤) (mem : Memory → SProp
   goes-0 a0 v0 =
       qed 𝓛 (‵ (flft κ4 q4) ∷ ‵ ((ShrRef (named 0) κ4 (Array u32 13)).own_val a0 (v0 ∷ [])) ∷ []) ∵ nothing ! $ move ! (2 ∷ 0 ∷ []) $ fjoin ! $ nothing ! $ move ! (2 ∷ 0 ∷ []) $ join ! $ join ! $ frame ! $ done !
 
-  said-0 : (a0 : Bor (List ℕ)) (r : Registers) → ent 𝓤 (ensured 𝓛 c0.ended (c0.clauses 𝓛 mem run) (κ4, tt) (a0, tt) tt r) (fact 𝓤 (r ≡ registersOf a0.now))
-  said-0 a0 r = ex_e 𝓤 _ (λ ws. snd∗ 𝓤 (sem 𝓛 (lasts c0.ended (κ4, tt) (a0, tt) ws)) (fact 𝓤 (r ≡ registersOf a0.now)))
+  said-0 : (a0 : Bor (List ℕ)) (r : Registers) → ent 𝓤 (ensured 𝓛 c0.ended (c0.clauses 𝓛 mem run) (κ4, tt) (a0, tt) tt r) (fact 𝓤 (r ≡ registers_of a0.now))
+  said-0 a0 r = ex_e 𝓤 _ (λ ws. snd∗ 𝓤 (sem 𝓛 (lasts c0.ended (κ4, tt) (a0, tt) ws)) (fact 𝓤 (r ≡ registers_of a0.now)))
 
   -- the call of `access_of`: what it is passed, what it asks, and what is known of its result
   abbrev to-1 : (a0 : ℕ) (v0 : Val) (a1 : ℕ) (v1 : Val) (a2 : ℕ) (v2 : Val) → (C1 𝓛 mem run).Ghost
@@ -149,8 +149,8 @@ module _ {M : Type 1} {𝓤 : Ura M} (𝓛 : Logic 𝓤) (mem : Memory → SProp
   goes-1 a0 v0 a1 v1 a2 v2 i0 i1 i2 =
       qed 𝓛 ([]) ∵ nothing ! $ owned ! u32 (Is u32) (uint_Makes 𝓛 w32) a2 _ i2 $ fjoin ! $ owned ! u32 (Is u32) (uint_Makes 𝓛 w32) a1 _ i1 $ fjoin ! $ owned ! u32 (Is u32) (uint_Makes 𝓛 w32) a0 _ i0 $ fjoin ! $ nothing ! $ join ! $ frame ! $ done !
 
-  said-1 : (a0 : ℕ) (a1 : ℕ) (a2 : ℕ) (r : Access) → ent 𝓤 (ensured 𝓛 c1.ended (c1.clauses 𝓛 mem run) tt (a0, (a1, (a2, tt))) tt r) (fact 𝓤 (r ≡ accessOf a0 a1 a2))
-  said-1 a0 a1 a2 r = ex_e 𝓤 _ (λ ws. snd∗ 𝓤 (sem 𝓛 (lasts c1.ended tt (a0, (a1, (a2, tt))) ws)) (fact 𝓤 (r ≡ accessOf a0 a1 a2)))
+  said-1 : (a0 : ℕ) (a1 : ℕ) (a2 : ℕ) (r : Access) → ent 𝓤 (ensured 𝓛 c1.ended (c1.clauses 𝓛 mem run) tt (a0, (a1, (a2, tt))) tt r) (fact 𝓤 (r ≡ access_of a0 a1 a2))
+  said-1 a0 a1 a2 r = ex_e 𝓤 _ (λ ws. snd∗ 𝓤 (sem 𝓛 (lasts c1.ended tt (a0, (a1, (a2, tt))) ws)) (fact 𝓤 (r ≡ access_of a0 a1 a2)))
 
   -- the call of `ranges.any_crossed`: what it is passed, what it asks, and what is known of its result
   abbrev to-2 : (a0 : Bor (List Range)) (v0 : Val) → (C2 𝓛 mem run).Ghost
@@ -201,13 +201,13 @@ module _ {M : Type 1} {𝓤 : Ura M} (𝓛 : Logic 𝓤) (mem : Memory → SProp
         use1 𝓛 (‵ ((ShrRef (named 4) κ4 (Array u32 13)).own_val x6 (vptr x6.ptr.0 x6.ptr.1 ∷ [])) ⊛ ‵ ((ShrRef (named 4) κ4 (Array u32 13)).own_val x6 (vptr x6.ptr.0 x6.ptr.1 ∷ []))) ((shr_copy 𝓛 (named 4) κ4 (Array u32 13)).twice x6 _) $
         split ! $ move ! (3 ∷ 0 ∷ []) $ group ! 2 $ use1 𝓛 (raw ((C0 𝓛 mem run).pre (to-0 x6 (vptr x6.ptr.0 x6.ptr.1)))) (goes-0 x6 (vptr x6.ptr.0 x6.ptr.1)) $
         calls_at ! fm (C0 𝓛 mem run) known-0 (to-0 x6 (vptr x6.ptr.0 x6.ptr.1)) (and_then ! (load ! (from ! (stop !)) (look ! 39 refl)) (no_more !)) (λ val1.
-        use1 𝓛 (later (some (λ (r : Registers). ((‵ (flft κ4 q4) ⊛ ‵ ftrue) ⊛ ‵ ((row-Registers.the_row).own_val r (val1 ∷ []))) ⊛ raw (ensured 𝓛 c0.ended (c0.clauses 𝓛 mem run) (κ4, tt) (x6, tt) tt r)))) (id⊢ 𝓤 _) $ await ! tt $ choose ! (λ r2. split ! $ move ! (1 ∷ []) $ use1 𝓛 (raw (fact 𝓤 (r2 ≡ registersOf x6.now))) (said-0 x6 r2) $ heard ! (r2 ≡ registersOf x6.now) (λ e3. split ! $
+        use1 𝓛 (later (some (λ (r : Registers). ((‵ (flft κ4 q4) ⊛ ‵ ftrue) ⊛ ‵ ((row-Registers.the_row).own_val r (val1 ∷ []))) ⊛ raw (ensured 𝓛 c0.ended (c0.clauses 𝓛 mem run) (κ4, tt) (x6, tt) tt r)))) (id⊢ 𝓤 _) $ await ! tt $ choose ! (λ r2. split ! $ move ! (1 ∷ []) $ use1 𝓛 (raw (fact 𝓤 (r2 ≡ registers_of x6.now))) (said-0 x6 r2) $ heard ! (r2 ≡ registers_of x6.now) (λ e3. split ! $
         split ! $ move ! (1 ∷ []) $ drop ! $ move ! (1 ∷ []) $
         facts ! row-Registers.the_row (Is row-Registers.the_row) (shows 𝓛 row-Registers.the_row) r2 (val1 ∷ []) (λ is4. land ! (from ! (stop !)) (init ! 29 refl ((LL.lawful row-Registers.the_type law-Registers.the_laws 𝓛).typed r2 _ is4).0) $
         rewrite ! 29 (λ (u : Val). ‵ (fat full_share law-Registers.mir l11 0 u)) (ap only (LL.tells row-Registers.the_type law-Registers.the_laws r2 _ is4)) refl $
         use0 𝓛 (raw ((C1 𝓛 mem run).pre (to-1 x7 (vint w32 x7) x8 (vint w32 x8) x9 (vint w32 x9)))) (goes-1 x7 (vint w32 x7) x8 (vint w32 x8) x9 (vint w32 x9) i7 i8 i9) $
         calls_at ! fm (C1 𝓛 mem run) known-1 (to-1 x7 (vint w32 x7) x8 (vint w32 x8) x9 (vint w32 x9)) (and_then ! (load ! (from ! (stop !)) (look ! 38 refl)) (and_then ! (load ! (from ! (stop !)) (look ! 36 refl)) (and_then ! (load ! (from ! (stop !)) (look ! 34 refl)) (no_more !)))) (λ val5.
-        use1 𝓛 (later (some (λ (r : Access). (‵ ftrue ⊛ ‵ ((row-Access.the_row).own_val r (val5 ∷ []))) ⊛ raw (ensured 𝓛 c1.ended (c1.clauses 𝓛 mem run) tt (x7, (x8, (x9, tt))) tt r)))) (id⊢ 𝓤 _) $ await ! tt $ choose ! (λ r6. split ! $ move ! (1 ∷ []) $ use1 𝓛 (raw (fact 𝓤 (r6 ≡ accessOf x7 x8 x9))) (said-1 x7 x8 x9 r6) $ heard ! (r6 ≡ accessOf x7 x8 x9) (λ e7. split ! $
+        use1 𝓛 (later (some (λ (r : Access). (‵ ftrue ⊛ ‵ ((row-Access.the_row).own_val r (val5 ∷ []))) ⊛ raw (ensured 𝓛 c1.ended (c1.clauses 𝓛 mem run) tt (x7, (x8, (x9, tt))) tt r)))) (id⊢ 𝓤 _) $ await ! tt $ choose ! (λ r6. split ! $ move ! (1 ∷ []) $ use1 𝓛 (raw (fact 𝓤 (r6 ≡ access_of x7 x8 x9))) (said-1 x7 x8 x9 r6) $ heard ! (r6 ≡ access_of x7 x8 x9) (λ e7. split ! $
         drop ! $
         facts ! row-Access.the_row (Is row-Access.the_row) (shows 𝓛 row-Access.the_row) r6 (val5 ∷ []) (λ is8. land ! (from ! (stop !)) (init ! 27 refl ((LL.lawful row-Access.the_type law-Access.the_laws 𝓛).typed r6 _ is8).0) $
         rewrite ! 27 (λ (u : Val). ‵ (fat full_share law-Access.mir l12 0 u)) (ap only (LL.tells row-Access.the_type law-Access.the_laws r6 _ is8)) refl $ move ! (9 ∷ []) $
@@ -233,7 +233,7 @@ module _ {M : Type 1} {𝓤 : Ura M} (𝓛 : Logic 𝓤) (mem : Memory → SProp
         split ! $ move ! (9 ∷ 6 ∷ 14 ∷ 10 ∷ 7 ∷ 4 ∷ 2 ∷ 0 ∷ []) $ group ! 8 $
         use1 𝓛 (raw ((C3 𝓛 mem run).pre (to-3 (α6 ∷ []) full_share (α7 ∷ []) full_share (record { ref_ptr = (x1.ref_ptr.0, x1.ref_ptr.1); ghost_name = δ13; now = x1.now }) (vptr x1.ref_ptr.0 x1.ref_ptr.1) (record { ref_ptr = (x2.ref_ptr.0, x2.ref_ptr.1); ghost_name = δ14; now = x2.now }) (vptr x2.ref_ptr.0 x2.ref_ptr.1) x3 (slice_val x3.ref_ptr (length x3.now)) x4 (vint w32 x4) x5 (slice_val x5.ref_ptr (length x5.now)) r10 (vbool r10) r2 (LL.val row-Registers.the_type law-Registers.the_laws r2) r6 (LL.val row-Access.the_type law-Access.the_laws r6)))) (goes-3 (α6 ∷ []) full_share (α7 ∷ []) full_share (record { ref_ptr = (x1.ref_ptr.0, x1.ref_ptr.1); ghost_name = δ13; now = x1.now }) (vptr x1.ref_ptr.0 x1.ref_ptr.1) (record { ref_ptr = (x2.ref_ptr.0, x2.ref_ptr.1); ghost_name = δ14; now = x2.now }) (vptr x2.ref_ptr.0 x2.ref_ptr.1) x3 (slice_val x3.ref_ptr (length x3.now)) x4 (vint w32 x4) x5 (slice_val x5.ref_ptr (length x5.now)) r10 (vbool r10) r2 (LL.val row-Registers.the_type law-Registers.the_laws r2) r6 (LL.val row-Access.the_type law-Access.the_laws r6) i4 (subst (Is Boolean r10) (bool_Tells r10 _ is12) is12) (subst (Is row-Registers.the_row r2) (LL.tells row-Registers.the_type law-Registers.the_laws r2 _ is4) is4) (subst (Is row-Access.the_row r6) (LL.tells row-Access.the_type law-Access.the_laws r6 _ is8) is8)) $
         calls_at ! fm (C3 𝓛 mem run) known-3 (to-3 (α6 ∷ []) full_share (α7 ∷ []) full_share (record { ref_ptr = (x1.ref_ptr.0, x1.ref_ptr.1); ghost_name = δ13; now = x1.now }) (vptr x1.ref_ptr.0 x1.ref_ptr.1) (record { ref_ptr = (x2.ref_ptr.0, x2.ref_ptr.1); ghost_name = δ14; now = x2.now }) (vptr x2.ref_ptr.0 x2.ref_ptr.1) x3 (slice_val x3.ref_ptr (length x3.now)) x4 (vint w32 x4) x5 (slice_val x5.ref_ptr (length x5.now)) r10 (vbool r10) r2 (LL.val row-Registers.the_type law-Registers.the_laws r2) r6 (LL.val row-Access.the_type law-Access.the_laws r6)) (and_then ! (load ! (from ! (stop !)) (look ! 16 refl)) (and_then ! (load ! (from ! (stop !)) (look ! 14 refl)) (and_then ! (load ! (from ! (stop !)) (look ! 40 refl)) (and_then ! (load ! (from ! (stop !)) (look ! 38 refl)) (and_then ! (load ! (from ! (stop !)) (look ! 36 refl)) (and_then ! (load ! (from ! (stop !)) (look ! 20 refl)) (and_then ! (load ! (from ! (stop !)) (look ! 24 refl)) (and_then ! (load ! (from ! (stop !)) (look ! 22 refl)) (no_more !))))))))) (λ val15.
-        use1 𝓛 (later (some (λ (r : Outcome). ((‵ (flft (α6 ∷ []) full_share) ⊛ ‵ (flft (α7 ∷ []) full_share) ⊛ ‵ (flft κ2 q2) ⊛ ‵ (flft κ3 q3) ⊛ ‵ ftrue) ⊛ ‵ ((row-Outcome.the_row).own_val r (val15 ∷ []))) ⊛ raw (ensured 𝓛 c3.ended (c3.clauses 𝓛 mem run) ((α6 ∷ []), ((α7 ∷ []), (κ2, (κ3, tt)))) ((record { ref_ptr = (x1.ref_ptr.0, x1.ref_ptr.1); ghost_name = δ13; now = x1.now }), ((record { ref_ptr = (x2.ref_ptr.0, x2.ref_ptr.1); ghost_name = δ14; now = x2.now }), (x3, (x4, (x5, (r10, (r2, (r6, tt)))))))) tt r)))) (id⊢ 𝓤 _) $ await ! tt $ choose ! (λ r16. split ! $ move ! (1 ∷ []) $ use1 𝓛 (some (λ (ws : Lasts c3.ended ((α6 ∷ []), ((α7 ∷ []), (κ2, (κ3, tt)))) ((record { ref_ptr = (x1.ref_ptr.0, x1.ref_ptr.1); ghost_name = δ13; now = x1.now }), ((record { ref_ptr = (x2.ref_ptr.0, x2.ref_ptr.1); ghost_name = δ14; now = x2.now }), (x3, (x4, (x5, (r10, (r2, (r6, tt))))))))). ‵ (lasts c3.ended ((α6 ∷ []), ((α7 ∷ []), (κ2, (κ3, tt)))) ((record { ref_ptr = (x1.ref_ptr.0, x1.ref_ptr.1); ghost_name = δ13; now = x1.now }), ((record { ref_ptr = (x2.ref_ptr.0, x2.ref_ptr.1); ghost_name = δ14; now = x2.now }), (x3, (x4, (x5, (r10, (r2, (r6, tt)))))))) ws) ⊛ raw (fact 𝓤 (AnsweredIn (shownTranslated (translateGiven r10 r2 r6 (memory x3.now x4 x5.now) (cachesOf (record { ref_ptr = (x1.ref_ptr.0, x1.ref_ptr.1); ghost_name = δ13; now = x1.now }).now (record { ref_ptr = (x2.ref_ptr.0, x2.ref_ptr.1); ghost_name = δ14; now = x2.now }).now))) r16.answer r16.count (ws.0) (ws.1.0))))) (id⊢ 𝓤 _) $ choose ! (λ ws19. split ! $ move ! (1 ∷ []) $ heard ! (AnsweredIn (shownTranslated (translateGiven r10 r2 r6 (memory x3.now x4 x5.now) (cachesOf (record { ref_ptr = (x1.ref_ptr.0, x1.ref_ptr.1); ghost_name = δ13; now = x1.now }).now (record { ref_ptr = (x2.ref_ptr.0, x2.ref_ptr.1); ghost_name = δ14; now = x2.now }).now))) r16.answer r16.count (ws19.0) (ws19.1.0)) (λ e17.
+        use1 𝓛 (later (some (λ (r : Outcome). ((‵ (flft (α6 ∷ []) full_share) ⊛ ‵ (flft (α7 ∷ []) full_share) ⊛ ‵ (flft κ2 q2) ⊛ ‵ (flft κ3 q3) ⊛ ‵ ftrue) ⊛ ‵ ((row-Outcome.the_row).own_val r (val15 ∷ []))) ⊛ raw (ensured 𝓛 c3.ended (c3.clauses 𝓛 mem run) ((α6 ∷ []), ((α7 ∷ []), (κ2, (κ3, tt)))) ((record { ref_ptr = (x1.ref_ptr.0, x1.ref_ptr.1); ghost_name = δ13; now = x1.now }), ((record { ref_ptr = (x2.ref_ptr.0, x2.ref_ptr.1); ghost_name = δ14; now = x2.now }), (x3, (x4, (x5, (r10, (r2, (r6, tt)))))))) tt r)))) (id⊢ 𝓤 _) $ await ! tt $ choose ! (λ r16. split ! $ move ! (1 ∷ []) $ use1 𝓛 (some (λ (ws : Lasts c3.ended ((α6 ∷ []), ((α7 ∷ []), (κ2, (κ3, tt)))) ((record { ref_ptr = (x1.ref_ptr.0, x1.ref_ptr.1); ghost_name = δ13; now = x1.now }), ((record { ref_ptr = (x2.ref_ptr.0, x2.ref_ptr.1); ghost_name = δ14; now = x2.now }), (x3, (x4, (x5, (r10, (r2, (r6, tt))))))))). ‵ (lasts c3.ended ((α6 ∷ []), ((α7 ∷ []), (κ2, (κ3, tt)))) ((record { ref_ptr = (x1.ref_ptr.0, x1.ref_ptr.1); ghost_name = δ13; now = x1.now }), ((record { ref_ptr = (x2.ref_ptr.0, x2.ref_ptr.1); ghost_name = δ14; now = x2.now }), (x3, (x4, (x5, (r10, (r2, (r6, tt)))))))) ws) ⊛ raw (fact 𝓤 (AnsweredIn (shown_translated (translate_given r10 r2 r6 (memory x3.now x4 x5.now) (caches_of (record { ref_ptr = (x1.ref_ptr.0, x1.ref_ptr.1); ghost_name = δ13; now = x1.now }).now (record { ref_ptr = (x2.ref_ptr.0, x2.ref_ptr.1); ghost_name = δ14; now = x2.now }).now))) r16.answer r16.count (ws.0) (ws.1.0))))) (id⊢ 𝓤 _) $ choose ! (λ ws19. split ! $ move ! (1 ∷ []) $ heard ! (AnsweredIn (shown_translated (translate_given r10 r2 r6 (memory x3.now x4 x5.now) (caches_of (record { ref_ptr = (x1.ref_ptr.0, x1.ref_ptr.1); ghost_name = δ13; now = x1.now }).now (record { ref_ptr = (x2.ref_ptr.0, x2.ref_ptr.1); ghost_name = δ14; now = x2.now }).now))) r16.answer r16.count (ws19.0) (ws19.1.0)) (λ e17.
         fsplit ! $ move ! (1 ∷ []) $ fsplit ! $ move ! (1 ∷ []) $ fsplit ! $ drop ! $ fsplit ! $ drop ! $ fsplit ! $ drop ! $ fsplit ! $ drop ! $ fsplit ! $ drop ! $ fsplit ! $
         drop ! $ drop ! $ move ! (2 ∷ []) $ split ! $ split ! $ move ! (1 ∷ []) $ split ! $ move ! (1 ∷ []) $ split ! $ move ! (1 ∷ []) $ split ! $ move ! (1 ∷ []) $ drop ! $
         move ! (4 ∷ []) $
@@ -249,7 +249,7 @@ module _ {M : Type 1} {𝓤 : Ura M} (𝓛 : Logic 𝓤) (mem : Memory → SProp
         move ! (2 ∷ 0 ∷ []) $ group ! 2 $
         use1 𝓛 (raw ((C4 𝓛 mem run).pre (to-4 (α8 ∷ []) full_share (record { ref_ptr = (x10.ref_ptr.0, x10.ref_ptr.1); ghost_name = δ20; now = x10.now }) (vptr x10.ref_ptr.0 x10.ref_ptr.1) r16 (LL.val row-Outcome.the_type law-Outcome.the_laws r16)))) (goes-4 (α8 ∷ []) full_share (record { ref_ptr = (x10.ref_ptr.0, x10.ref_ptr.1); ghost_name = δ20; now = x10.now }) (vptr x10.ref_ptr.0 x10.ref_ptr.1) r16 (LL.val row-Outcome.the_type law-Outcome.the_laws r16) (subst (Is row-Outcome.the_row r16) (LL.tells row-Outcome.the_type law-Outcome.the_laws r16 _ is18) is18)) $
         calls_at ! fm (C4 𝓛 mem run) known-4 (to-4 (α8 ∷ []) full_share (record { ref_ptr = (x10.ref_ptr.0, x10.ref_ptr.1); ghost_name = δ20; now = x10.now }) (vptr x10.ref_ptr.0 x10.ref_ptr.1) r16 (LL.val row-Outcome.the_type law-Outcome.the_laws r16)) (and_then ! (load ! (from ! (stop !)) (look ! 14 refl)) (and_then ! (load ! (from ! (stop !)) (look ! 22 refl)) (no_more !))) (λ val21.
-        use1 𝓛 (later (some (λ (r : Unit {0}). ((‵ (flft (α8 ∷ []) full_share) ⊛ ‵ ftrue) ⊛ ‵ (Nothing.own r (val21 ∷ []))) ⊛ raw (ensured 𝓛 c4.ended (c4.clauses 𝓛 mem run) ((α8 ∷ []), tt) ((record { ref_ptr = (x10.ref_ptr.0, x10.ref_ptr.1); ghost_name = δ20; now = x10.now }), (r16, tt)) tt r)))) (id⊢ 𝓤 _) $ await ! tt $ choose ! (λ r22. split ! $ move ! (1 ∷ []) $ use1 𝓛 (some (λ (ws : Lasts c4.ended ((α8 ∷ []), tt) ((record { ref_ptr = (x10.ref_ptr.0, x10.ref_ptr.1); ghost_name = δ20; now = x10.now }), (r16, tt))). ‵ (lasts c4.ended ((α8 ∷ []), tt) ((record { ref_ptr = (x10.ref_ptr.0, x10.ref_ptr.1); ghost_name = δ20; now = x10.now }), (r16, tt)) ws) ⊛ raw (fact 𝓤 (ws.0 ≡ translationNumbers r16.answer r16.count)))) (id⊢ 𝓤 _) $ choose ! (λ ws25. split ! $ move ! (1 ∷ []) $ heard ! (ws25.0 ≡ translationNumbers r16.answer r16.count) (λ e23.
+        use1 𝓛 (later (some (λ (r : Unit {0}). ((‵ (flft (α8 ∷ []) full_share) ⊛ ‵ ftrue) ⊛ ‵ (Nothing.own r (val21 ∷ []))) ⊛ raw (ensured 𝓛 c4.ended (c4.clauses 𝓛 mem run) ((α8 ∷ []), tt) ((record { ref_ptr = (x10.ref_ptr.0, x10.ref_ptr.1); ghost_name = δ20; now = x10.now }), (r16, tt)) tt r)))) (id⊢ 𝓤 _) $ await ! tt $ choose ! (λ r22. split ! $ move ! (1 ∷ []) $ use1 𝓛 (some (λ (ws : Lasts c4.ended ((α8 ∷ []), tt) ((record { ref_ptr = (x10.ref_ptr.0, x10.ref_ptr.1); ghost_name = δ20; now = x10.now }), (r16, tt))). ‵ (lasts c4.ended ((α8 ∷ []), tt) ((record { ref_ptr = (x10.ref_ptr.0, x10.ref_ptr.1); ghost_name = δ20; now = x10.now }), (r16, tt)) ws) ⊛ raw (fact 𝓤 (ws.0 ≡ translation_numbers r16.answer r16.count)))) (id⊢ 𝓤 _) $ choose ! (λ ws25. split ! $ move ! (1 ∷ []) $ heard ! (ws25.0 ≡ translation_numbers r16.answer r16.count) (λ e23.
         fsplit ! $ move ! (1 ∷ []) $ fsplit ! $ drop ! $ drop ! $ move ! (1 ∷ []) $ split ! $ split ! $ move ! (1 ∷ []) $ drop ! $ move ! (1 ∷ []) $
         facts ! Nothing (Is Nothing) (shows 𝓛 Nothing) r22 (val21 ∷ []) (λ is24. land ! (from ! (stop !)) (init ! 17 refl ((Nothing-Lawful 𝓛).typed r22 _ is24).0) $
         rewrite ! 17 (λ (u : Val). ‵ (fat full_share ty_unit l17 0 u)) (ap only (Nothing-Tells r22 _ is24)) refl $ lft_end ! tt $ move ! (0 ∷ 2 ∷ 1 ∷ []) $

@@ -54,8 +54,8 @@ use denote.Array.{Array}
 use Rattle.host_audit.proofs.Telling as law
 use Rattle.definition.specs.Memory.{memory}
 use Rattle.definition.specs.Audit.{finding as findingOf}
-use Rattle.cache.specs.Pair.{cachesOf}
-use Rattle.numbers.specs.Numbers.{registersOf, findingNumbers}
+use Rattle.cache.specs.Pair.{caches_of}
+use Rattle.numbers.specs.Numbers.{registers_of, finding_numbers}
 use Rattle.definition.specs.declared.Finding.{Finding}
 use Rattle.definition.specs.contracts.Finding as row-Finding
 use Rattle.definition.proofs.Finding.TheLaws as law-Finding
@@ -103,7 +103,7 @@ module _ {M : Type 1} {𝓤 : Ura M} (𝓛 : Logic 𝓤) (mem : Memory → SProp
   abbrev Post : Val → SProp 𝓤
   Post = (walk_of 𝓛 self.ended stayed (self.clauses 𝓛 mem run)).post (((κ0, (κ1, (κ2, (κ3, (κ4, (κ5, tt)))))), (q0, (q1, (q2, (q3, (q4, (q5, tt)))))), tt, (x1, (x2, (x3, (x4, (x5, (x6, (x7, (x8, (x9, tt))))))))), at_entry), tt)
 
-  exits : (y9 : List ℕ) (r : Unit {0}) (u : Val) → Is Nothing r (u ∷ []) → (y9 ≡ findingNumbers (findingOf (registersOf x6.now) (memory x3.now x4 x5.now) (cachesOf x1.now x2.now) x7 x8)) → ent 𝓤 (⋆ 𝓛 (‵ (flft κ0 q0) ∷ ‵ (flft κ1 q1) ∷ ‵ (flft κ2 q2) ∷ ‵ (flft κ3 q3) ∷ ‵ (flft κ4 q4) ∷ ‵ (flft κ5 q5) ∷ ‵ ((ShrRef (named 0) κ0 (Array u64 69)).own_val x1 (vptr x1.ref_ptr.0 x1.ref_ptr.1 ∷ [])) ∷ ‵ ((ShrRef (named 1) κ1 (Array u64 128)).own_val x2 (vptr x2.ref_ptr.0 x2.ref_ptr.1 ∷ [])) ∷ ‵ ((ShrSlice (named 2) κ2 u32).own_val x3 (slice_val x3.ref_ptr (length x3.now) ∷ [])) ∷ ‵ ((ShrSlice (named 3) κ3 row-Range.the_row).own_val x5 (slice_val x5.ref_ptr (length x5.now) ∷ [])) ∷ ‵ ((ShrRef (named 4) κ4 (Array u32 13)).own_val x6 (vptr x6.ref_ptr.0 x6.ref_ptr.1 ∷ [])) ∷ ‵ (fobs x9.name ((Array u32 10).coded.code y9)) ∷ ‵ (fbor κ5 (Behind (mem-of (Array u32 10)) x9.ptr.0 x9.ptr.1 x9.name)) ∷ [])) (Post u)
+  exits : (y9 : List ℕ) (r : Unit {0}) (u : Val) → Is Nothing r (u ∷ []) → (y9 ≡ finding_numbers (findingOf (registers_of x6.now) (memory x3.now x4 x5.now) (caches_of x1.now x2.now) x7 x8)) → ent 𝓤 (⋆ 𝓛 (‵ (flft κ0 q0) ∷ ‵ (flft κ1 q1) ∷ ‵ (flft κ2 q2) ∷ ‵ (flft κ3 q3) ∷ ‵ (flft κ4 q4) ∷ ‵ (flft κ5 q5) ∷ ‵ ((ShrRef (named 0) κ0 (Array u64 69)).own_val x1 (vptr x1.ref_ptr.0 x1.ref_ptr.1 ∷ [])) ∷ ‵ ((ShrRef (named 1) κ1 (Array u64 128)).own_val x2 (vptr x2.ref_ptr.0 x2.ref_ptr.1 ∷ [])) ∷ ‵ ((ShrSlice (named 2) κ2 u32).own_val x3 (slice_val x3.ref_ptr (length x3.now) ∷ [])) ∷ ‵ ((ShrSlice (named 3) κ3 row-Range.the_row).own_val x5 (slice_val x5.ref_ptr (length x5.now) ∷ [])) ∷ ‵ ((ShrRef (named 4) κ4 (Array u32 13)).own_val x6 (vptr x6.ref_ptr.0 x6.ref_ptr.1 ∷ [])) ∷ ‵ (fobs x9.name ((Array u32 10).coded.code y9)) ∷ ‵ (fbor κ5 (Behind (mem-of (Array u32 10)) x9.ptr.0 x9.ptr.1 x9.name)) ∷ [])) (Post u)
   exits y9 r u is e =
       qed 𝓛 (‵ (flft κ0 q0) ∷ ‵ (flft κ1 q1) ∷ ‵ (flft κ2 q2) ∷ ‵ (flft κ3 q3) ∷ ‵ (flft κ4 q4) ∷ ‵ (flft κ5 q5) ∷ ‵ ((ShrRef (named 0) κ0 (Array u64 69)).own_val x1 (vptr x1.ptr.0 x1.ptr.1 ∷ [])) ∷ ‵ ((ShrRef (named 1) κ1 (Array u64 128)).own_val x2 (vptr x2.ptr.0 x2.ptr.1 ∷ [])) ∷ ‵ ((ShrSlice (named 2) κ2 u32).own_val x3 (slice_val x3.ref_ptr (length x3.now) ∷ [])) ∷ ‵ ((ShrSlice (named 3) κ3 row-Range.the_row).own_val x5 (slice_val x5.ref_ptr (length x5.now) ∷ [])) ∷ ‵ ((ShrRef (named 4) κ4 (Array u32 13)).own_val x6 (vptr x6.ptr.0 x6.ptr.1 ∷ [])) ∷ ‵ (fobs x9.name ((Array u32 10).coded.code y9)) ∷ ‵ (fbor κ5 (Behind (mem-of (Array u32 10)) x9.ptr.0 x9.ptr.1 x9.name)) ∷ []) ∵
       suffices ! _ (ends_at 𝓛 self.ended stayed (self.clauses 𝓛 mem run) (((κ0, (κ1, (κ2, (κ3, (κ4, (κ5, tt)))))), (q0, (q1, (q2, (q3, (q4, (q5, tt)))))), tt, (x1, (x2, (x3, (x4, (x5, (x6, (x7, (x8, (x9, tt))))))))), at_entry), tt) u r (tt, (tt, (tt, (tt, (tt, (tt, (tt, (tt, (y9, tt))))))))) (tt, (tt, (tt, (tt, (tt, (tt, (tt, (tt, (tt, tt)))))))))) $ says ! e $
@@ -117,8 +117,8 @@ module _ {M : Type 1} {𝓤 : Ura M} (𝓛 : Logic 𝓤) (mem : Memory → SProp
   goes-0 a0 v0 =
       qed 𝓛 (‵ (flft κ4 q4) ∷ ‵ ((ShrRef (named 0) κ4 (Array u32 13)).own_val a0 (v0 ∷ [])) ∷ []) ∵ nothing ! $ move ! (2 ∷ 0 ∷ []) $ fjoin ! $ nothing ! $ move ! (2 ∷ 0 ∷ []) $ join ! $ join ! $ frame ! $ done !
 
-  said-0 : (a0 : Bor (List ℕ)) (r : Registers) → ent 𝓤 (ensured 𝓛 c0.ended (c0.clauses 𝓛 mem run) (κ4, tt) (a0, tt) tt r) (fact 𝓤 (r ≡ registersOf a0.now))
-  said-0 a0 r = ex_e 𝓤 _ (λ ws. snd∗ 𝓤 (sem 𝓛 (lasts c0.ended (κ4, tt) (a0, tt) ws)) (fact 𝓤 (r ≡ registersOf a0.now)))
+  said-0 : (a0 : Bor (List ℕ)) (r : Registers) → ent 𝓤 (ensured 𝓛 c0.ended (c0.clauses 𝓛 mem run) (κ4, tt) (a0, tt) tt r) (fact 𝓤 (r ≡ registers_of a0.now))
+  said-0 a0 r = ex_e 𝓤 _ (λ ws. snd∗ 𝓤 (sem 𝓛 (lasts c0.ended (κ4, tt) (a0, tt) ws)) (fact 𝓤 (r ≡ registers_of a0.now)))
 
   -- the call of `finding.finding_lent`: what it is passed, what it asks, and what is known of its result
   abbrev to-1 : (a0 : Bor (List ℕ)) (v0 : Val) (a1 : Bor (List ℕ)) (v1 : Val) (a2 : Bor (List ℕ)) (v2 : Val) (a3 : ℕ) (v3 : Val) (a4 : Bor (List Range)) (v4 : Val) (a5 : Registers) (v5 : Val) (a6 : ℕ) (v6 : Val) (a7 : Bool) (v7 : Val) → (C1 𝓛 mem run).Ghost
@@ -128,8 +128,8 @@ module _ {M : Type 1} {𝓤 : Ura M} (𝓛 : Logic 𝓤) (mem : Memory → SProp
   goes-1 a0 v0 a1 v1 a2 v2 a3 v3 a4 v4 a5 v5 a6 v6 a7 v7 i3 i5 i6 i7 =
       qed 𝓛 (‵ (flft κ0 q0) ∷ ‵ (flft κ1 q1) ∷ ‵ (flft κ2 q2) ∷ ‵ (flft κ3 q3) ∷ ‵ ((ShrRef (named 0) κ0 (Array u64 69)).own_val a0 (v0 ∷ [])) ∷ ‵ ((ShrRef (named 1) κ1 (Array u64 128)).own_val a1 (v1 ∷ [])) ∷ ‵ ((ShrSlice (named 2) κ2 u32).own_val a2 (v2 ∷ [])) ∷ ‵ ((ShrSlice (named 3) κ3 row-Range.the_row).own_val a4 (v4 ∷ [])) ∷ []) ∵ nothing ! $ owned ! Boolean (Is Boolean) (bool_Makes 𝓛) a7 _ i7 $ fjoin ! $ owned ! u32 (Is u32) (uint_Makes 𝓛 w32) a6 _ i6 $ fjoin ! $ owned ! row-Registers.the_row (Is row-Registers.the_row) (LL.makes row-Registers.the_type law-Registers.the_plain 𝓛) a5 _ i5 $ fjoin ! $ move ! (8 ∷ 0 ∷ []) $ fjoin ! $ owned ! u32 (Is u32) (uint_Makes 𝓛 w32) a3 _ i3 $ fjoin ! $ move ! (7 ∷ 0 ∷ []) $ fjoin ! $ move ! (6 ∷ 0 ∷ []) $ fjoin ! $ move ! (5 ∷ 0 ∷ []) $ fjoin ! $ nothing ! $ move ! (5 ∷ 0 ∷ []) $ join ! $ move ! (4 ∷ 0 ∷ []) $ join ! $ move ! (3 ∷ 0 ∷ []) $ join ! $ move ! (2 ∷ 0 ∷ []) $ join ! $ join ! $ frame ! $ done !
 
-  said-1 : (a0 : Bor (List ℕ)) (a1 : Bor (List ℕ)) (a2 : Bor (List ℕ)) (a3 : ℕ) (a4 : Bor (List Range)) (a5 : Registers) (a6 : ℕ) (a7 : Bool) (r : Finding) → ent 𝓤 (ensured 𝓛 c1.ended (c1.clauses 𝓛 mem run) (κ0, (κ1, (κ2, (κ3, tt)))) (a0, (a1, (a2, (a3, (a4, (a5, (a6, (a7, tt)))))))) tt r) (fact 𝓤 (r ≡ findingOf a5 (memory a2.now a3 a4.now) (cachesOf a0.now a1.now) a6 a7))
-  said-1 a0 a1 a2 a3 a4 a5 a6 a7 r = ex_e 𝓤 _ (λ ws. snd∗ 𝓤 (sem 𝓛 (lasts c1.ended (κ0, (κ1, (κ2, (κ3, tt)))) (a0, (a1, (a2, (a3, (a4, (a5, (a6, (a7, tt)))))))) ws)) (fact 𝓤 (r ≡ findingOf a5 (memory a2.now a3 a4.now) (cachesOf a0.now a1.now) a6 a7)))
+  said-1 : (a0 : Bor (List ℕ)) (a1 : Bor (List ℕ)) (a2 : Bor (List ℕ)) (a3 : ℕ) (a4 : Bor (List Range)) (a5 : Registers) (a6 : ℕ) (a7 : Bool) (r : Finding) → ent 𝓤 (ensured 𝓛 c1.ended (c1.clauses 𝓛 mem run) (κ0, (κ1, (κ2, (κ3, tt)))) (a0, (a1, (a2, (a3, (a4, (a5, (a6, (a7, tt)))))))) tt r) (fact 𝓤 (r ≡ findingOf a5 (memory a2.now a3 a4.now) (caches_of a0.now a1.now) a6 a7))
+  said-1 a0 a1 a2 a3 a4 a5 a6 a7 r = ex_e 𝓤 _ (λ ws. snd∗ 𝓤 (sem 𝓛 (lasts c1.ended (κ0, (κ1, (κ2, (κ3, tt)))) (a0, (a1, (a2, (a3, (a4, (a5, (a6, (a7, tt)))))))) ws)) (fact 𝓤 (r ≡ findingOf a5 (memory a2.now a3 a4.now) (caches_of a0.now a1.now) a6 a7)))
 
   -- the call of `tell_finding`: what it is passed, and what it asks
   abbrev to-2 : (κ6 : Lft) (q6 : Share) (a0 : Bor (List ℕ)) (v0 : Val) (a1 : Finding) (v1 : Val) → (C2 𝓛 mem run).Ghost
@@ -160,7 +160,7 @@ module _ {M : Type 1} {𝓤 : Ura M} (𝓛 : Logic 𝓤) (mem : Memory → SProp
         use1 𝓛 (‵ ((ShrRef (named 4) κ4 (Array u32 13)).own_val x6 (vptr x6.ptr.0 x6.ptr.1 ∷ [])) ⊛ ‵ ((ShrRef (named 4) κ4 (Array u32 13)).own_val x6 (vptr x6.ptr.0 x6.ptr.1 ∷ []))) ((shr_copy 𝓛 (named 4) κ4 (Array u32 13)).twice x6 _) $
         split ! $ move ! (3 ∷ 0 ∷ []) $ group ! 2 $ use1 𝓛 (raw ((C0 𝓛 mem run).pre (to-0 x6 (vptr x6.ptr.0 x6.ptr.1)))) (goes-0 x6 (vptr x6.ptr.0 x6.ptr.1)) $
         calls_at ! fm (C0 𝓛 mem run) known-0 (to-0 x6 (vptr x6.ptr.0 x6.ptr.1)) (and_then ! (load ! (from ! (stop !)) (look ! 27 refl)) (no_more !)) (λ val1.
-        use1 𝓛 (later (some (λ (r : Registers). ((‵ (flft κ4 q4) ⊛ ‵ ftrue) ⊛ ‵ ((row-Registers.the_row).own_val r (val1 ∷ []))) ⊛ raw (ensured 𝓛 c0.ended (c0.clauses 𝓛 mem run) (κ4, tt) (x6, tt) tt r)))) (id⊢ 𝓤 _) $ await ! tt $ choose ! (λ r2. split ! $ move ! (1 ∷ []) $ use1 𝓛 (raw (fact 𝓤 (r2 ≡ registersOf x6.now))) (said-0 x6 r2) $ heard ! (r2 ≡ registersOf x6.now) (λ e3. split ! $
+        use1 𝓛 (later (some (λ (r : Registers). ((‵ (flft κ4 q4) ⊛ ‵ ftrue) ⊛ ‵ ((row-Registers.the_row).own_val r (val1 ∷ []))) ⊛ raw (ensured 𝓛 c0.ended (c0.clauses 𝓛 mem run) (κ4, tt) (x6, tt) tt r)))) (id⊢ 𝓤 _) $ await ! tt $ choose ! (λ r2. split ! $ move ! (1 ∷ []) $ use1 𝓛 (raw (fact 𝓤 (r2 ≡ registers_of x6.now))) (said-0 x6 r2) $ heard ! (r2 ≡ registers_of x6.now) (λ e3. split ! $
         split ! $ move ! (1 ∷ []) $ drop ! $ move ! (1 ∷ []) $
         facts ! row-Registers.the_row (Is row-Registers.the_row) (shows 𝓛 row-Registers.the_row) r2 (val1 ∷ []) (λ is4. land ! (from ! (stop !)) (init ! 19 refl ((LL.lawful row-Registers.the_type law-Registers.the_laws 𝓛).typed r2 _ is4).0) $
         rewrite ! 19 (λ (u : Val). ‵ (fat full_share law-Registers.mir l10 0 u)) (ap only (LL.tells row-Registers.the_type law-Registers.the_laws r2 _ is4)) refl $ move ! (12 ∷ []) $
@@ -174,7 +174,7 @@ module _ {M : Type 1} {𝓤 : Ura M} (𝓛 : Logic 𝓤) (mem : Memory → SProp
         split ! $ move ! (14 ∷ 13 ∷ 12 ∷ 11 ∷ 6 ∷ 4 ∷ 2 ∷ 0 ∷ []) $ group ! 8 $
         use1 𝓛 (raw ((C1 𝓛 mem run).pre (to-1 x1 (vptr x1.ptr.0 x1.ptr.1) x2 (vptr x2.ptr.0 x2.ptr.1) x3 (slice_val x3.ref_ptr (length x3.now)) x4 (vint w32 x4) x5 (slice_val x5.ref_ptr (length x5.now)) r2 (LL.val row-Registers.the_type law-Registers.the_laws r2) x7 (vint w32 x7) x8 (vbool x8)))) (goes-1 x1 (vptr x1.ptr.0 x1.ptr.1) x2 (vptr x2.ptr.0 x2.ptr.1) x3 (slice_val x3.ref_ptr (length x3.now)) x4 (vint w32 x4) x5 (slice_val x5.ref_ptr (length x5.now)) r2 (LL.val row-Registers.the_type law-Registers.the_laws r2) x7 (vint w32 x7) x8 (vbool x8) i4 (subst (Is row-Registers.the_row r2) (LL.tells row-Registers.the_type law-Registers.the_laws r2 _ is4) is4) i7 i8) $
         calls_at ! fm (C1 𝓛 mem run) known-1 (to-1 x1 (vptr x1.ptr.0 x1.ptr.1) x2 (vptr x2.ptr.0 x2.ptr.1) x3 (slice_val x3.ref_ptr (length x3.now)) x4 (vint w32 x4) x5 (slice_val x5.ref_ptr (length x5.now)) r2 (LL.val row-Registers.the_type law-Registers.the_laws r2) x7 (vint w32 x7) x8 (vbool x8)) (and_then ! (load ! (from ! (stop !)) (look ! 34 refl)) (and_then ! (load ! (from ! (stop !)) (look ! 32 refl)) (and_then ! (load ! (from ! (stop !)) (look ! 30 refl)) (and_then ! (load ! (from ! (stop !)) (look ! 28 refl)) (and_then ! (load ! (from ! (stop !)) (look ! 26 refl)) (and_then ! (load ! (from ! (stop !)) (look ! 16 refl)) (and_then ! (load ! (from ! (stop !)) (look ! 22 refl)) (and_then ! (load ! (from ! (stop !)) (look ! 20 refl)) (no_more !))))))))) (λ val5.
-        use1 𝓛 (later (some (λ (r : Finding). ((‵ (flft κ0 q0) ⊛ ‵ (flft κ1 q1) ⊛ ‵ (flft κ2 q2) ⊛ ‵ (flft κ3 q3) ⊛ ‵ ftrue) ⊛ ‵ ((row-Finding.the_row).own_val r (val5 ∷ []))) ⊛ raw (ensured 𝓛 c1.ended (c1.clauses 𝓛 mem run) (κ0, (κ1, (κ2, (κ3, tt)))) (x1, (x2, (x3, (x4, (x5, (r2, (x7, (x8, tt)))))))) tt r)))) (id⊢ 𝓤 _) $ await ! tt $ choose ! (λ r6. split ! $ move ! (1 ∷ []) $ use1 𝓛 (raw (fact 𝓤 (r6 ≡ findingOf r2 (memory x3.now x4 x5.now) (cachesOf x1.now x2.now) x7 x8))) (said-1 x1 x2 x3 x4 x5 r2 x7 x8 r6) $ heard ! (r6 ≡ findingOf r2 (memory x3.now x4 x5.now) (cachesOf x1.now x2.now) x7 x8) (λ e7. split ! $
+        use1 𝓛 (later (some (λ (r : Finding). ((‵ (flft κ0 q0) ⊛ ‵ (flft κ1 q1) ⊛ ‵ (flft κ2 q2) ⊛ ‵ (flft κ3 q3) ⊛ ‵ ftrue) ⊛ ‵ ((row-Finding.the_row).own_val r (val5 ∷ []))) ⊛ raw (ensured 𝓛 c1.ended (c1.clauses 𝓛 mem run) (κ0, (κ1, (κ2, (κ3, tt)))) (x1, (x2, (x3, (x4, (x5, (r2, (x7, (x8, tt)))))))) tt r)))) (id⊢ 𝓤 _) $ await ! tt $ choose ! (λ r6. split ! $ move ! (1 ∷ []) $ use1 𝓛 (raw (fact 𝓤 (r6 ≡ findingOf r2 (memory x3.now x4 x5.now) (caches_of x1.now x2.now) x7 x8))) (said-1 x1 x2 x3 x4 x5 r2 x7 x8 r6) $ heard ! (r6 ≡ findingOf r2 (memory x3.now x4 x5.now) (caches_of x1.now x2.now) x7 x8) (λ e7. split ! $
         split ! $ move ! (1 ∷ []) $ split ! $ move ! (1 ∷ []) $ split ! $ move ! (1 ∷ []) $ split ! $ move ! (1 ∷ []) $ drop ! $ move ! (4 ∷ []) $
         facts ! row-Finding.the_row (Is row-Finding.the_row) (shows 𝓛 row-Finding.the_row) r6 (val5 ∷ []) (λ is8. land ! (from ! (stop !)) (init ! 17 refl ((EL.lawful row-Finding.the_type law-Finding.the_laws 𝓛 tt).typed r6 _ is8).0) $
         rewrite ! 17 (λ (u : Val). ‵ (fat full_share law-Finding.mir l11 0 u)) (ap only (EL.tells row-Finding.the_type law-Finding.the_laws r6 _ is8)) refl $
@@ -184,7 +184,7 @@ module _ {M : Type 1} {𝓤 : Ura M} (𝓛 : Logic 𝓤) (mem : Memory → SProp
         move ! (2 ∷ 0 ∷ []) $ group ! 2 $
         use1 𝓛 (raw ((C2 𝓛 mem run).pre (to-2 (α6 ∷ []) full_share (record { ref_ptr = (x9.ref_ptr.0, x9.ref_ptr.1); ghost_name = δ9; now = x9.now }) (vptr x9.ref_ptr.0 x9.ref_ptr.1) r6 (EL.val row-Finding.the_type law-Finding.the_laws r6)))) (goes-2 (α6 ∷ []) full_share (record { ref_ptr = (x9.ref_ptr.0, x9.ref_ptr.1); ghost_name = δ9; now = x9.now }) (vptr x9.ref_ptr.0 x9.ref_ptr.1) r6 (EL.val row-Finding.the_type law-Finding.the_laws r6) (subst (Is row-Finding.the_row r6) (EL.tells row-Finding.the_type law-Finding.the_laws r6 _ is8) is8)) $
         calls_at ! fm (C2 𝓛 mem run) known-2 (to-2 (α6 ∷ []) full_share (record { ref_ptr = (x9.ref_ptr.0, x9.ref_ptr.1); ghost_name = δ9; now = x9.now }) (vptr x9.ref_ptr.0 x9.ref_ptr.1) r6 (EL.val row-Finding.the_type law-Finding.the_laws r6)) (and_then ! (load ! (from ! (stop !)) (look ! 12 refl)) (and_then ! (load ! (from ! (stop !)) (look ! 16 refl)) (no_more !))) (λ val10.
-        use1 𝓛 (later (some (λ (r : Unit {0}). ((‵ (flft (α6 ∷ []) full_share) ⊛ ‵ ftrue) ⊛ ‵ (Nothing.own r (val10 ∷ []))) ⊛ raw (ensured 𝓛 c2.ended (c2.clauses 𝓛 mem run) ((α6 ∷ []), tt) ((record { ref_ptr = (x9.ref_ptr.0, x9.ref_ptr.1); ghost_name = δ9; now = x9.now }), (r6, tt)) tt r)))) (id⊢ 𝓤 _) $ await ! tt $ choose ! (λ r11. split ! $ move ! (1 ∷ []) $ use1 𝓛 (some (λ (ws : Lasts c2.ended ((α6 ∷ []), tt) ((record { ref_ptr = (x9.ref_ptr.0, x9.ref_ptr.1); ghost_name = δ9; now = x9.now }), (r6, tt))). ‵ (lasts c2.ended ((α6 ∷ []), tt) ((record { ref_ptr = (x9.ref_ptr.0, x9.ref_ptr.1); ghost_name = δ9; now = x9.now }), (r6, tt)) ws) ⊛ raw (fact 𝓤 (ws.0 ≡ findingNumbers r6)))) (id⊢ 𝓤 _) $ choose ! (λ ws14. split ! $ move ! (1 ∷ []) $ heard ! (ws14.0 ≡ findingNumbers r6) (λ e12.
+        use1 𝓛 (later (some (λ (r : Unit {0}). ((‵ (flft (α6 ∷ []) full_share) ⊛ ‵ ftrue) ⊛ ‵ (Nothing.own r (val10 ∷ []))) ⊛ raw (ensured 𝓛 c2.ended (c2.clauses 𝓛 mem run) ((α6 ∷ []), tt) ((record { ref_ptr = (x9.ref_ptr.0, x9.ref_ptr.1); ghost_name = δ9; now = x9.now }), (r6, tt)) tt r)))) (id⊢ 𝓤 _) $ await ! tt $ choose ! (λ r11. split ! $ move ! (1 ∷ []) $ use1 𝓛 (some (λ (ws : Lasts c2.ended ((α6 ∷ []), tt) ((record { ref_ptr = (x9.ref_ptr.0, x9.ref_ptr.1); ghost_name = δ9; now = x9.now }), (r6, tt))). ‵ (lasts c2.ended ((α6 ∷ []), tt) ((record { ref_ptr = (x9.ref_ptr.0, x9.ref_ptr.1); ghost_name = δ9; now = x9.now }), (r6, tt)) ws) ⊛ raw (fact 𝓤 (ws.0 ≡ finding_numbers r6)))) (id⊢ 𝓤 _) $ choose ! (λ ws14. split ! $ move ! (1 ∷ []) $ heard ! (ws14.0 ≡ finding_numbers r6) (λ e12.
         fsplit ! $ move ! (1 ∷ []) $ fsplit ! $ drop ! $ drop ! $ move ! (1 ∷ []) $ split ! $ split ! $ move ! (1 ∷ []) $ drop ! $ move ! (1 ∷ []) $
         facts ! Nothing (Is Nothing) (shows 𝓛 Nothing) r11 (val10 ∷ []) (λ is13. land ! (from ! (stop !)) (init ! 15 refl ((Nothing-Lawful 𝓛).typed r11 _ is13).0) $
         rewrite ! 15 (λ (u : Val). ‵ (fat full_share ty_unit l12 0 u)) (ap only (Nothing-Tells r11 _ is13)) refl $ lft_end ! tt $ move ! (0 ∷ 2 ∷ 1 ∷ []) $
@@ -195,7 +195,7 @@ module _ {M : Type 1} {𝓤 : Ura M} (𝓛 : Logic 𝓤) (mem : Memory → SProp
         free1 ! $ move ! (33 ∷ 34 ∷ []) $ free1 ! $ move ! (31 ∷ 32 ∷ []) $ free1 ! $ move ! (29 ∷ 30 ∷ []) $ free1 ! $ move ! (27 ∷ 28 ∷ []) $ free1 ! $ move ! (25 ∷ 26 ∷ []) $
         free1 ! $ move ! (23 ∷ 24 ∷ []) $ free1 ! $ move ! (21 ∷ 22 ∷ []) $ free1 ! $ move ! (19 ∷ 20 ∷ []) $ free1 ! $ move ! (17 ∷ 18 ∷ []) $ free1 ! $ move ! (15 ∷ 16 ∷ []) $
         free1 ! $ move ! (13 ∷ 14 ∷ []) $ free1 ! $ free0 ! $ keep ! (6 ∷ 5 ∷ 4 ∷ 3 ∷ 11 ∷ 2 ∷ 10 ∷ 9 ∷ 8 ∷ 7 ∷ 12 ∷ 0 ∷ 1 ∷ []) $
-        by ! (exits ws14.0 tt vunit refl (law.finds x6.now e3 (memory x3.now x4 x5.now) (cachesOf x1.now x2.now) x7 x8 e7 e12)))))))))))))))))))))))))))))))
+        by ! (exits ws14.0 tt vunit refl (law.finds x6.now e3 (memory x3.now x4 x5.now) (caches_of x1.now x2.now) x7 x8 e7 e12)))))))))))))))))))))))))))))))
 
 module _ {M : Type 1} {𝓤 : Ura M} (𝓛 : Logic 𝓤) (mem : Memory → SProp 𝓤) (run : Routine → Fun 𝓤) (𝓣 : Tables 𝓤 𝓛.H) where
   open 𝓛 use {H}

@@ -63,10 +63,10 @@ use Rattle.memory.proofs.Lending as lending
 use Rattle.kept.proofs.Fronts as law
 use Rattle.definition.specs.Memory.{memory}
 use Rattle.definition.specs.Cache040.{Cache040}
-use Rattle.cache.specs.Atc030.{cacheOf}
-use Rattle.cache.specs.Pair.{pairWith}
-use Rattle.load.specs.Loaded.{loadGiven, shownLoaded, LoadedIn}
-use Rattle.kept.specs.Front.{ofSixteen}
+use Rattle.cache.specs.Atc030.{cache_of}
+use Rattle.cache.specs.Pair.{pair_with}
+use Rattle.load.specs.Loaded.{load_given, shown_loaded, LoadedIn}
+use Rattle.kept.specs.Front.{of_sixteen}
 use Rattle.definition.specs.declared.Range.{Range}
 use Rattle.definition.specs.contracts.Range as row-Range
 use Rattle.definition.proofs.Range.TheLaws as law-Range
@@ -108,7 +108,7 @@ module _ {M : Type 1} {𝓤 : Ura M} (𝓛 : Logic 𝓤) (mem : Memory → SProp
   abbrev Post : Val → SProp 𝓤
   Post = (walk_of 𝓛 self.ended stayed (self.clauses 𝓛 mem run)).post (((κ0, (κ1, tt)), (q0, (q1, tt)), tt, (x1, (x2, (x3, (x4, (x5, (x6, (x7, (x8, (x9, (x10, tt)))))))))), at_entry), tt)
 
-  exits : (y1 : List ℕ) (r : LoadOutcome) (u : Val) → Is row-LoadOutcome.the_row r (u ∷ []) → ((k : Cache040) → LoadedIn (shownLoaded (loadGiven x6 x7 x8 x9 x10 (memory x2.now x3 (take x5 x4)) (pairWith (cacheOf x1.now) k))) r.answer r.count (y1)) → ent 𝓤 (⋆ 𝓛 (‵ (flft κ0 q0) ∷ ‵ (flft κ1 q1) ∷ ‵ ((ShrSlice (named 1) κ1 u32).own_val x2 (slice_val x2.ref_ptr (length x2.now) ∷ [])) ∷ ‵ (fobs x1.ghost_name ((Array u64 69).coded.code y1)) ∷ ‵ (fbor κ0 (Behind (mem-of (Array u64 69)) x1.ref_ptr.0 x1.ref_ptr.1 x1.ghost_name)) ∷ [])) (Post u)
+  exits : (y1 : List ℕ) (r : LoadOutcome) (u : Val) → Is row-LoadOutcome.the_row r (u ∷ []) → ((k : Cache040) → LoadedIn (shown_loaded (load_given x6 x7 x8 x9 x10 (memory x2.now x3 (take x5 x4)) (pair_with (cache_of x1.now) k))) r.answer r.count (y1)) → ent 𝓤 (⋆ 𝓛 (‵ (flft κ0 q0) ∷ ‵ (flft κ1 q1) ∷ ‵ ((ShrSlice (named 1) κ1 u32).own_val x2 (slice_val x2.ref_ptr (length x2.now) ∷ [])) ∷ ‵ (fobs x1.ghost_name ((Array u64 69).coded.code y1)) ∷ ‵ (fbor κ0 (Behind (mem-of (Array u64 69)) x1.ref_ptr.0 x1.ref_ptr.1 x1.ghost_name)) ∷ [])) (Post u)
   exits y1 r u is e =
       qed 𝓛 (‵ (flft κ0 q0) ∷ ‵ (flft κ1 q1) ∷ ‵ ((ShrSlice (named 1) κ1 u32).own_val x2 (slice_val x2.ref_ptr (length x2.now) ∷ [])) ∷ ‵ (fobs x1.name ((Array u64 69).coded.code y1)) ∷ ‵ (fbor κ0 (Behind (mem-of (Array u64 69)) x1.ptr.0 x1.ptr.1 x1.name)) ∷ []) ∵
       suffices ! _ (ends_at 𝓛 self.ended stayed (self.clauses 𝓛 mem run) (((κ0, (κ1, tt)), (q0, (q1, tt)), tt, (x1, (x2, (x3, (x4, (x5, (x6, (x7, (x8, (x9, (x10, tt)))))))))), at_entry), tt) u r (y1, (tt, (tt, (tt, (tt, (tt, (tt, (tt, (tt, (tt, tt)))))))))) (tt, (tt, (tt, (tt, (tt, (tt, (tt, (tt, (tt, (tt, tt))))))))))) $ says ! e $
@@ -122,8 +122,8 @@ module _ {M : Type 1} {𝓤 : Ura M} (𝓛 : Logic 𝓤) (mem : Memory → SProp
   goes-0 a0 v0 i0 =
       qed 𝓛 ([]) ∵ nothing ! $ owned ! u64 (Is u64) (uint_Makes 𝓛 w64) a0 _ i0 $ fjoin ! $ nothing ! $ join ! $ frame ! $ done !
 
-  said-0 : (a0 : ℕ) (r : ℕ) → ent 𝓤 (ensured 𝓛 c0.ended (c0.clauses 𝓛 mem run) tt (a0, tt) tt r) (fact 𝓤 (r ≡ ofSixteen a0))
-  said-0 a0 r = ex_e 𝓤 _ (λ ws. snd∗ 𝓤 (sem 𝓛 (lasts c0.ended tt (a0, tt) ws)) (fact 𝓤 (r ≡ ofSixteen a0)))
+  said-0 : (a0 : ℕ) (r : ℕ) → ent 𝓤 (ensured 𝓛 c0.ended (c0.clauses 𝓛 mem run) tt (a0, tt) tt r) (fact 𝓤 (r ≡ of_sixteen a0))
+  said-0 a0 r = ex_e 𝓤 _ (λ ws. snd∗ 𝓤 (sem 𝓛 (lasts c0.ended tt (a0, tt) ws)) (fact 𝓤 (r ≡ of_sixteen a0)))
 
   -- the call of `load`: what it is passed, and what it asks
   abbrev to-1 : (κ3 : Lft) (q3 : Share) (κ2 : Lft) (q2 : Share) (a0 : Bor (List ℕ)) (v0 : Val) (a1 : Bor (List ℕ)) (v1 : Val) (a2 : ℕ) (v2 : Val) (a3 : Bor (List Range)) (v3 : Val) (a4 : Bool) (v4 : Val) (a5 : Registers) (v5 : Val) (a6 : ℕ) (v6 : Val) (a7 : Bool) (v7 : Val) (a8 : ℕ) (v8 : Val) → (C1 𝓛 mem run).Ghost
@@ -154,7 +154,7 @@ module _ {M : Type 1} {𝓤 : Ura M} (𝓛 : Logic 𝓤) (mem : Memory → SProp
         assigns ! (of_opd ! (load ! (from ! (stop !)) (look ! 27 refl))) (from ! (stop !)) (init ! 13 refl ((Array-Lawful 𝓛 row-Range.the_row (LL.lawful row-Range.the_type law-Range.the_laws 𝓛) 16).typed x4 _ i4).0) $
         use0 𝓛 (raw ((C0 𝓛 mem run).pre (to-0 x5 (vint w64 x5)))) (goes-0 x5 (vint w64 x5) i5) $
         calls_at ! fm (C0 𝓛 mem run) known-0 (to-0 x5 (vint w64 x5)) (and_then ! (load ! (from ! (stop !)) (look ! 26 refl)) (no_more !)) (λ val1.
-        use1 𝓛 (later (some (λ (r : ℕ). (‵ ftrue ⊛ ‵ (u64.own_val r (val1 ∷ []))) ⊛ raw (ensured 𝓛 c0.ended (c0.clauses 𝓛 mem run) tt (x5, tt) tt r)))) (id⊢ 𝓤 _) $ await ! tt $ choose ! (λ r2. split ! $ move ! (1 ∷ []) $ use1 𝓛 (raw (fact 𝓤 (r2 ≡ ofSixteen x5))) (said-0 x5 r2) $ heard ! (r2 ≡ ofSixteen x5) (λ e3. split ! $
+        use1 𝓛 (later (some (λ (r : ℕ). (‵ ftrue ⊛ ‵ (u64.own_val r (val1 ∷ []))) ⊛ raw (ensured 𝓛 c0.ended (c0.clauses 𝓛 mem run) tt (x5, tt) tt r)))) (id⊢ 𝓤 _) $ await ! tt $ choose ! (λ r2. split ! $ move ! (1 ∷ []) $ use1 𝓛 (raw (fact 𝓤 (r2 ≡ of_sixteen x5))) (said-0 x5 r2) $ heard ! (r2 ≡ of_sixteen x5) (λ e3. split ! $
         drop ! $ facts ! u64 (Is u64) (shows 𝓛 u64) r2 (val1 ∷ []) (λ is4. land ! (from ! (stop !)) (init ! 11 refl ((uint_Lawful 𝓛 w64).typed r2 _ is4).0) $
         rewrite ! 11 (λ (u : Val). ‵ (fat full_share (ty_int w64) l12 0 u)) (ap only (uint_Tells w64 r2 _ is4)) refl $
         assigns ! (addr ! (from ! (hop ! (look ! 33 refl) (stop !)))) (from ! (stop !)) (init ! 9 refl (tt, tt)) $
@@ -174,7 +174,7 @@ module _ {M : Type 1} {𝓤 : Ura M} (𝓛 : Logic 𝓤) (mem : Memory → SProp
         split ! $ move ! (4 ∷ 9 ∷ 7 ∷ 2 ∷ 0 ∷ 5 ∷ []) $ group ! 6 $
         use1 𝓛 (raw ((C1 𝓛 mem run).pre (to-1 (α3 ∷ []) full_share (α2 ∷ []) full_share (record { ref_ptr = (x1.ref_ptr.0, x1.ref_ptr.1); ghost_name = δ6; now = x1.now }) (vptr x1.ref_ptr.0 x1.ref_ptr.1) x2 (slice_val x2.ref_ptr (length x2.now)) x3 (vint w32 x3) (record { ref_ptr = (l11, 0); ghost_name = γ5; now = (take r2 x4) }) (slice_val (l11, 0) (length (take r2 x4))) x6 (vbool x6) x7 (LL.val row-Registers.the_type law-Registers.the_laws x7) x8 (vint w32 x8) x9 (vbool x9) x10 (vint w32 x10)))) (goes-1 (α3 ∷ []) full_share (α2 ∷ []) full_share (record { ref_ptr = (x1.ref_ptr.0, x1.ref_ptr.1); ghost_name = δ6; now = x1.now }) (vptr x1.ref_ptr.0 x1.ref_ptr.1) x2 (slice_val x2.ref_ptr (length x2.now)) x3 (vint w32 x3) (record { ref_ptr = (l11, 0); ghost_name = γ5; now = (take r2 x4) }) (slice_val (l11, 0) (length (take r2 x4))) x6 (vbool x6) x7 (LL.val row-Registers.the_type law-Registers.the_laws x7) x8 (vint w32 x8) x9 (vbool x9) x10 (vint w32 x10) i3 i6 i7 i8 i9 i10) $
         calls_at ! fm (C1 𝓛 mem run) known-1 (to-1 (α3 ∷ []) full_share (α2 ∷ []) full_share (record { ref_ptr = (x1.ref_ptr.0, x1.ref_ptr.1); ghost_name = δ6; now = x1.now }) (vptr x1.ref_ptr.0 x1.ref_ptr.1) x2 (slice_val x2.ref_ptr (length x2.now)) x3 (vint w32 x3) (record { ref_ptr = (l11, 0); ghost_name = γ5; now = (take r2 x4) }) (slice_val (l11, 0) (length (take r2 x4))) x6 (vbool x6) x7 (LL.val row-Registers.the_type law-Registers.the_laws x7) x8 (vint w32 x8) x9 (vbool x9) x10 (vint w32 x10)) (and_then ! (load ! (from ! (stop !)) (look ! 9 refl)) (and_then ! (load ! (from ! (stop !)) (look ! 30 refl)) (and_then ! (load ! (from ! (stop !)) (look ! 28 refl)) (and_then ! (load ! (from ! (stop !)) (look ! 5 refl)) (and_then ! (load ! (from ! (stop !)) (look ! 22 refl)) (and_then ! (load ! (from ! (stop !)) (look ! 20 refl)) (and_then ! (load ! (from ! (stop !)) (look ! 18 refl)) (and_then ! (load ! (from ! (stop !)) (look ! 16 refl)) (and_then ! (load ! (from ! (stop !)) (look ! 14 refl)) (no_more !)))))))))) (λ val7.
-        use1 𝓛 (later (some (λ (r : LoadOutcome). ((‵ (flft (α3 ∷ []) full_share) ⊛ ‵ (flft κ1 q1) ⊛ ‵ (flft (α2 ∷ []) full_share) ⊛ ‵ ftrue) ⊛ ‵ ((row-LoadOutcome.the_row).own_val r (val7 ∷ []))) ⊛ raw (ensured 𝓛 c1.ended (c1.clauses 𝓛 mem run) ((α3 ∷ []), (κ1, ((α2 ∷ []), tt))) ((record { ref_ptr = (x1.ref_ptr.0, x1.ref_ptr.1); ghost_name = δ6; now = x1.now }), (x2, (x3, ((record { ref_ptr = (l11, 0); ghost_name = γ5; now = (take r2 x4) }), (x6, (x7, (x8, (x9, (x10, tt))))))))) tt r)))) (id⊢ 𝓤 _) $ await ! tt $ choose ! (λ r8. split ! $ move ! (1 ∷ []) $ use1 𝓛 (some (λ (ws : Lasts c1.ended ((α3 ∷ []), (κ1, ((α2 ∷ []), tt))) ((record { ref_ptr = (x1.ref_ptr.0, x1.ref_ptr.1); ghost_name = δ6; now = x1.now }), (x2, (x3, ((record { ref_ptr = (l11, 0); ghost_name = γ5; now = (take r2 x4) }), (x6, (x7, (x8, (x9, (x10, tt)))))))))). ‵ (lasts c1.ended ((α3 ∷ []), (κ1, ((α2 ∷ []), tt))) ((record { ref_ptr = (x1.ref_ptr.0, x1.ref_ptr.1); ghost_name = δ6; now = x1.now }), (x2, (x3, ((record { ref_ptr = (l11, 0); ghost_name = γ5; now = (take r2 x4) }), (x6, (x7, (x8, (x9, (x10, tt))))))))) ws) ⊛ raw (fact 𝓤 (((k : Cache040) → LoadedIn (shownLoaded (loadGiven x6 x7 x8 x9 x10 (memory x2.now x3 (record { ref_ptr = (l11, 0); ghost_name = γ5; now = (take r2 x4) }).now) (pairWith (cacheOf (record { ref_ptr = (x1.ref_ptr.0, x1.ref_ptr.1); ghost_name = δ6; now = x1.now }).now) k))) r8.answer r8.count (ws.0)))))) (id⊢ 𝓤 _) $ choose ! (λ ws11. split ! $ move ! (1 ∷ []) $ heard ! (((k : Cache040) → LoadedIn (shownLoaded (loadGiven x6 x7 x8 x9 x10 (memory x2.now x3 (record { ref_ptr = (l11, 0); ghost_name = γ5; now = (take r2 x4) }).now) (pairWith (cacheOf (record { ref_ptr = (x1.ref_ptr.0, x1.ref_ptr.1); ghost_name = δ6; now = x1.now }).now) k))) r8.answer r8.count (ws11.0))) (λ e9.
+        use1 𝓛 (later (some (λ (r : LoadOutcome). ((‵ (flft (α3 ∷ []) full_share) ⊛ ‵ (flft κ1 q1) ⊛ ‵ (flft (α2 ∷ []) full_share) ⊛ ‵ ftrue) ⊛ ‵ ((row-LoadOutcome.the_row).own_val r (val7 ∷ []))) ⊛ raw (ensured 𝓛 c1.ended (c1.clauses 𝓛 mem run) ((α3 ∷ []), (κ1, ((α2 ∷ []), tt))) ((record { ref_ptr = (x1.ref_ptr.0, x1.ref_ptr.1); ghost_name = δ6; now = x1.now }), (x2, (x3, ((record { ref_ptr = (l11, 0); ghost_name = γ5; now = (take r2 x4) }), (x6, (x7, (x8, (x9, (x10, tt))))))))) tt r)))) (id⊢ 𝓤 _) $ await ! tt $ choose ! (λ r8. split ! $ move ! (1 ∷ []) $ use1 𝓛 (some (λ (ws : Lasts c1.ended ((α3 ∷ []), (κ1, ((α2 ∷ []), tt))) ((record { ref_ptr = (x1.ref_ptr.0, x1.ref_ptr.1); ghost_name = δ6; now = x1.now }), (x2, (x3, ((record { ref_ptr = (l11, 0); ghost_name = γ5; now = (take r2 x4) }), (x6, (x7, (x8, (x9, (x10, tt)))))))))). ‵ (lasts c1.ended ((α3 ∷ []), (κ1, ((α2 ∷ []), tt))) ((record { ref_ptr = (x1.ref_ptr.0, x1.ref_ptr.1); ghost_name = δ6; now = x1.now }), (x2, (x3, ((record { ref_ptr = (l11, 0); ghost_name = γ5; now = (take r2 x4) }), (x6, (x7, (x8, (x9, (x10, tt))))))))) ws) ⊛ raw (fact 𝓤 (((k : Cache040) → LoadedIn (shown_loaded (load_given x6 x7 x8 x9 x10 (memory x2.now x3 (record { ref_ptr = (l11, 0); ghost_name = γ5; now = (take r2 x4) }).now) (pair_with (cache_of (record { ref_ptr = (x1.ref_ptr.0, x1.ref_ptr.1); ghost_name = δ6; now = x1.now }).now) k))) r8.answer r8.count (ws.0)))))) (id⊢ 𝓤 _) $ choose ! (λ ws11. split ! $ move ! (1 ∷ []) $ heard ! (((k : Cache040) → LoadedIn (shown_loaded (load_given x6 x7 x8 x9 x10 (memory x2.now x3 (record { ref_ptr = (l11, 0); ghost_name = γ5; now = (take r2 x4) }).now) (pair_with (cache_of (record { ref_ptr = (x1.ref_ptr.0, x1.ref_ptr.1); ghost_name = δ6; now = x1.now }).now) k))) r8.answer r8.count (ws11.0))) (λ e9.
         fsplit ! $ move ! (1 ∷ []) $ fsplit ! $ drop ! $ fsplit ! $ drop ! $ fsplit ! $ drop ! $ fsplit ! $ drop ! $ fsplit ! $ drop ! $ fsplit ! $ drop ! $ fsplit ! $ drop ! $
         fsplit ! $ drop ! $ drop ! $ move ! (1 ∷ []) $ split ! $ split ! $ move ! (1 ∷ []) $ split ! $ move ! (1 ∷ []) $ split ! $ move ! (1 ∷ []) $ drop ! $ move ! (3 ∷ []) $
         facts ! row-LoadOutcome.the_row (Is row-LoadOutcome.the_row) (shows 𝓛 row-LoadOutcome.the_row) r8 (val7 ∷ []) (λ is10. land ! (from ! (stop !)) (init ! 37 refl ((LL.lawful row-LoadOutcome.the_type law-LoadOutcome.the_laws 𝓛).typed r8 _ is10).0) $
@@ -189,7 +189,7 @@ module _ {M : Type 1} {𝓤 : Ura M} (𝓛 : Logic 𝓤) (mem : Memory → SProp
         free1 ! $ move ! (23 ∷ 24 ∷ []) $ free1 ! $ move ! (21 ∷ 22 ∷ []) $ free1 ! $ move ! (19 ∷ 20 ∷ []) $ free1 ! $ move ! (17 ∷ 18 ∷ []) $ free1 ! $ move ! (15 ∷ 16 ∷ []) $
         free1 ! $ move ! (0 ∷ 14 ∷ []) $ free1 ! $ move ! (11 ∷ 12 ∷ []) $ free1 ! $ move ! (9 ∷ 10 ∷ []) $ free1 ! $ move ! (7 ∷ 8 ∷ []) $ free1 ! $ move ! (5 ∷ 6 ∷ []) $ free1 ! $
         free0 ! $ keep ! (2 ∷ 3 ∷ 4 ∷ 0 ∷ 1 ∷ []) $
-        by ! (exits ws11.0 r8 (LL.val row-LoadOutcome.the_type law-LoadOutcome.the_laws r8) (subst (Is row-LoadOutcome.the_row r8) (LL.tells row-LoadOutcome.the_type law-LoadOutcome.the_laws r8 _ is10) is10) (law.loads x2.now x3 (law.firsts x5 x4 i4.1.0.1 e3) x6 x7 x8 x9 x10 (cacheOf x1.now) e9)))))))))))))))))))))))))))))))
+        by ! (exits ws11.0 r8 (LL.val row-LoadOutcome.the_type law-LoadOutcome.the_laws r8) (subst (Is row-LoadOutcome.the_row r8) (LL.tells row-LoadOutcome.the_type law-LoadOutcome.the_laws r8 _ is10) is10) (law.loads x2.now x3 (law.firsts x5 x4 i4.1.0.1 e3) x6 x7 x8 x9 x10 (cache_of x1.now) e9)))))))))))))))))))))))))))))))
 
 module _ {M : Type 1} {𝓤 : Ura M} (𝓛 : Logic 𝓤) (mem : Memory → SProp 𝓤) (run : Routine → Fun 𝓤) (𝓣 : Tables 𝓤 𝓛.H) where
   open 𝓛 use {H}

@@ -53,8 +53,8 @@ use mir.Syntax.{erased}
 use Rattle.memory.proofs.Lending as lending
 use Rattle.kept.proofs.Fronts as law
 use Rattle.definition.specs.Memory.{memory}
-use Rattle.test.specs.Tested.{testGiven, shownTested, TestedIn}
-use Rattle.kept.specs.Front.{ofSixteen}
+use Rattle.test.specs.Tested.{test_given, shown_tested, TestedIn}
+use Rattle.kept.specs.Front.{of_sixteen}
 use Rattle.definition.specs.declared.Range.{Range}
 use Rattle.definition.specs.contracts.Range as row-Range
 use Rattle.definition.proofs.Range.TheLaws as law-Range
@@ -96,7 +96,7 @@ module _ {M : Type 1} {𝓤 : Ura M} (𝓛 : Logic 𝓤) (mem : Memory → SProp
   abbrev Post : Val → SProp 𝓤
   Post = (walk_of 𝓛 self.ended stayed (self.clauses 𝓛 mem run)).post (((κ0, tt), (q0, tt), tt, (x1, (x2, (x3, (x4, (x5, (x6, (x7, (x8, (x9, (x10, tt)))))))))), at_entry), tt)
 
-  exits : (r : TestOutcome) (u : Val) → Is row-TestOutcome.the_row r (u ∷ []) → (TestedIn (shownTested (testGiven x5 x6 x7 x8 x9 x10 (memory x1.now x2 (take x4 x3)))) r.answer r.count) → ent 𝓤 (⋆ 𝓛 (‵ (flft κ0 q0) ∷ ‵ ((ShrSlice (named 0) κ0 u32).own_val x1 (slice_val x1.ref_ptr (length x1.now) ∷ [])) ∷ [])) (Post u)
+  exits : (r : TestOutcome) (u : Val) → Is row-TestOutcome.the_row r (u ∷ []) → (TestedIn (shown_tested (test_given x5 x6 x7 x8 x9 x10 (memory x1.now x2 (take x4 x3)))) r.answer r.count) → ent 𝓤 (⋆ 𝓛 (‵ (flft κ0 q0) ∷ ‵ ((ShrSlice (named 0) κ0 u32).own_val x1 (slice_val x1.ref_ptr (length x1.now) ∷ [])) ∷ [])) (Post u)
   exits r u is e =
       qed 𝓛 (‵ (flft κ0 q0) ∷ ‵ ((ShrSlice (named 0) κ0 u32).own_val x1 (slice_val x1.ref_ptr (length x1.now) ∷ [])) ∷ []) ∵
       suffices ! _ (ends_at 𝓛 self.ended stayed (self.clauses 𝓛 mem run) (((κ0, tt), (q0, tt), tt, (x1, (x2, (x3, (x4, (x5, (x6, (x7, (x8, (x9, (x10, tt)))))))))), at_entry), tt) u r (tt, (tt, (tt, (tt, (tt, (tt, (tt, (tt, (tt, (tt, tt)))))))))) (tt, (tt, (tt, (tt, (tt, (tt, (tt, (tt, (tt, (tt, tt))))))))))) $ says ! e $
@@ -110,8 +110,8 @@ module _ {M : Type 1} {𝓤 : Ura M} (𝓛 : Logic 𝓤) (mem : Memory → SProp
   goes-0 a0 v0 i0 =
       qed 𝓛 ([]) ∵ nothing ! $ owned ! u64 (Is u64) (uint_Makes 𝓛 w64) a0 _ i0 $ fjoin ! $ nothing ! $ join ! $ frame ! $ done !
 
-  said-0 : (a0 : ℕ) (r : ℕ) → ent 𝓤 (ensured 𝓛 c0.ended (c0.clauses 𝓛 mem run) tt (a0, tt) tt r) (fact 𝓤 (r ≡ ofSixteen a0))
-  said-0 a0 r = ex_e 𝓤 _ (λ ws. snd∗ 𝓤 (sem 𝓛 (lasts c0.ended tt (a0, tt) ws)) (fact 𝓤 (r ≡ ofSixteen a0)))
+  said-0 : (a0 : ℕ) (r : ℕ) → ent 𝓤 (ensured 𝓛 c0.ended (c0.clauses 𝓛 mem run) tt (a0, tt) tt r) (fact 𝓤 (r ≡ of_sixteen a0))
+  said-0 a0 r = ex_e 𝓤 _ (λ ws. snd∗ 𝓤 (sem 𝓛 (lasts c0.ended tt (a0, tt) ws)) (fact 𝓤 (r ≡ of_sixteen a0)))
 
   -- the call of `test`: what it is passed, what it asks, and what is known of its result
   abbrev to-1 : (κ1 : Lft) (q1 : Share) (a0 : Bor (List ℕ)) (v0 : Val) (a1 : ℕ) (v1 : Val) (a2 : Bor (List Range)) (v2 : Val) (a3 : Bool) (v3 : Val) (a4 : Registers) (v4 : Val) (a5 : ℕ) (v5 : Val) (a6 : Bool) (v6 : Val) (a7 : ℕ) (v7 : Val) (a8 : ℕ) (v8 : Val) → (C1 𝓛 mem run).Ghost
@@ -121,8 +121,8 @@ module _ {M : Type 1} {𝓤 : Ura M} (𝓛 : Logic 𝓤) (mem : Memory → SProp
   goes-1 κ1 q1 a0 v0 a1 v1 a2 v2 a3 v3 a4 v4 a5 v5 a6 v6 a7 v7 a8 v8 i1 i3 i4 i5 i6 i7 i8 =
       qed 𝓛 (‵ (flft κ0 q0) ∷ ‵ (flft κ1 q1) ∷ ‵ ((ShrSlice (named 0) κ0 u32).own_val a0 (v0 ∷ [])) ∷ ‵ ((ShrSlice (named 1) κ1 row-Range.the_row).own_val a2 (v2 ∷ [])) ∷ []) ∵ nothing ! $ owned ! u32 (Is u32) (uint_Makes 𝓛 w32) a8 _ i8 $ fjoin ! $ owned ! u32 (Is u32) (uint_Makes 𝓛 w32) a7 _ i7 $ fjoin ! $ owned ! Boolean (Is Boolean) (bool_Makes 𝓛) a6 _ i6 $ fjoin ! $ owned ! u32 (Is u32) (uint_Makes 𝓛 w32) a5 _ i5 $ fjoin ! $ owned ! row-Registers.the_row (Is row-Registers.the_row) (LL.makes row-Registers.the_type law-Registers.the_plain 𝓛) a4 _ i4 $ fjoin ! $ owned ! Boolean (Is Boolean) (bool_Makes 𝓛) a3 _ i3 $ fjoin ! $ move ! (4 ∷ 0 ∷ []) $ fjoin ! $ owned ! u32 (Is u32) (uint_Makes 𝓛 w32) a1 _ i1 $ fjoin ! $ move ! (3 ∷ 0 ∷ []) $ fjoin ! $ nothing ! $ move ! (3 ∷ 0 ∷ []) $ join ! $ move ! (2 ∷ 0 ∷ []) $ join ! $ join ! $ frame ! $ done !
 
-  said-1 : (κ1 : Lft) (q1 : Share) (a0 : Bor (List ℕ)) (a1 : ℕ) (a2 : Bor (List Range)) (a3 : Bool) (a4 : Registers) (a5 : ℕ) (a6 : Bool) (a7 : ℕ) (a8 : ℕ) (r : TestOutcome) → ent 𝓤 (ensured 𝓛 c1.ended (c1.clauses 𝓛 mem run) (κ0, (κ1, tt)) (a0, (a1, (a2, (a3, (a4, (a5, (a6, (a7, (a8, tt))))))))) tt r) (fact 𝓤 (TestedIn (shownTested (testGiven a3 a4 a5 a6 a7 a8 (memory a0.now a1 a2.now))) r.answer r.count))
-  said-1 κ1 q1 a0 a1 a2 a3 a4 a5 a6 a7 a8 r = ex_e 𝓤 _ (λ ws. snd∗ 𝓤 (sem 𝓛 (lasts c1.ended (κ0, (κ1, tt)) (a0, (a1, (a2, (a3, (a4, (a5, (a6, (a7, (a8, tt))))))))) ws)) (fact 𝓤 (TestedIn (shownTested (testGiven a3 a4 a5 a6 a7 a8 (memory a0.now a1 a2.now))) r.answer r.count)))
+  said-1 : (κ1 : Lft) (q1 : Share) (a0 : Bor (List ℕ)) (a1 : ℕ) (a2 : Bor (List Range)) (a3 : Bool) (a4 : Registers) (a5 : ℕ) (a6 : Bool) (a7 : ℕ) (a8 : ℕ) (r : TestOutcome) → ent 𝓤 (ensured 𝓛 c1.ended (c1.clauses 𝓛 mem run) (κ0, (κ1, tt)) (a0, (a1, (a2, (a3, (a4, (a5, (a6, (a7, (a8, tt))))))))) tt r) (fact 𝓤 (TestedIn (shown_tested (test_given a3 a4 a5 a6 a7 a8 (memory a0.now a1 a2.now))) r.answer r.count))
+  said-1 κ1 q1 a0 a1 a2 a3 a4 a5 a6 a7 a8 r = ex_e 𝓤 _ (λ ws. snd∗ 𝓤 (sem 𝓛 (lasts c1.ended (κ0, (κ1, tt)) (a0, (a1, (a2, (a3, (a4, (a5, (a6, (a7, (a8, tt))))))))) ws)) (fact 𝓤 (TestedIn (shown_tested (test_given a3 a4 a5 a6 a7 a8 (memory a0.now a1 a2.now))) r.answer r.count)))
 
   module _ (𝓣 : Tables 𝓤 H) (known-0 : Triple 𝓤 (𝓣.C #kept·of-sixteen) (C0 𝓛 mem run)) (known-1 : Triple 𝓤 (𝓣.C #test·test) (C1 𝓛 mem run)) where
     abbrev C : Calls 𝓤 H
@@ -144,7 +144,7 @@ module _ {M : Type 1} {𝓤 : Ura M} (𝓛 : Logic 𝓤) (mem : Memory → SProp
         assigns ! (of_opd ! (load ! (from ! (stop !)) (look ! 24 refl))) (from ! (stop !)) (init ! 8 refl ((Array-Lawful 𝓛 row-Range.the_row (LL.lawful row-Range.the_type law-Range.the_laws 𝓛) 16).typed x3 _ i3).0) $
         use0 𝓛 (raw ((C0 𝓛 mem run).pre (to-0 x4 (vint w64 x4)))) (goes-0 x4 (vint w64 x4) i4) $
         calls_at ! fm (C0 𝓛 mem run) known-0 (to-0 x4 (vint w64 x4)) (and_then ! (load ! (from ! (stop !)) (look ! 23 refl)) (no_more !)) (λ val1.
-        use1 𝓛 (later (some (λ (r : ℕ). (‵ ftrue ⊛ ‵ (u64.own_val r (val1 ∷ []))) ⊛ raw (ensured 𝓛 c0.ended (c0.clauses 𝓛 mem run) tt (x4, tt) tt r)))) (id⊢ 𝓤 _) $ await ! tt $ choose ! (λ r2. split ! $ move ! (1 ∷ []) $ use1 𝓛 (raw (fact 𝓤 (r2 ≡ ofSixteen x4))) (said-0 x4 r2) $ heard ! (r2 ≡ ofSixteen x4) (λ e3. split ! $
+        use1 𝓛 (later (some (λ (r : ℕ). (‵ ftrue ⊛ ‵ (u64.own_val r (val1 ∷ []))) ⊛ raw (ensured 𝓛 c0.ended (c0.clauses 𝓛 mem run) tt (x4, tt) tt r)))) (id⊢ 𝓤 _) $ await ! tt $ choose ! (λ r2. split ! $ move ! (1 ∷ []) $ use1 𝓛 (raw (fact 𝓤 (r2 ≡ of_sixteen x4))) (said-0 x4 r2) $ heard ! (r2 ≡ of_sixteen x4) (λ e3. split ! $
         drop ! $ facts ! u64 (Is u64) (shows 𝓛 u64) r2 (val1 ∷ []) (λ is4. land ! (from ! (stop !)) (init ! 6 refl ((uint_Lawful 𝓛 w64).typed r2 _ is4).0) $
         rewrite ! 6 (λ (u : Val). ‵ (fat full_share (ty_int w64) l12 0 u)) (ap only (uint_Tells w64 r2 _ is4)) refl $
         assigns ! (addr ! (from ! (stop !))) (from ! (stop !)) (init ! 4 refl (tt, tt)) $
@@ -160,7 +160,7 @@ module _ {M : Type 1} {𝓤 : Ura M} (𝓛 : Logic 𝓤) (mem : Memory → SProp
         split ! $ move ! (6 ∷ 4 ∷ 0 ∷ 2 ∷ []) $ group ! 4 $
         use1 𝓛 (raw ((C1 𝓛 mem run).pre (to-1 (α1 ∷ []) full_share x1 (slice_val x1.ref_ptr (length x1.now)) x2 (vint w32 x2) (record { ref_ptr = (l11, 0); now = (take r2 x3) }) (slice_val (l11, 0) (length (take r2 x3))) x5 (vbool x5) x6 (LL.val row-Registers.the_type law-Registers.the_laws x6) x7 (vint w32 x7) x8 (vbool x8) x9 (vint w32 x9) x10 (vint w32 x10)))) (goes-1 (α1 ∷ []) full_share x1 (slice_val x1.ref_ptr (length x1.now)) x2 (vint w32 x2) (record { ref_ptr = (l11, 0); now = (take r2 x3) }) (slice_val (l11, 0) (length (take r2 x3))) x5 (vbool x5) x6 (LL.val row-Registers.the_type law-Registers.the_laws x6) x7 (vint w32 x7) x8 (vbool x8) x9 (vint w32 x9) x10 (vint w32 x10) i2 i5 i6 i7 i8 i9 i10) $
         calls_at ! fm (C1 𝓛 mem run) known-1 (to-1 (α1 ∷ []) full_share x1 (slice_val x1.ref_ptr (length x1.now)) x2 (vint w32 x2) (record { ref_ptr = (l11, 0); now = (take r2 x3) }) (slice_val (l11, 0) (length (take r2 x3))) x5 (vbool x5) x6 (LL.val row-Registers.the_type law-Registers.the_laws x6) x7 (vint w32 x7) x8 (vbool x8) x9 (vint w32 x9) x10 (vint w32 x10)) (and_then ! (load ! (from ! (stop !)) (look ! 29 refl)) (and_then ! (load ! (from ! (stop !)) (look ! 27 refl)) (and_then ! (load ! (from ! (stop !)) (look ! 4 refl)) (and_then ! (load ! (from ! (stop !)) (look ! 21 refl)) (and_then ! (load ! (from ! (stop !)) (look ! 19 refl)) (and_then ! (load ! (from ! (stop !)) (look ! 17 refl)) (and_then ! (load ! (from ! (stop !)) (look ! 15 refl)) (and_then ! (load ! (from ! (stop !)) (look ! 13 refl)) (and_then ! (load ! (from ! (stop !)) (look ! 11 refl)) (no_more !)))))))))) (λ val6.
-        use1 𝓛 (later (some (λ (r : TestOutcome). ((‵ (flft κ0 q0) ⊛ ‵ (flft (α1 ∷ []) full_share) ⊛ ‵ ftrue) ⊛ ‵ ((row-TestOutcome.the_row).own_val r (val6 ∷ []))) ⊛ raw (ensured 𝓛 c1.ended (c1.clauses 𝓛 mem run) (κ0, ((α1 ∷ []), tt)) (x1, (x2, ((record { ref_ptr = (l11, 0); now = (take r2 x3) }), (x5, (x6, (x7, (x8, (x9, (x10, tt))))))))) tt r)))) (id⊢ 𝓤 _) $ await ! tt $ choose ! (λ r7. split ! $ move ! (1 ∷ []) $ use1 𝓛 (raw (fact 𝓤 (TestedIn (shownTested (testGiven x5 x6 x7 x8 x9 x10 (memory x1.now x2 (record { ref_ptr = (l11, 0); now = (take r2 x3) }).now))) r7.answer r7.count))) (said-1 (α1 ∷ []) full_share x1 x2 (record { ref_ptr = (l11, 0); now = (take r2 x3) }) x5 x6 x7 x8 x9 x10 r7) $ heard ! (TestedIn (shownTested (testGiven x5 x6 x7 x8 x9 x10 (memory x1.now x2 (record { ref_ptr = (l11, 0); now = (take r2 x3) }).now))) r7.answer r7.count) (λ e8. split ! $
+        use1 𝓛 (later (some (λ (r : TestOutcome). ((‵ (flft κ0 q0) ⊛ ‵ (flft (α1 ∷ []) full_share) ⊛ ‵ ftrue) ⊛ ‵ ((row-TestOutcome.the_row).own_val r (val6 ∷ []))) ⊛ raw (ensured 𝓛 c1.ended (c1.clauses 𝓛 mem run) (κ0, ((α1 ∷ []), tt)) (x1, (x2, ((record { ref_ptr = (l11, 0); now = (take r2 x3) }), (x5, (x6, (x7, (x8, (x9, (x10, tt))))))))) tt r)))) (id⊢ 𝓤 _) $ await ! tt $ choose ! (λ r7. split ! $ move ! (1 ∷ []) $ use1 𝓛 (raw (fact 𝓤 (TestedIn (shown_tested (test_given x5 x6 x7 x8 x9 x10 (memory x1.now x2 (record { ref_ptr = (l11, 0); now = (take r2 x3) }).now))) r7.answer r7.count))) (said-1 (α1 ∷ []) full_share x1 x2 (record { ref_ptr = (l11, 0); now = (take r2 x3) }) x5 x6 x7 x8 x9 x10 r7) $ heard ! (TestedIn (shown_tested (test_given x5 x6 x7 x8 x9 x10 (memory x1.now x2 (record { ref_ptr = (l11, 0); now = (take r2 x3) }).now))) r7.answer r7.count) (λ e8. split ! $
         split ! $ move ! (1 ∷ []) $ split ! $ move ! (1 ∷ []) $ drop ! $ move ! (2 ∷ []) $
         facts ! row-TestOutcome.the_row (Is row-TestOutcome.the_row) (shows 𝓛 row-TestOutcome.the_row) r7 (val6 ∷ []) (λ is9. land ! (from ! (stop !)) (init ! 32 refl ((LL.lawful row-TestOutcome.the_type law-TestOutcome.the_laws 𝓛).typed r7 _ is9).0) $
         rewrite ! 32 (λ (u : Val). ‵ (fat full_share law-TestOutcome.mir l0 0 u)) (ap only (LL.tells row-TestOutcome.the_type law-TestOutcome.the_laws r7 _ is9)) refl $ lft_end ! tt $

@@ -62,10 +62,10 @@ use base.Fml.{flent}
 use Rattle.memory.proofs.Lending as lending
 use Rattle.kept.proofs.Fronts as law
 use Rattle.definition.specs.Memory.{memory}
-use Rattle.cache.specs.Pair.{cachesOf}
-use Rattle.translate.specs.Stages.{translateGiven, shownTranslated}
+use Rattle.cache.specs.Pair.{caches_of}
+use Rattle.translate.specs.Stages.{translate_given, shown_translated}
 use Rattle.translate.specs.InPlace.{AnsweredIn}
-use Rattle.kept.specs.Front.{ofSixteen}
+use Rattle.kept.specs.Front.{of_sixteen}
 use Rattle.definition.specs.declared.Access.{Access}
 use Rattle.definition.specs.contracts.Access as row-Access
 use Rattle.definition.proofs.Access.TheLaws as law-Access
@@ -110,7 +110,7 @@ module _ {M : Type 1} {𝓤 : Ura M} (𝓛 : Logic 𝓤) (mem : Memory → SProp
   abbrev Post : Val → SProp 𝓤
   Post = (walk_of 𝓛 self.ended stayed (self.clauses 𝓛 mem run)).post (((κ0, (κ1, (κ2, tt))), (q0, (q1, (q2, tt))), tt, (x1, (x2, (x3, (x4, (x5, (x6, (x7, (x8, (x9, tt))))))))), at_entry), tt)
 
-  exits : (y1 : List ℕ) (y2 : List ℕ) (r : Outcome) (u : Val) → Is row-Outcome.the_row r (u ∷ []) → (AnsweredIn (shownTranslated (translateGiven x7 x8 x9 (memory x3.now x4 (take x6 x5)) (cachesOf x1.now x2.now))) r.answer r.count (y1) (y2)) → ent 𝓤 (⋆ 𝓛 (‵ (flft κ0 q0) ∷ ‵ (flft κ1 q1) ∷ ‵ (flft κ2 q2) ∷ ‵ ((ShrSlice (named 2) κ2 u32).own_val x3 (slice_val x3.ref_ptr (length x3.now) ∷ [])) ∷ ‵ (fobs x1.ghost_name ((Array u64 69).coded.code y1)) ∷ ‵ (fbor κ0 (Behind (mem-of (Array u64 69)) x1.ref_ptr.0 x1.ref_ptr.1 x1.ghost_name)) ∷ ‵ (fobs x2.ghost_name ((Array u64 128).coded.code y2)) ∷ ‵ (fbor κ1 (Behind (mem-of (Array u64 128)) x2.ref_ptr.0 x2.ref_ptr.1 x2.ghost_name)) ∷ [])) (Post u)
+  exits : (y1 : List ℕ) (y2 : List ℕ) (r : Outcome) (u : Val) → Is row-Outcome.the_row r (u ∷ []) → (AnsweredIn (shown_translated (translate_given x7 x8 x9 (memory x3.now x4 (take x6 x5)) (caches_of x1.now x2.now))) r.answer r.count (y1) (y2)) → ent 𝓤 (⋆ 𝓛 (‵ (flft κ0 q0) ∷ ‵ (flft κ1 q1) ∷ ‵ (flft κ2 q2) ∷ ‵ ((ShrSlice (named 2) κ2 u32).own_val x3 (slice_val x3.ref_ptr (length x3.now) ∷ [])) ∷ ‵ (fobs x1.ghost_name ((Array u64 69).coded.code y1)) ∷ ‵ (fbor κ0 (Behind (mem-of (Array u64 69)) x1.ref_ptr.0 x1.ref_ptr.1 x1.ghost_name)) ∷ ‵ (fobs x2.ghost_name ((Array u64 128).coded.code y2)) ∷ ‵ (fbor κ1 (Behind (mem-of (Array u64 128)) x2.ref_ptr.0 x2.ref_ptr.1 x2.ghost_name)) ∷ [])) (Post u)
   exits y1 y2 r u is e =
       qed 𝓛 (‵ (flft κ0 q0) ∷ ‵ (flft κ1 q1) ∷ ‵ (flft κ2 q2) ∷ ‵ ((ShrSlice (named 2) κ2 u32).own_val x3 (slice_val x3.ref_ptr (length x3.now) ∷ [])) ∷ ‵ (fobs x1.name ((Array u64 69).coded.code y1)) ∷ ‵ (fbor κ0 (Behind (mem-of (Array u64 69)) x1.ptr.0 x1.ptr.1 x1.name)) ∷ ‵ (fobs x2.name ((Array u64 128).coded.code y2)) ∷ ‵ (fbor κ1 (Behind (mem-of (Array u64 128)) x2.ptr.0 x2.ptr.1 x2.name)) ∷ []) ∵
       suffices ! _ (ends_at 𝓛 self.ended stayed (self.clauses 𝓛 mem run) (((κ0, (κ1, (κ2, tt))), (q0, (q1, (q2, tt))), tt, (x1, (x2, (x3, (x4, (x5, (x6, (x7, (x8, (x9, tt))))))))), at_entry), tt) u r (y1, (y2, (tt, (tt, (tt, (tt, (tt, (tt, (tt, tt))))))))) (tt, (tt, (tt, (tt, (tt, (tt, (tt, (tt, (tt, tt)))))))))) $ says ! e $
@@ -124,8 +124,8 @@ module _ {M : Type 1} {𝓤 : Ura M} (𝓛 : Logic 𝓤) (mem : Memory → SProp
   goes-0 a0 v0 i0 =
       qed 𝓛 ([]) ∵ nothing ! $ owned ! u64 (Is u64) (uint_Makes 𝓛 w64) a0 _ i0 $ fjoin ! $ nothing ! $ join ! $ frame ! $ done !
 
-  said-0 : (a0 : ℕ) (r : ℕ) → ent 𝓤 (ensured 𝓛 c0.ended (c0.clauses 𝓛 mem run) tt (a0, tt) tt r) (fact 𝓤 (r ≡ ofSixteen a0))
-  said-0 a0 r = ex_e 𝓤 _ (λ ws. snd∗ 𝓤 (sem 𝓛 (lasts c0.ended tt (a0, tt) ws)) (fact 𝓤 (r ≡ ofSixteen a0)))
+  said-0 : (a0 : ℕ) (r : ℕ) → ent 𝓤 (ensured 𝓛 c0.ended (c0.clauses 𝓛 mem run) tt (a0, tt) tt r) (fact 𝓤 (r ≡ of_sixteen a0))
+  said-0 a0 r = ex_e 𝓤 _ (λ ws. snd∗ 𝓤 (sem 𝓛 (lasts c0.ended tt (a0, tt) ws)) (fact 𝓤 (r ≡ of_sixteen a0)))
 
   -- the call of `translate`: what it is passed, and what it asks
   abbrev to-1 : (κ4 : Lft) (q4 : Share) (κ5 : Lft) (q5 : Share) (κ3 : Lft) (q3 : Share) (a0 : Bor (List ℕ)) (v0 : Val) (a1 : Bor (List ℕ)) (v1 : Val) (a2 : Bor (List ℕ)) (v2 : Val) (a3 : ℕ) (v3 : Val) (a4 : Bor (List Range)) (v4 : Val) (a5 : Bool) (v5 : Val) (a6 : Registers) (v6 : Val) (a7 : Access) (v7 : Val) → (C1 𝓛 mem run).Ghost
@@ -156,7 +156,7 @@ module _ {M : Type 1} {𝓤 : Ura M} (𝓛 : Logic 𝓤) (mem : Memory → SProp
         assigns ! (of_opd ! (load ! (from ! (stop !)) (look ! 28 refl))) (from ! (stop !)) (init ! 18 refl ((Array-Lawful 𝓛 row-Range.the_row (LL.lawful row-Range.the_type law-Range.the_laws 𝓛) 16).typed x5 _ i5).0) $
         use0 𝓛 (raw ((C0 𝓛 mem run).pre (to-0 x6 (vint w64 x6)))) (goes-0 x6 (vint w64 x6) i6) $
         calls_at ! fm (C0 𝓛 mem run) known-0 (to-0 x6 (vint w64 x6)) (and_then ! (load ! (from ! (stop !)) (look ! 27 refl)) (no_more !)) (λ val1.
-        use1 𝓛 (later (some (λ (r : ℕ). (‵ ftrue ⊛ ‵ (u64.own_val r (val1 ∷ []))) ⊛ raw (ensured 𝓛 c0.ended (c0.clauses 𝓛 mem run) tt (x6, tt) tt r)))) (id⊢ 𝓤 _) $ await ! tt $ choose ! (λ r2. split ! $ move ! (1 ∷ []) $ use1 𝓛 (raw (fact 𝓤 (r2 ≡ ofSixteen x6))) (said-0 x6 r2) $ heard ! (r2 ≡ ofSixteen x6) (λ e3. split ! $
+        use1 𝓛 (later (some (λ (r : ℕ). (‵ ftrue ⊛ ‵ (u64.own_val r (val1 ∷ []))) ⊛ raw (ensured 𝓛 c0.ended (c0.clauses 𝓛 mem run) tt (x6, tt) tt r)))) (id⊢ 𝓤 _) $ await ! tt $ choose ! (λ r2. split ! $ move ! (1 ∷ []) $ use1 𝓛 (raw (fact 𝓤 (r2 ≡ of_sixteen x6))) (said-0 x6 r2) $ heard ! (r2 ≡ of_sixteen x6) (λ e3. split ! $
         drop ! $ facts ! u64 (Is u64) (shows 𝓛 u64) r2 (val1 ∷ []) (λ is4. land ! (from ! (stop !)) (init ! 16 refl ((uint_Lawful 𝓛 w64).typed r2 _ is4).0) $
         rewrite ! 16 (λ (u : Val). ‵ (fat full_share (ty_int w64) l11 0 u)) (ap only (uint_Tells w64 r2 _ is4)) refl $
         assigns ! (addr ! (from ! (hop ! (look ! 36 refl) (stop !)))) (from ! (stop !)) (init ! 14 refl (tt, tt)) $
@@ -180,7 +180,7 @@ module _ {M : Type 1} {𝓤 : Ura M} (𝓛 : Logic 𝓤) (mem : Memory → SProp
         split ! $ move ! (7 ∷ 4 ∷ 12 ∷ 10 ∷ 5 ∷ 2 ∷ 0 ∷ 8 ∷ []) $ group ! 8 $
         use1 𝓛 (raw ((C1 𝓛 mem run).pre (to-1 (α4 ∷ []) full_share (α5 ∷ []) full_share (α3 ∷ []) full_share (record { ref_ptr = (x1.ref_ptr.0, x1.ref_ptr.1); ghost_name = δ6; now = x1.now }) (vptr x1.ref_ptr.0 x1.ref_ptr.1) (record { ref_ptr = (x2.ref_ptr.0, x2.ref_ptr.1); ghost_name = δ7; now = x2.now }) (vptr x2.ref_ptr.0 x2.ref_ptr.1) x3 (slice_val x3.ref_ptr (length x3.now)) x4 (vint w32 x4) (record { ref_ptr = (l10, 0); ghost_name = γ5; now = (take r2 x5) }) (slice_val (l10, 0) (length (take r2 x5))) x7 (vbool x7) x8 (LL.val row-Registers.the_type law-Registers.the_laws x8) x9 (LL.val row-Access.the_type law-Access.the_laws x9)))) (goes-1 (α4 ∷ []) full_share (α5 ∷ []) full_share (α3 ∷ []) full_share (record { ref_ptr = (x1.ref_ptr.0, x1.ref_ptr.1); ghost_name = δ6; now = x1.now }) (vptr x1.ref_ptr.0 x1.ref_ptr.1) (record { ref_ptr = (x2.ref_ptr.0, x2.ref_ptr.1); ghost_name = δ7; now = x2.now }) (vptr x2.ref_ptr.0 x2.ref_ptr.1) x3 (slice_val x3.ref_ptr (length x3.now)) x4 (vint w32 x4) (record { ref_ptr = (l10, 0); ghost_name = γ5; now = (take r2 x5) }) (slice_val (l10, 0) (length (take r2 x5))) x7 (vbool x7) x8 (LL.val row-Registers.the_type law-Registers.the_laws x8) x9 (LL.val row-Access.the_type law-Access.the_laws x9) i4 i7 i8 i9) $
         calls_at ! fm (C1 𝓛 mem run) known-1 (to-1 (α4 ∷ []) full_share (α5 ∷ []) full_share (α3 ∷ []) full_share (record { ref_ptr = (x1.ref_ptr.0, x1.ref_ptr.1); ghost_name = δ6; now = x1.now }) (vptr x1.ref_ptr.0 x1.ref_ptr.1) (record { ref_ptr = (x2.ref_ptr.0, x2.ref_ptr.1); ghost_name = δ7; now = x2.now }) (vptr x2.ref_ptr.0 x2.ref_ptr.1) x3 (slice_val x3.ref_ptr (length x3.now)) x4 (vint w32 x4) (record { ref_ptr = (l10, 0); ghost_name = γ5; now = (take r2 x5) }) (slice_val (l10, 0) (length (take r2 x5))) x7 (vbool x7) x8 (LL.val row-Registers.the_type law-Registers.the_laws x8) x9 (LL.val row-Access.the_type law-Access.the_laws x9)) (and_then ! (load ! (from ! (stop !)) (look ! 12 refl)) (and_then ! (load ! (from ! (stop !)) (look ! 10 refl)) (and_then ! (load ! (from ! (stop !)) (look ! 29 refl)) (and_then ! (load ! (from ! (stop !)) (look ! 27 refl)) (and_then ! (load ! (from ! (stop !)) (look ! 6 refl)) (and_then ! (load ! (from ! (stop !)) (look ! 21 refl)) (and_then ! (load ! (from ! (stop !)) (look ! 19 refl)) (and_then ! (load ! (from ! (stop !)) (look ! 17 refl)) (no_more !))))))))) (λ val8.
-        use1 𝓛 (later (some (λ (r : Outcome). ((‵ (flft (α4 ∷ []) full_share) ⊛ ‵ (flft (α5 ∷ []) full_share) ⊛ ‵ (flft κ2 q2) ⊛ ‵ (flft (α3 ∷ []) full_share) ⊛ ‵ ftrue) ⊛ ‵ ((row-Outcome.the_row).own_val r (val8 ∷ []))) ⊛ raw (ensured 𝓛 c1.ended (c1.clauses 𝓛 mem run) ((α4 ∷ []), ((α5 ∷ []), (κ2, ((α3 ∷ []), tt)))) ((record { ref_ptr = (x1.ref_ptr.0, x1.ref_ptr.1); ghost_name = δ6; now = x1.now }), ((record { ref_ptr = (x2.ref_ptr.0, x2.ref_ptr.1); ghost_name = δ7; now = x2.now }), (x3, (x4, ((record { ref_ptr = (l10, 0); ghost_name = γ5; now = (take r2 x5) }), (x7, (x8, (x9, tt)))))))) tt r)))) (id⊢ 𝓤 _) $ await ! tt $ choose ! (λ r9. split ! $ move ! (1 ∷ []) $ use1 𝓛 (some (λ (ws : Lasts c1.ended ((α4 ∷ []), ((α5 ∷ []), (κ2, ((α3 ∷ []), tt)))) ((record { ref_ptr = (x1.ref_ptr.0, x1.ref_ptr.1); ghost_name = δ6; now = x1.now }), ((record { ref_ptr = (x2.ref_ptr.0, x2.ref_ptr.1); ghost_name = δ7; now = x2.now }), (x3, (x4, ((record { ref_ptr = (l10, 0); ghost_name = γ5; now = (take r2 x5) }), (x7, (x8, (x9, tt))))))))). ‵ (lasts c1.ended ((α4 ∷ []), ((α5 ∷ []), (κ2, ((α3 ∷ []), tt)))) ((record { ref_ptr = (x1.ref_ptr.0, x1.ref_ptr.1); ghost_name = δ6; now = x1.now }), ((record { ref_ptr = (x2.ref_ptr.0, x2.ref_ptr.1); ghost_name = δ7; now = x2.now }), (x3, (x4, ((record { ref_ptr = (l10, 0); ghost_name = γ5; now = (take r2 x5) }), (x7, (x8, (x9, tt)))))))) ws) ⊛ raw (fact 𝓤 (AnsweredIn (shownTranslated (translateGiven x7 x8 x9 (memory x3.now x4 (record { ref_ptr = (l10, 0); ghost_name = γ5; now = (take r2 x5) }).now) (cachesOf (record { ref_ptr = (x1.ref_ptr.0, x1.ref_ptr.1); ghost_name = δ6; now = x1.now }).now (record { ref_ptr = (x2.ref_ptr.0, x2.ref_ptr.1); ghost_name = δ7; now = x2.now }).now))) r9.answer r9.count (ws.0) (ws.1.0))))) (id⊢ 𝓤 _) $ choose ! (λ ws12. split ! $ move ! (1 ∷ []) $ heard ! (AnsweredIn (shownTranslated (translateGiven x7 x8 x9 (memory x3.now x4 (record { ref_ptr = (l10, 0); ghost_name = γ5; now = (take r2 x5) }).now) (cachesOf (record { ref_ptr = (x1.ref_ptr.0, x1.ref_ptr.1); ghost_name = δ6; now = x1.now }).now (record { ref_ptr = (x2.ref_ptr.0, x2.ref_ptr.1); ghost_name = δ7; now = x2.now }).now))) r9.answer r9.count (ws12.0) (ws12.1.0)) (λ e10.
+        use1 𝓛 (later (some (λ (r : Outcome). ((‵ (flft (α4 ∷ []) full_share) ⊛ ‵ (flft (α5 ∷ []) full_share) ⊛ ‵ (flft κ2 q2) ⊛ ‵ (flft (α3 ∷ []) full_share) ⊛ ‵ ftrue) ⊛ ‵ ((row-Outcome.the_row).own_val r (val8 ∷ []))) ⊛ raw (ensured 𝓛 c1.ended (c1.clauses 𝓛 mem run) ((α4 ∷ []), ((α5 ∷ []), (κ2, ((α3 ∷ []), tt)))) ((record { ref_ptr = (x1.ref_ptr.0, x1.ref_ptr.1); ghost_name = δ6; now = x1.now }), ((record { ref_ptr = (x2.ref_ptr.0, x2.ref_ptr.1); ghost_name = δ7; now = x2.now }), (x3, (x4, ((record { ref_ptr = (l10, 0); ghost_name = γ5; now = (take r2 x5) }), (x7, (x8, (x9, tt)))))))) tt r)))) (id⊢ 𝓤 _) $ await ! tt $ choose ! (λ r9. split ! $ move ! (1 ∷ []) $ use1 𝓛 (some (λ (ws : Lasts c1.ended ((α4 ∷ []), ((α5 ∷ []), (κ2, ((α3 ∷ []), tt)))) ((record { ref_ptr = (x1.ref_ptr.0, x1.ref_ptr.1); ghost_name = δ6; now = x1.now }), ((record { ref_ptr = (x2.ref_ptr.0, x2.ref_ptr.1); ghost_name = δ7; now = x2.now }), (x3, (x4, ((record { ref_ptr = (l10, 0); ghost_name = γ5; now = (take r2 x5) }), (x7, (x8, (x9, tt))))))))). ‵ (lasts c1.ended ((α4 ∷ []), ((α5 ∷ []), (κ2, ((α3 ∷ []), tt)))) ((record { ref_ptr = (x1.ref_ptr.0, x1.ref_ptr.1); ghost_name = δ6; now = x1.now }), ((record { ref_ptr = (x2.ref_ptr.0, x2.ref_ptr.1); ghost_name = δ7; now = x2.now }), (x3, (x4, ((record { ref_ptr = (l10, 0); ghost_name = γ5; now = (take r2 x5) }), (x7, (x8, (x9, tt)))))))) ws) ⊛ raw (fact 𝓤 (AnsweredIn (shown_translated (translate_given x7 x8 x9 (memory x3.now x4 (record { ref_ptr = (l10, 0); ghost_name = γ5; now = (take r2 x5) }).now) (caches_of (record { ref_ptr = (x1.ref_ptr.0, x1.ref_ptr.1); ghost_name = δ6; now = x1.now }).now (record { ref_ptr = (x2.ref_ptr.0, x2.ref_ptr.1); ghost_name = δ7; now = x2.now }).now))) r9.answer r9.count (ws.0) (ws.1.0))))) (id⊢ 𝓤 _) $ choose ! (λ ws12. split ! $ move ! (1 ∷ []) $ heard ! (AnsweredIn (shown_translated (translate_given x7 x8 x9 (memory x3.now x4 (record { ref_ptr = (l10, 0); ghost_name = γ5; now = (take r2 x5) }).now) (caches_of (record { ref_ptr = (x1.ref_ptr.0, x1.ref_ptr.1); ghost_name = δ6; now = x1.now }).now (record { ref_ptr = (x2.ref_ptr.0, x2.ref_ptr.1); ghost_name = δ7; now = x2.now }).now))) r9.answer r9.count (ws12.0) (ws12.1.0)) (λ e10.
         fsplit ! $ move ! (1 ∷ []) $ fsplit ! $ move ! (1 ∷ []) $ fsplit ! $ drop ! $ fsplit ! $ drop ! $ fsplit ! $ drop ! $ fsplit ! $ drop ! $ fsplit ! $ drop ! $ fsplit ! $
         drop ! $ drop ! $ move ! (2 ∷ []) $ split ! $ split ! $ move ! (1 ∷ []) $ split ! $ move ! (1 ∷ []) $ split ! $ move ! (1 ∷ []) $ split ! $ move ! (1 ∷ []) $ drop ! $
         move ! (4 ∷ []) $

@@ -54,7 +54,7 @@ use Rattle.kept.proofs.Fronts as law
 use Rattle.definition.specs.Memory.{memory}
 use Rattle.definition.specs.Walk030.{walk030}
 use Rattle.walk030.specs.Walked.{shown}
-use Rattle.kept.specs.Front.{ofSixteen}
+use Rattle.kept.specs.Front.{of_sixteen}
 use Rattle.definition.specs.declared.Range.{Range}
 use Rattle.definition.specs.contracts.Range as row-Range
 use Rattle.definition.proofs.Range.TheLaws as law-Range
@@ -110,8 +110,8 @@ module _ {M : Type 1} {𝓤 : Ura M} (𝓛 : Logic 𝓤) (mem : Memory → SProp
   goes-0 a0 v0 i0 =
       qed 𝓛 ([]) ∵ nothing ! $ owned ! u64 (Is u64) (uint_Makes 𝓛 w64) a0 _ i0 $ fjoin ! $ nothing ! $ join ! $ frame ! $ done !
 
-  said-0 : (a0 : ℕ) (r : ℕ) → ent 𝓤 (ensured 𝓛 c0.ended (c0.clauses 𝓛 mem run) tt (a0, tt) tt r) (fact 𝓤 (r ≡ ofSixteen a0))
-  said-0 a0 r = ex_e 𝓤 _ (λ ws. snd∗ 𝓤 (sem 𝓛 (lasts c0.ended tt (a0, tt) ws)) (fact 𝓤 (r ≡ ofSixteen a0)))
+  said-0 : (a0 : ℕ) (r : ℕ) → ent 𝓤 (ensured 𝓛 c0.ended (c0.clauses 𝓛 mem run) tt (a0, tt) tt r) (fact 𝓤 (r ≡ of_sixteen a0))
+  said-0 a0 r = ex_e 𝓤 _ (λ ws. snd∗ 𝓤 (sem 𝓛 (lasts c0.ended tt (a0, tt) ws)) (fact 𝓤 (r ≡ of_sixteen a0)))
 
   -- the call of `walk`: what it is passed, what it asks, and what is known of its result
   abbrev to-1 : (κ1 : Lft) (q1 : Share) (a0 : Bor (List ℕ)) (v0 : Val) (a1 : ℕ) (v1 : Val) (a2 : Bor (List Range)) (v2 : Val) (a3 : Registers) (v3 : Val) (a4 : ℕ) (v4 : Val) (a5 : ℕ) (v5 : Val) (a6 : ℕ) (v6 : Val) → (C1 𝓛 mem run).Ghost
@@ -144,7 +144,7 @@ module _ {M : Type 1} {𝓤 : Ura M} (𝓛 : Logic 𝓤) (mem : Memory → SProp
         assigns ! (of_opd ! (load ! (from ! (stop !)) (look ! 20 refl))) (from ! (stop !)) (init ! 8 refl ((Array-Lawful 𝓛 row-Range.the_row (LL.lawful row-Range.the_type law-Range.the_laws 𝓛) 16).typed x3 _ i3).0) $
         use0 𝓛 (raw ((C0 𝓛 mem run).pre (to-0 x4 (vint w64 x4)))) (goes-0 x4 (vint w64 x4) i4) $
         calls_at ! fm (C0 𝓛 mem run) known-0 (to-0 x4 (vint w64 x4)) (and_then ! (load ! (from ! (stop !)) (look ! 19 refl)) (no_more !)) (λ val1.
-        use1 𝓛 (later (some (λ (r : ℕ). (‵ ftrue ⊛ ‵ (u64.own_val r (val1 ∷ []))) ⊛ raw (ensured 𝓛 c0.ended (c0.clauses 𝓛 mem run) tt (x4, tt) tt r)))) (id⊢ 𝓤 _) $ await ! tt $ choose ! (λ r2. split ! $ move ! (1 ∷ []) $ use1 𝓛 (raw (fact 𝓤 (r2 ≡ ofSixteen x4))) (said-0 x4 r2) $ heard ! (r2 ≡ ofSixteen x4) (λ e3. split ! $
+        use1 𝓛 (later (some (λ (r : ℕ). (‵ ftrue ⊛ ‵ (u64.own_val r (val1 ∷ []))) ⊛ raw (ensured 𝓛 c0.ended (c0.clauses 𝓛 mem run) tt (x4, tt) tt r)))) (id⊢ 𝓤 _) $ await ! tt $ choose ! (λ r2. split ! $ move ! (1 ∷ []) $ use1 𝓛 (raw (fact 𝓤 (r2 ≡ of_sixteen x4))) (said-0 x4 r2) $ heard ! (r2 ≡ of_sixteen x4) (λ e3. split ! $
         drop ! $ facts ! u64 (Is u64) (shows 𝓛 u64) r2 (val1 ∷ []) (λ is4. land ! (from ! (stop !)) (init ! 6 refl ((uint_Lawful 𝓛 w64).typed r2 _ is4).0) $
         rewrite ! 6 (λ (u : Val). ‵ (fat full_share (ty_int w64) l10 0 u)) (ap only (uint_Tells w64 r2 _ is4)) refl $
         assigns ! (addr ! (from ! (stop !))) (from ! (stop !)) (init ! 4 refl (tt, tt)) $

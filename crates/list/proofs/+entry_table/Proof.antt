@@ -8,8 +8,8 @@ use borrow.Fn.Kinds.{In}
 use borrow.Fn.PlainCycle.{Measures, is, falls, and}
 use Rattle.definition.specs.Memory.{memory}
 use Rattle.definition.specs.Walk030.{used}
-use Rattle.definition.specs.List.{entry_at, tableRanges, entryRanges, rangesFrom}
-use Rattle.list.specs.Numbers.{pairsOf}
+use Rattle.definition.specs.List.{entry_at, table_ranges, entry_ranges, ranges_from}
+use Rattle.list.specs.Numbers.{pairs_of}
 use Rattle.list.specs.Writing.{written, puts}
 use Rattle.list.proofs.Levels as levels
 use Rattle.list.proofs.Output as output
@@ -53,7 +53,7 @@ entry-is-before-requires : (t : ℕ) → entry-lts.Need-is-before-requires (is-b
 entry-is-before-requires t c κs = levels.most _ _ _ c.before.before.before.requires.1
 
 entry-returns : (t : ℕ) → entry-lts.Need-returns (is-before-reads.Asked, is-before-reads.Learnt, is-last-reads.Asked, is-last-reads.Learnt, look-reads.Asked, look-reads.Learnt, put_reads.Asked, put_reads.Learnt, table_below t, table.Post) (entry-at t) entry.Post
-entry-returns t c = law.skips (memory c.before.before.before.before.before.args.longs.now c.before.before.before.before.before.args.base (pairsOf c.before.before.before.before.before.args.ranges.now)) c.before.before.before.before.before.args.ws c.before.before.before.before.before.args.level c.before.before.before.before.before.args.from c.before.before.before.before.before.args.e c.before.before.before.before.before.requires.1 (written c.before.before.before.before.before.args.out.now c.before.before.before.before.before.args.s) _ c.before.is-before.ensures c.if1.true
+entry-returns t c = law.skips (memory c.before.before.before.before.before.args.longs.now c.before.before.before.before.before.args.base (pairs_of c.before.before.before.before.before.args.ranges.now)) c.before.before.before.before.before.args.ws c.before.before.before.before.before.args.level c.before.before.before.before.before.args.from c.before.before.before.before.before.args.e c.before.before.before.before.before.requires.1 (written c.before.before.before.before.before.args.out.now c.before.before.before.before.before.args.s) _ c.before.is-before.ensures c.if1.true
 
 entry-is-last-requires : (t : ℕ) → entry-lts.Need-is-last-requires (is-before-reads.Asked, is-before-reads.Learnt, is-last-reads.Asked, is-last-reads.Learnt, look-reads.Asked, look-reads.Learnt, put_reads.Asked, put_reads.Learnt, table_below t, table.Post) (entry-at t) entry.Post
 entry-is-last-requires t c κs = search rules
@@ -74,30 +74,30 @@ entry-enum-known-t : (t : ℕ) → entry-lts.Need-enum-known-t (is-before-reads.
 entry-enum-known-t t c = search rules
 
 entry-table-requires : (t : ℕ) → entry-lts.Need-table-requires (is-before-reads.Asked, is-before-reads.Learnt, is-last-reads.Asked, is-last-reads.Learnt, look-reads.Asked, look-reads.Learnt, put_reads.Asked, put_reads.Learnt, table_below t, table.Post) (entry-at t) entry.Post
-entry-table-requires t c κs = (omega arith, law.opened (memory c.before.before.before.before.before.before.before.before.before.before.before.args.longs.now c.before.before.before.before.before.before.before.before.before.before.before.args.base (pairsOf c.before.before.before.before.before.before.before.before.before.before.before.args.ranges.now)) c.before.before.before.before.before.before.before.before.before.before.before.args.ws c.before.before.before.before.before.before.before.before.before.before.before.args.level c.before.before.before.before.before.before.before.before.before.before.before.args.from c.before.before.before.before.before.before.before.before.before.before.before.args.e c.before.before.before.before.before.before.before.before.before.before.before.requires.1 (written c.before.before.before.before.before.before.before.before.before.before.before.args.out.now c.before.before.before.before.before.before.before.before.before.before.before.args.s) _ c.before.before.before.before.before.before.before.is-before.ensures _ c.before.before.before.before.before.is_last.ensures _ c.before.before.before.before.look.ensures _ c.before.before.t.given.1)
+entry-table-requires t c κs = (omega arith, law.opened (memory c.before.before.before.before.before.before.before.before.before.before.before.args.longs.now c.before.before.before.before.before.before.before.before.before.before.before.args.base (pairs_of c.before.before.before.before.before.before.before.before.before.before.before.args.ranges.now)) c.before.before.before.before.before.before.before.before.before.before.before.args.ws c.before.before.before.before.before.before.before.before.before.before.before.args.level c.before.before.before.before.before.before.before.before.before.before.before.args.from c.before.before.before.before.before.before.before.before.before.before.before.args.e c.before.before.before.before.before.before.before.before.before.before.before.requires.1 (written c.before.before.before.before.before.before.before.before.before.before.before.args.out.now c.before.before.before.before.before.before.before.before.before.before.before.args.s) _ c.before.before.before.before.before.before.before.is-before.ensures _ c.before.before.before.before.before.is_last.ensures _ c.before.before.before.before.look.ensures _ c.before.before.t.given.1)
 
 entry-returns-2 : (t : ℕ) → entry-lts.Need-returns-2 (is-before-reads.Asked, is-before-reads.Learnt, is-last-reads.Asked, is-last-reads.Learnt, look-reads.Asked, look-reads.Learnt, put_reads.Asked, put_reads.Learnt, table_below t, table.Post) (entry-at t) entry.Post
-entry-returns-2 t c = law.none (memory c.before.before.before.before.before.before.before.before.before.args.longs.now c.before.before.before.before.before.before.before.before.before.args.base (pairsOf c.before.before.before.before.before.before.before.before.before.args.ranges.now)) c.before.before.before.before.before.before.before.before.before.args.ws c.before.before.before.before.before.before.before.before.before.args.level c.before.before.before.before.before.before.before.before.before.args.from c.before.before.before.before.before.before.before.before.before.args.e c.before.before.before.before.before.before.before.before.before.requires.1 (written c.before.before.before.before.before.before.before.before.before.args.out.now c.before.before.before.before.before.before.before.before.before.args.s) _ c.before.before.before.before.before.is-before.ensures _ c.before.before.before.is_last.ensures _ c.before.before.look.ensures c.enum_told.given.1
+entry-returns-2 t c = law.none (memory c.before.before.before.before.before.before.before.before.before.args.longs.now c.before.before.before.before.before.before.before.before.before.args.base (pairs_of c.before.before.before.before.before.before.before.before.before.args.ranges.now)) c.before.before.before.before.before.before.before.before.before.args.ws c.before.before.before.before.before.before.before.before.before.args.level c.before.before.before.before.before.before.before.before.before.args.from c.before.before.before.before.before.before.before.before.before.args.e c.before.before.before.before.before.before.before.before.before.requires.1 (written c.before.before.before.before.before.before.before.before.before.args.out.now c.before.before.before.before.before.before.before.before.before.args.s) _ c.before.before.before.before.before.is-before.ensures _ c.before.before.before.is_last.ensures _ c.before.before.look.ensures c.enum_told.given.1
 
 entry-same-length : (t : ℕ) → entry-lts.Need-same-length (is-before-reads.Asked, is-before-reads.Learnt, is-last-reads.Asked, is-last-reads.Learnt, look-reads.Asked, look-reads.Learnt, put_reads.Asked, put_reads.Learnt, table_below t, table.Post) (entry-at t) entry.Post
 entry-same-length t c = c.before.before.put.auto.0
 
 entry-returns-3 : (t : ℕ) → entry-lts.Need-returns-3 (is-before-reads.Asked, is-before-reads.Learnt, is-last-reads.Asked, is-last-reads.Learnt, look-reads.Asked, look-reads.Learnt, put_reads.Asked, put_reads.Learnt, table_below t, table.Post) (entry-at t) entry.Post
-entry-returns-3 t c = law.one (memory c.before.before.before.before.before.before.before.before.before.before.before.before.before.before.args.longs.now c.before.before.before.before.before.before.before.before.before.before.before.before.before.before.args.base (pairsOf c.before.before.before.before.before.before.before.before.before.before.before.before.before.before.args.ranges.now)) c.before.before.before.before.before.before.before.before.before.before.before.before.before.before.args.ws c.before.before.before.before.before.before.before.before.before.before.before.before.before.before.args.level c.before.before.before.before.before.before.before.before.before.before.before.before.before.before.args.from c.before.before.before.before.before.before.before.before.before.before.before.before.before.before.args.e c.before.before.before.before.before.before.before.before.before.before.before.before.before.before.requires.1 (written c.before.before.before.before.before.before.before.before.before.before.before.before.before.before.args.out.now c.before.before.before.before.before.before.before.before.before.before.before.before.before.before.args.s) _ c.before.before.before.before.before.before.before.before.before.before.is-before.ensures _ c.before.before.before.before.before.before.before.before.is_last.ensures _ c.before.before.before.before.before.before.before.look.ensures _ _ c.before.before.before.before.before.before.before.before.before.if1.false c.before.before.before.before.before.x.given.1 c.before.before.put.ensures
+entry-returns-3 t c = law.one (memory c.before.before.before.before.before.before.before.before.before.before.before.before.before.before.args.longs.now c.before.before.before.before.before.before.before.before.before.before.before.before.before.before.args.base (pairs_of c.before.before.before.before.before.before.before.before.before.before.before.before.before.before.args.ranges.now)) c.before.before.before.before.before.before.before.before.before.before.before.before.before.before.args.ws c.before.before.before.before.before.before.before.before.before.before.before.before.before.before.args.level c.before.before.before.before.before.before.before.before.before.before.before.before.before.before.args.from c.before.before.before.before.before.before.before.before.before.before.before.before.before.before.args.e c.before.before.before.before.before.before.before.before.before.before.before.before.before.before.requires.1 (written c.before.before.before.before.before.before.before.before.before.before.before.before.before.before.args.out.now c.before.before.before.before.before.before.before.before.before.before.before.before.before.before.args.s) _ c.before.before.before.before.before.before.before.before.before.before.is-before.ensures _ c.before.before.before.before.before.before.before.before.is_last.ensures _ c.before.before.before.before.before.before.before.look.ensures _ _ c.before.before.before.before.before.before.before.before.before.if1.false c.before.before.before.before.before.x.given.1 c.before.before.put.ensures
 
 entry-same-length-2 : (t : ℕ) → entry-lts.Need-same-length-2 (is-before-reads.Asked, is-before-reads.Learnt, is-last-reads.Asked, is-last-reads.Learnt, look-reads.Asked, look-reads.Learnt, put_reads.Asked, put_reads.Learnt, table_below t, table.Post) (entry-at t) entry.Post
 entry-same-length-2 t c = c.before.before.table.auto.1.1.1.0
 
 entry-returns-4 : (t : ℕ) → entry-lts.Need-returns-4 (is-before-reads.Asked, is-before-reads.Learnt, is-last-reads.Asked, is-last-reads.Learnt, look-reads.Asked, look-reads.Learnt, put_reads.Asked, put_reads.Learnt, table_below t, table.Post) (entry-at t) entry.Post
-entry-returns-4 t c = law.opens (memory c.before.before.before.before.before.before.before.before.before.before.before.before.before.before.args.longs.now c.before.before.before.before.before.before.before.before.before.before.before.before.before.before.args.base (pairsOf c.before.before.before.before.before.before.before.before.before.before.before.before.before.before.args.ranges.now)) c.before.before.before.before.before.before.before.before.before.before.before.before.before.before.args.ws c.before.before.before.before.before.before.before.before.before.before.before.before.before.before.args.level c.before.before.before.before.before.before.before.before.before.before.before.before.before.before.args.from c.before.before.before.before.before.before.before.before.before.before.before.before.before.before.args.e c.before.before.before.before.before.before.before.before.before.before.before.before.before.before.requires.1 (written c.before.before.before.before.before.before.before.before.before.before.before.before.before.before.args.out.now c.before.before.before.before.before.before.before.before.before.before.before.before.before.before.args.s) _ c.before.before.before.before.before.before.before.before.before.before.is-before.ensures _ c.before.before.before.before.before.before.before.before.is_last.ensures _ c.before.before.before.before.before.before.before.look.ensures _ _ c.before.before.before.before.before.t.given.1 c.before.before.table.ensures
+entry-returns-4 t c = law.opens (memory c.before.before.before.before.before.before.before.before.before.before.before.before.before.before.args.longs.now c.before.before.before.before.before.before.before.before.before.before.before.before.before.before.args.base (pairs_of c.before.before.before.before.before.before.before.before.before.before.before.before.before.before.args.ranges.now)) c.before.before.before.before.before.before.before.before.before.before.before.before.before.before.args.ws c.before.before.before.before.before.before.before.before.before.before.before.before.before.before.args.level c.before.before.before.before.before.before.before.before.before.before.before.before.before.before.args.from c.before.before.before.before.before.before.before.before.before.before.before.before.before.before.args.e c.before.before.before.before.before.before.before.before.before.before.before.before.before.before.requires.1 (written c.before.before.before.before.before.before.before.before.before.before.before.before.before.before.args.out.now c.before.before.before.before.before.before.before.before.before.before.before.before.before.before.args.s) _ c.before.before.before.before.before.before.before.before.before.before.is-before.ensures _ c.before.before.before.before.before.before.before.before.is_last.ensures _ c.before.before.before.before.before.before.before.look.ensures _ _ c.before.before.before.before.before.t.given.1 c.before.before.table.ensures
 
 abbrev table-Inv-loop : table-lts.invariant-loop
 table-Inv-loop longs base ranges out₀ ws level t from w n so₀ i₀ out so i =
     (length out ≡ length out₀)
     × output.Going
-    (λ (j : ℕ). rangesFrom from (entryRanges (memory longs base (pairsOf ranges)) (used (drop (level + 1) ws)) (entry_at t w j)))
+    (λ (j : ℕ). ranges_from from (entry_ranges (memory longs base (pairs_of ranges)) (used (drop (level + 1) ws)) (entry_at t w j)))
     n
-    (puts (rangesFrom from (tableRanges (memory longs base (pairsOf ranges)) (used (drop level ws)) t)) (written out₀ so₀))
+    (puts (ranges_from from (table_ranges (memory longs base (pairs_of ranges)) (used (drop level ws)) t)) (written out₀ so₀))
     i
     (written out so)
 
@@ -112,13 +112,13 @@ table-width-at-requires : (t : ℕ) → table-lts.Need-width-at-requires (width-
 table-width-at-requires t c κs = search rules
 
 table-returns : (t : ℕ) → table-lts.Need-returns (width-at-reads.Asked, width-at-reads.Learnt, entries-reads.Asked, entries-reads.Learnt, entry-at-reads.Asked, entry-at-reads.Learnt, entry-below t, entry.Post) (table_at t) table.Post table-Inv-loop table-μ-loop
-table-returns t c = law.none_left (memory c.before.before.before.before.before.args.longs.now c.before.before.before.before.before.args.base (pairsOf c.before.before.before.before.before.args.ranges.now)) c.before.before.before.before.before.args.ws c.before.before.before.before.before.args.level c.before.before.before.before.before.args.from c.before.before.before.before.before.args.t _ c.before.width-at.ensures (written c.before.before.before.before.before.args.out.now c.before.before.before.before.before.args.s) c.if1.true
+table-returns t c = law.none_left (memory c.before.before.before.before.before.args.longs.now c.before.before.before.before.before.args.base (pairs_of c.before.before.before.before.before.args.ranges.now)) c.before.before.before.before.before.args.ws c.before.before.before.before.before.args.level c.before.before.before.before.before.args.from c.before.before.before.before.before.args.t _ c.before.width-at.ensures (written c.before.before.before.before.before.args.out.now c.before.before.before.before.before.args.s) c.if1.true
 
 table-entries-requires : (t : ℕ) → table-lts.Need-entries-requires (width-at-reads.Asked, width-at-reads.Learnt, entries-reads.Asked, entries-reads.Learnt, entry-at-reads.Asked, entry-at-reads.Learnt, entry-below t, entry.Post) (table_at t) table.Post table-Inv-loop table-μ-loop
 table-entries-requires t c κs = rw c.before.width-at.ensures (c.before.before.before.before.before.requires.1.narrow c.before.before.before.before.before.args.level)
 
 table-loop-holds : (t : ℕ) → table-lts.Need-loop-init (width-at-reads.Asked, width-at-reads.Learnt, entries-reads.Asked, entries-reads.Learnt, entry-at-reads.Asked, entry-at-reads.Learnt, entry-below t, entry.Post) (table_at t) table.Post table-Inv-loop table-μ-loop
-table-loop-holds t c = (refl, law.starts (memory c.before.before.before.before.before.before.args.longs.now c.before.before.before.before.before.before.args.base (pairsOf c.before.before.before.before.before.before.args.ranges.now)) c.before.before.before.before.before.before.args.ws c.before.before.before.before.before.before.args.level c.before.before.before.before.before.before.args.from c.before.before.before.before.before.before.args.t _ c.before.before.width-at.ensures _ (written c.before.before.before.before.before.before.args.out.now c.before.before.before.before.before.before.args.s) c.before.if1.false c.entries.ensures)
+table-loop-holds t c = (refl, law.starts (memory c.before.before.before.before.before.before.args.longs.now c.before.before.before.before.before.before.args.base (pairs_of c.before.before.before.before.before.before.args.ranges.now)) c.before.before.before.before.before.before.args.ws c.before.before.before.before.before.before.args.level c.before.before.before.before.before.before.args.from c.before.before.before.before.before.before.args.t _ c.before.before.width-at.ensures _ (written c.before.before.before.before.before.before.args.out.now c.before.before.before.before.before.before.args.s) c.before.if1.false c.entries.ensures)
 
 table-same-length : (t : ℕ) → table-lts.Need-same-length (width-at-reads.Asked, width-at-reads.Learnt, entries-reads.Asked, entries-reads.Learnt, entry-at-reads.Asked, entry-at-reads.Learnt, entry-below t, entry.Post) (table_at t) table.Post table-Inv-loop table-μ-loop
 table-same-length t c = c.before.before.loop.invariant.0

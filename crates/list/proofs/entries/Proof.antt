@@ -8,7 +8,7 @@ shl-result : tie.Need-overflow-shl-result
 shl-result c = search rules
 
 returns : tie.Need-returns
-returns c = levels.entries-are c.args.w c.requires
+returns c = levels.entries_are c.args.w c.requires
 
 pub entries-spec : {M : Type 1} → statement M
 entries-spec = tie.close (tie.spec shl-result returns)

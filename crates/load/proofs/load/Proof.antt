@@ -52,13 +52,13 @@ use denote.Array.{Array}
 use Rattle.load.proofs.Loading as law
 use Rattle.definition.specs.Memory.{memory}
 use Rattle.definition.specs.Cache040.{Cache040}
-use Rattle.cache.specs.Atc030.{cacheOf}
-use Rattle.cache.specs.Pair.{pairWith}
-use Rattle.load.specs.Loaded.{loadGiven, foundLoad, shownLoaded, LoadedIn}
+use Rattle.cache.specs.Atc030.{cache_of}
+use Rattle.cache.specs.Pair.{pair_with}
+use Rattle.load.specs.Loaded.{load_given, found_load, shown_loaded, LoadedIn}
 use Rattle.load.specs.declared.Found.{Found}
-use Rattle.definition.specs.Refusal.{badBase}
-use Rattle.load.specs.Loaded.{planLoad, PlannedIn}
-use Rattle.load.specs.Loaded.{concludedLoad}
+use Rattle.definition.specs.Refusal.{bad_base}
+use Rattle.load.specs.Loaded.{plan_load, PlannedIn}
+use Rattle.load.specs.Loaded.{concluded_load}
 use Rattle.definition.specs.declared.Range.{Range}
 use Rattle.definition.specs.contracts.Range as row-Range
 use Rattle.definition.specs.declared.Registers.{Registers}
@@ -118,7 +118,7 @@ module _ {M : Type 1} {𝓤 : Ura M} (𝓛 : Logic 𝓤) (mem : Memory → SProp
   abbrev Post : Val → SProp 𝓤
   Post = (walk_of 𝓛 self.ended stayed (self.clauses 𝓛 mem run)).post (((κ0, (κ1, (κ2, tt))), (q0, (q1, (q2, tt))), tt, (x1, (x2, (x3, (x4, (x5, (x6, (x7, (x8, (x9, tt))))))))), at_entry), tt)
 
-  exits : (y1 : List ℕ) (r : LoadOutcome) (u : Val) → Is row-LoadOutcome.the_row r (u ∷ []) → ((k : Cache040) → LoadedIn (shownLoaded (loadGiven x5 x6 x7 x8 x9 (memory x2.now x3 x4.now) (pairWith (cacheOf x1.now) k))) r.answer r.count (y1)) → ent 𝓤 (⋆ 𝓛 (‵ (flft κ0 q0) ∷ ‵ (flft κ1 q1) ∷ ‵ (flft κ2 q2) ∷ ‵ ((ShrSlice (named 1) κ1 u32).own_val x2 (slice_val x2.ref_ptr (length x2.now) ∷ [])) ∷ ‵ ((ShrSlice (named 2) κ2 row-Range.the_row).own_val x4 (slice_val x4.ref_ptr (length x4.now) ∷ [])) ∷ ‵ (fobs x1.ghost_name ((Array u64 69).coded.code y1)) ∷ ‵ (fbor κ0 (Behind (mem-of (Array u64 69)) x1.ref_ptr.0 x1.ref_ptr.1 x1.ghost_name)) ∷ [])) (Post u)
+  exits : (y1 : List ℕ) (r : LoadOutcome) (u : Val) → Is row-LoadOutcome.the_row r (u ∷ []) → ((k : Cache040) → LoadedIn (shown_loaded (load_given x5 x6 x7 x8 x9 (memory x2.now x3 x4.now) (pair_with (cache_of x1.now) k))) r.answer r.count (y1)) → ent 𝓤 (⋆ 𝓛 (‵ (flft κ0 q0) ∷ ‵ (flft κ1 q1) ∷ ‵ (flft κ2 q2) ∷ ‵ ((ShrSlice (named 1) κ1 u32).own_val x2 (slice_val x2.ref_ptr (length x2.now) ∷ [])) ∷ ‵ ((ShrSlice (named 2) κ2 row-Range.the_row).own_val x4 (slice_val x4.ref_ptr (length x4.now) ∷ [])) ∷ ‵ (fobs x1.ghost_name ((Array u64 69).coded.code y1)) ∷ ‵ (fbor κ0 (Behind (mem-of (Array u64 69)) x1.ref_ptr.0 x1.ref_ptr.1 x1.ghost_name)) ∷ [])) (Post u)
   exits y1 r u is e =
       qed 𝓛 (‵ (flft κ0 q0) ∷ ‵ (flft κ1 q1) ∷ ‵ (flft κ2 q2) ∷ ‵ ((ShrSlice (named 1) κ1 u32).own_val x2 (slice_val x2.ref_ptr (length x2.now) ∷ [])) ∷ ‵ ((ShrSlice (named 2) κ2 row-Range.the_row).own_val x4 (slice_val x4.ref_ptr (length x4.now) ∷ [])) ∷ ‵ (fobs x1.name ((Array u64 69).coded.code y1)) ∷ ‵ (fbor κ0 (Behind (mem-of (Array u64 69)) x1.ptr.0 x1.ptr.1 x1.name)) ∷ []) ∵
       suffices ! _ (ends_at 𝓛 self.ended stayed (self.clauses 𝓛 mem run) (((κ0, (κ1, (κ2, tt))), (q0, (q1, (q2, tt))), tt, (x1, (x2, (x3, (x4, (x5, (x6, (x7, (x8, (x9, tt))))))))), at_entry), tt) u r (y1, (tt, (tt, (tt, (tt, (tt, (tt, (tt, (tt, tt))))))))) (tt, (tt, (tt, (tt, (tt, (tt, (tt, (tt, (tt, tt)))))))))) $ says ! e $
@@ -132,8 +132,8 @@ module _ {M : Type 1} {𝓤 : Ura M} (𝓛 : Logic 𝓤) (mem : Memory → SProp
   goes-0 a0 v0 a1 v1 i1 =
       qed 𝓛 (‵ (flft κ1 q1) ∷ ‵ ((ShrSlice (named 0) κ1 u32).own_val a0 (v0 ∷ [])) ∷ []) ∵ nothing ! $ owned ! u32 (Is u32) (uint_Makes 𝓛 w32) a1 _ i1 $ fjoin ! $ move ! (2 ∷ 0 ∷ []) $ fjoin ! $ nothing ! $ move ! (2 ∷ 0 ∷ []) $ join ! $ join ! $ frame ! $ done !
 
-  said-0 : (a0 : Bor (List ℕ)) (a1 : ℕ) (r : Bool) → ent 𝓤 (ensured 𝓛 c0.ended (c0.clauses 𝓛 mem run) (κ1, tt) (a0, (a1, tt)) tt r) (fact 𝓤 (r ≡ badBase (memory a0.now a1 [])))
-  said-0 a0 a1 r = ex_e 𝓤 _ (λ ws. snd∗ 𝓤 (sem 𝓛 (lasts c0.ended (κ1, tt) (a0, (a1, tt)) ws)) (fact 𝓤 (r ≡ badBase (memory a0.now a1 []))))
+  said-0 : (a0 : Bor (List ℕ)) (a1 : ℕ) (r : Bool) → ent 𝓤 (ensured 𝓛 c0.ended (c0.clauses 𝓛 mem run) (κ1, tt) (a0, (a1, tt)) tt r) (fact 𝓤 (r ≡ bad_base (memory a0.now a1 [])))
+  said-0 a0 a1 r = ex_e 𝓤 _ (λ ws. snd∗ 𝓤 (sem 𝓛 (lasts c0.ended (κ1, tt) (a0, (a1, tt)) ws)) (fact 𝓤 (r ≡ bad_base (memory a0.now a1 []))))
 
   -- the call of `before.plan_load`: what it is passed, and what it asks
   abbrev to-1 : (κ3 : Lft) (q3 : Share) (a0 : Bor (List ℕ)) (v0 : Val) (a1 : Bool) (v1 : Val) (a2 : Bool) (v2 : Val) (a3 : Registers) (v3 : Val) (a4 : ℕ) (v4 : Val) (a5 : Bool) (v5 : Val) (a6 : ℕ) (v6 : Val) → (C1 𝓛 mem run).Ghost
@@ -151,8 +151,8 @@ module _ {M : Type 1} {𝓤 : Ura M} (𝓛 : Logic 𝓤) (mem : Memory → SProp
   goes-2 a0 v0 a1 v1 a2 v2 a3 v3 a4 v4 a5 v5 i1 i3 i4 i5 =
       qed 𝓛 (‵ (flft κ1 q1) ∷ ‵ (flft κ2 q2) ∷ ‵ ((ShrSlice (named 0) κ1 u32).own_val a0 (v0 ∷ [])) ∷ ‵ ((ShrSlice (named 1) κ2 row-Range.the_row).own_val a2 (v2 ∷ [])) ∷ []) ∵ nothing ! $ owned ! row-Plan.the_row (Is row-Plan.the_row) (EL.makes row-Plan.the_type law-Plan.the_plain 𝓛) a5 _ i5 $ fjoin ! $ owned ! u32 (Is u32) (uint_Makes 𝓛 w32) a4 _ i4 $ fjoin ! $ owned ! row-Registers.the_row (Is row-Registers.the_row) (LL.makes row-Registers.the_type law-Registers.the_plain 𝓛) a3 _ i3 $ fjoin ! $ move ! (4 ∷ 0 ∷ []) $ fjoin ! $ owned ! u32 (Is u32) (uint_Makes 𝓛 w32) a1 _ i1 $ fjoin ! $ move ! (3 ∷ 0 ∷ []) $ fjoin ! $ nothing ! $ move ! (3 ∷ 0 ∷ []) $ join ! $ move ! (2 ∷ 0 ∷ []) $ join ! $ join ! $ frame ! $ done !
 
-  said-2 : (a0 : Bor (List ℕ)) (a1 : ℕ) (a2 : Bor (List Range)) (a3 : Registers) (a4 : ℕ) (a5 : Plan) (r : Found) → ent 𝓤 (ensured 𝓛 c2.ended (c2.clauses 𝓛 mem run) (κ1, (κ2, tt)) (a0, (a1, (a2, (a3, (a4, (a5, tt)))))) tt r) (fact 𝓤 (r ≡ foundLoad (memory a0.now a1 a2.now) a3 a4 a5))
-  said-2 a0 a1 a2 a3 a4 a5 r = ex_e 𝓤 _ (λ ws. snd∗ 𝓤 (sem 𝓛 (lasts c2.ended (κ1, (κ2, tt)) (a0, (a1, (a2, (a3, (a4, (a5, tt)))))) ws)) (fact 𝓤 (r ≡ foundLoad (memory a0.now a1 a2.now) a3 a4 a5)))
+  said-2 : (a0 : Bor (List ℕ)) (a1 : ℕ) (a2 : Bor (List Range)) (a3 : Registers) (a4 : ℕ) (a5 : Plan) (r : Found) → ent 𝓤 (ensured 𝓛 c2.ended (c2.clauses 𝓛 mem run) (κ1, (κ2, tt)) (a0, (a1, (a2, (a3, (a4, (a5, tt)))))) tt r) (fact 𝓤 (r ≡ found_load (memory a0.now a1 a2.now) a3 a4 a5))
+  said-2 a0 a1 a2 a3 a4 a5 r = ex_e 𝓤 _ (λ ws. snd∗ 𝓤 (sem 𝓛 (lasts c2.ended (κ1, (κ2, tt)) (a0, (a1, (a2, (a3, (a4, (a5, tt)))))) ws)) (fact 𝓤 (r ≡ found_load (memory a0.now a1 a2.now) a3 a4 a5)))
 
   -- the call of `after.concluded`: what it is passed, and what it asks
   abbrev to-3 : (κ4 : Lft) (q4 : Share) (a0 : Bor (List ℕ)) (v0 : Val) (a1 : Registers) (v1 : Val) (a2 : Bool) (v2 : Val) (a3 : ℕ) (v3 : Val) (a4 : Found) (v4 : Val) → (C3 𝓛 mem run).Ghost
@@ -184,7 +184,7 @@ module _ {M : Type 1} {𝓤 : Ura M} (𝓛 : Logic 𝓤) (mem : Memory → SProp
         split ! $ move ! (3 ∷ 0 ∷ []) $ group ! 2 $
         use1 𝓛 (raw ((C0 𝓛 mem run).pre (to-0 x2 (slice_val x2.ref_ptr (length x2.now)) x3 (vint w32 x3)))) (goes-0 x2 (slice_val x2.ref_ptr (length x2.now)) x3 (vint w32 x3) i3) $
         calls_at ! fm (C0 𝓛 mem run) known-0 (to-0 x2 (slice_val x2.ref_ptr (length x2.now)) x3 (vint w32 x3)) (and_then ! (load ! (from ! (stop !)) (look ! 31 refl)) (and_then ! (load ! (from ! (stop !)) (look ! 29 refl)) (no_more !))) (λ val1.
-        use1 𝓛 (later (some (λ (r : Bool). ((‵ (flft κ1 q1) ⊛ ‵ ftrue) ⊛ ‵ (Boolean.own r (val1 ∷ []))) ⊛ raw (ensured 𝓛 c0.ended (c0.clauses 𝓛 mem run) (κ1, tt) (x2, (x3, tt)) tt r)))) (id⊢ 𝓤 _) $ await ! tt $ choose ! (λ r2. split ! $ move ! (1 ∷ []) $ use1 𝓛 (raw (fact 𝓤 (r2 ≡ badBase (memory x2.now x3 [])))) (said-0 x2 x3 r2) $ heard ! (r2 ≡ badBase (memory x2.now x3 [])) (λ e3. split ! $
+        use1 𝓛 (later (some (λ (r : Bool). ((‵ (flft κ1 q1) ⊛ ‵ ftrue) ⊛ ‵ (Boolean.own r (val1 ∷ []))) ⊛ raw (ensured 𝓛 c0.ended (c0.clauses 𝓛 mem run) (κ1, tt) (x2, (x3, tt)) tt r)))) (id⊢ 𝓤 _) $ await ! tt $ choose ! (λ r2. split ! $ move ! (1 ∷ []) $ use1 𝓛 (raw (fact 𝓤 (r2 ≡ bad_base (memory x2.now x3 [])))) (said-0 x2 x3 r2) $ heard ! (r2 ≡ bad_base (memory x2.now x3 [])) (λ e3. split ! $
         split ! $ move ! (1 ∷ []) $ drop ! $ move ! (1 ∷ []) $
         facts ! Boolean (Is Boolean) (shows 𝓛 Boolean) r2 (val1 ∷ []) (λ is4. land ! (from ! (stop !)) (init ! 15 refl ((bool_Lawful 𝓛).typed r2 _ is4).0) $
         rewrite ! 15 (λ (u : Val). ‵ (fat full_share ty_bool l10 0 u)) (ap only (bool_Tells r2 _ is4)) refl $
@@ -194,7 +194,7 @@ module _ {M : Type 1} {𝓤 : Ura M} (𝓛 : Logic 𝓤) (mem : Memory → SProp
         move ! (2 ∷ 0 ∷ []) $ group ! 2 $
         use1 𝓛 (raw ((C1 𝓛 mem run).pre (to-1 (α3 ∷ []) full_share (record { ref_ptr = (x1.ref_ptr.0, x1.ref_ptr.1); ghost_name = δ5; now = x1.now }) (vptr x1.ref_ptr.0 x1.ref_ptr.1) r2 (vbool r2) x5 (vbool x5) x6 (LL.val row-Registers.the_type law-Registers.the_laws x6) x7 (vint w32 x7) x8 (vbool x8) x9 (vint w32 x9)))) (goes-1 (α3 ∷ []) full_share (record { ref_ptr = (x1.ref_ptr.0, x1.ref_ptr.1); ghost_name = δ5; now = x1.now }) (vptr x1.ref_ptr.0 x1.ref_ptr.1) r2 (vbool r2) x5 (vbool x5) x6 (LL.val row-Registers.the_type law-Registers.the_laws x6) x7 (vint w32 x7) x8 (vbool x8) x9 (vint w32 x9) (subst (Is Boolean r2) (bool_Tells r2 _ is4) is4) i5 i6 i7 i8 i9) $
         calls_at ! fm (C1 𝓛 mem run) known-1 (to-1 (α3 ∷ []) full_share (record { ref_ptr = (x1.ref_ptr.0, x1.ref_ptr.1); ghost_name = δ5; now = x1.now }) (vptr x1.ref_ptr.0 x1.ref_ptr.1) r2 (vbool r2) x5 (vbool x5) x6 (LL.val row-Registers.the_type law-Registers.the_laws x6) x7 (vint w32 x7) x8 (vbool x8) x9 (vint w32 x9)) (and_then ! (load ! (from ! (stop !)) (look ! 8 refl)) (and_then ! (load ! (from ! (stop !)) (look ! 14 refl)) (and_then ! (load ! (from ! (stop !)) (look ! 24 refl)) (and_then ! (load ! (from ! (stop !)) (look ! 22 refl)) (and_then ! (load ! (from ! (stop !)) (look ! 20 refl)) (and_then ! (load ! (from ! (stop !)) (look ! 18 refl)) (and_then ! (load ! (from ! (stop !)) (look ! 16 refl)) (no_more !)))))))) (λ val6.
-        use1 𝓛 (later (some (λ (r : Plan). ((‵ (flft (α3 ∷ []) full_share) ⊛ ‵ ftrue) ⊛ ‵ ((row-Plan.the_row).own_val r (val6 ∷ []))) ⊛ raw (ensured 𝓛 c1.ended (c1.clauses 𝓛 mem run) ((α3 ∷ []), tt) ((record { ref_ptr = (x1.ref_ptr.0, x1.ref_ptr.1); ghost_name = δ5; now = x1.now }), (r2, (x5, (x6, (x7, (x8, (x9, tt))))))) tt r)))) (id⊢ 𝓤 _) $ await ! tt $ choose ! (λ r7. split ! $ move ! (1 ∷ []) $ use1 𝓛 (some (λ (ws : Lasts c1.ended ((α3 ∷ []), tt) ((record { ref_ptr = (x1.ref_ptr.0, x1.ref_ptr.1); ghost_name = δ5; now = x1.now }), (r2, (x5, (x6, (x7, (x8, (x9, tt)))))))). ‵ (lasts c1.ended ((α3 ∷ []), tt) ((record { ref_ptr = (x1.ref_ptr.0, x1.ref_ptr.1); ghost_name = δ5; now = x1.now }), (r2, (x5, (x6, (x7, (x8, (x9, tt))))))) ws) ⊛ raw (fact 𝓤 (PlannedIn (planLoad x6 x7 x8 x9 r2 x5 (cacheOf (record { ref_ptr = (x1.ref_ptr.0, x1.ref_ptr.1); ghost_name = δ5; now = x1.now }).now)) r7 (ws.0))))) (id⊢ 𝓤 _) $ choose ! (λ ws10. split ! $ move ! (1 ∷ []) $ heard ! (PlannedIn (planLoad x6 x7 x8 x9 r2 x5 (cacheOf (record { ref_ptr = (x1.ref_ptr.0, x1.ref_ptr.1); ghost_name = δ5; now = x1.now }).now)) r7 (ws10.0)) (λ e8.
+        use1 𝓛 (later (some (λ (r : Plan). ((‵ (flft (α3 ∷ []) full_share) ⊛ ‵ ftrue) ⊛ ‵ ((row-Plan.the_row).own_val r (val6 ∷ []))) ⊛ raw (ensured 𝓛 c1.ended (c1.clauses 𝓛 mem run) ((α3 ∷ []), tt) ((record { ref_ptr = (x1.ref_ptr.0, x1.ref_ptr.1); ghost_name = δ5; now = x1.now }), (r2, (x5, (x6, (x7, (x8, (x9, tt))))))) tt r)))) (id⊢ 𝓤 _) $ await ! tt $ choose ! (λ r7. split ! $ move ! (1 ∷ []) $ use1 𝓛 (some (λ (ws : Lasts c1.ended ((α3 ∷ []), tt) ((record { ref_ptr = (x1.ref_ptr.0, x1.ref_ptr.1); ghost_name = δ5; now = x1.now }), (r2, (x5, (x6, (x7, (x8, (x9, tt)))))))). ‵ (lasts c1.ended ((α3 ∷ []), tt) ((record { ref_ptr = (x1.ref_ptr.0, x1.ref_ptr.1); ghost_name = δ5; now = x1.now }), (r2, (x5, (x6, (x7, (x8, (x9, tt))))))) ws) ⊛ raw (fact 𝓤 (PlannedIn (plan_load x6 x7 x8 x9 r2 x5 (cache_of (record { ref_ptr = (x1.ref_ptr.0, x1.ref_ptr.1); ghost_name = δ5; now = x1.now }).now)) r7 (ws.0))))) (id⊢ 𝓤 _) $ choose ! (λ ws10. split ! $ move ! (1 ∷ []) $ heard ! (PlannedIn (plan_load x6 x7 x8 x9 r2 x5 (cache_of (record { ref_ptr = (x1.ref_ptr.0, x1.ref_ptr.1); ghost_name = δ5; now = x1.now }).now)) r7 (ws10.0)) (λ e8.
         fsplit ! $ move ! (1 ∷ []) $ fsplit ! $ drop ! $ fsplit ! $ drop ! $ fsplit ! $ drop ! $ fsplit ! $ drop ! $ fsplit ! $ drop ! $ fsplit ! $ drop ! $ drop ! $
         move ! (1 ∷ []) $ split ! $ split ! $ move ! (1 ∷ []) $ drop ! $ move ! (1 ∷ []) $
         facts ! row-Plan.the_row (Is row-Plan.the_row) (shows 𝓛 row-Plan.the_row) r7 (val6 ∷ []) (λ is9. land ! (from ! (stop !)) (init ! 13 refl ((EL.lawful row-Plan.the_type law-Plan.the_laws 𝓛 tt).typed r7 _ is9).0) $
@@ -208,7 +208,7 @@ module _ {M : Type 1} {𝓤 : Ura M} (𝓛 : Logic 𝓤) (mem : Memory → SProp
         split ! $ move ! (7 ∷ 8 ∷ 2 ∷ 0 ∷ []) $ group ! 4 $
         use1 𝓛 (raw ((C2 𝓛 mem run).pre (to-2 x2 (slice_val x2.ref_ptr (length x2.now)) x3 (vint w32 x3) x4 (slice_val x4.ref_ptr (length x4.now)) x6 (LL.val row-Registers.the_type law-Registers.the_laws x6) x9 (vint w32 x9) r7 (EL.val row-Plan.the_type law-Plan.the_laws r7)))) (goes-2 x2 (slice_val x2.ref_ptr (length x2.now)) x3 (vint w32 x3) x4 (slice_val x4.ref_ptr (length x4.now)) x6 (LL.val row-Registers.the_type law-Registers.the_laws x6) x9 (vint w32 x9) r7 (EL.val row-Plan.the_type law-Plan.the_laws r7) i3 i6 i9 (subst (Is row-Plan.the_row r7) (EL.tells row-Plan.the_type law-Plan.the_laws r7 _ is9) is9)) $
         calls_at ! fm (C2 𝓛 mem run) known-2 (to-2 x2 (slice_val x2.ref_ptr (length x2.now)) x3 (vint w32 x3) x4 (slice_val x4.ref_ptr (length x4.now)) x6 (LL.val row-Registers.the_type law-Registers.the_laws x6) x9 (vint w32 x9) r7 (EL.val row-Plan.the_type law-Plan.the_laws r7)) (and_then ! (load ! (from ! (stop !)) (look ! 30 refl)) (and_then ! (load ! (from ! (stop !)) (look ! 28 refl)) (and_then ! (load ! (from ! (stop !)) (look ! 26 refl)) (and_then ! (load ! (from ! (stop !)) (look ! 22 refl)) (and_then ! (load ! (from ! (stop !)) (look ! 16 refl)) (and_then ! (load ! (from ! (stop !)) (look ! 12 refl)) (no_more !))))))) (λ val11.
-        use1 𝓛 (later (some (λ (r : Found). ((‵ (flft κ1 q1) ⊛ ‵ (flft κ2 q2) ⊛ ‵ ftrue) ⊛ ‵ ((row-Found.the_row).own_val r (val11 ∷ []))) ⊛ raw (ensured 𝓛 c2.ended (c2.clauses 𝓛 mem run) (κ1, (κ2, tt)) (x2, (x3, (x4, (x6, (x9, (r7, tt)))))) tt r)))) (id⊢ 𝓤 _) $ await ! tt $ choose ! (λ r12. split ! $ move ! (1 ∷ []) $ use1 𝓛 (raw (fact 𝓤 (r12 ≡ foundLoad (memory x2.now x3 x4.now) x6 x9 r7))) (said-2 x2 x3 x4 x6 x9 r7 r12) $ heard ! (r12 ≡ foundLoad (memory x2.now x3 x4.now) x6 x9 r7) (λ e13. split ! $
+        use1 𝓛 (later (some (λ (r : Found). ((‵ (flft κ1 q1) ⊛ ‵ (flft κ2 q2) ⊛ ‵ ftrue) ⊛ ‵ ((row-Found.the_row).own_val r (val11 ∷ []))) ⊛ raw (ensured 𝓛 c2.ended (c2.clauses 𝓛 mem run) (κ1, (κ2, tt)) (x2, (x3, (x4, (x6, (x9, (r7, tt)))))) tt r)))) (id⊢ 𝓤 _) $ await ! tt $ choose ! (λ r12. split ! $ move ! (1 ∷ []) $ use1 𝓛 (raw (fact 𝓤 (r12 ≡ found_load (memory x2.now x3 x4.now) x6 x9 r7))) (said-2 x2 x3 x4 x6 x9 r7 r12) $ heard ! (r12 ≡ found_load (memory x2.now x3 x4.now) x6 x9 r7) (λ e13. split ! $
         split ! $ move ! (1 ∷ []) $ split ! $ move ! (1 ∷ []) $ drop ! $ move ! (2 ∷ []) $
         facts ! row-Found.the_row (Is row-Found.the_row) (shows 𝓛 row-Found.the_row) r12 (val11 ∷ []) (λ is14. land ! (from ! (stop !)) (init ! 11 refl ((EL.lawful row-Found.the_type law-Found.the_laws 𝓛 tt).typed r12 _ is14).0) $
         rewrite ! 11 (λ (u : Val). ‵ (fat full_share law-Found.mir l12 0 u)) (ap only (EL.tells row-Found.the_type law-Found.the_laws r12 _ is14)) refl $
@@ -218,7 +218,7 @@ module _ {M : Type 1} {𝓤 : Ura M} (𝓛 : Logic 𝓤) (mem : Memory → SProp
         move ! (2 ∷ 0 ∷ []) $ group ! 2 $
         use1 𝓛 (raw ((C3 𝓛 mem run).pre (to-3 (α4 ∷ []) full_share (record { ref_ptr = (x1.ptr.0, x1.ptr.1); ghost_name = δ15; now = ws10.0 }) (vptr x1.ptr.0 x1.ptr.1) x6 (LL.val row-Registers.the_type law-Registers.the_laws x6) x8 (vbool x8) x9 (vint w32 x9) r12 (EL.val row-Found.the_type law-Found.the_laws r12)))) (goes-3 (α4 ∷ []) full_share (record { ref_ptr = (x1.ptr.0, x1.ptr.1); ghost_name = δ15; now = ws10.0 }) (vptr x1.ptr.0 x1.ptr.1) x6 (LL.val row-Registers.the_type law-Registers.the_laws x6) x8 (vbool x8) x9 (vint w32 x9) r12 (EL.val row-Found.the_type law-Found.the_laws r12) i6 i8 i9 (subst (Is row-Found.the_row r12) (EL.tells row-Found.the_type law-Found.the_laws r12 _ is14) is14)) $
         calls_at ! fm (C3 𝓛 mem run) known-3 (to-3 (α4 ∷ []) full_share (record { ref_ptr = (x1.ptr.0, x1.ptr.1); ghost_name = δ15; now = ws10.0 }) (vptr x1.ptr.0 x1.ptr.1) x6 (LL.val row-Registers.the_type law-Registers.the_laws x6) x8 (vbool x8) x9 (vint w32 x9) r12 (EL.val row-Found.the_type law-Found.the_laws r12)) (and_then ! (load ! (from ! (stop !)) (look ! 6 refl)) (and_then ! (load ! (from ! (stop !)) (look ! 22 refl)) (and_then ! (load ! (from ! (stop !)) (look ! 18 refl)) (and_then ! (load ! (from ! (stop !)) (look ! 16 refl)) (and_then ! (load ! (from ! (stop !)) (look ! 10 refl)) (no_more !)))))) (λ val16.
-        use1 𝓛 (later (some (λ (r : LoadOutcome). ((‵ (flft (α4 ∷ []) full_share) ⊛ ‵ ftrue) ⊛ ‵ ((row-LoadOutcome.the_row).own_val r (val16 ∷ []))) ⊛ raw (ensured 𝓛 c3.ended (c3.clauses 𝓛 mem run) ((α4 ∷ []), tt) ((record { ref_ptr = (x1.ptr.0, x1.ptr.1); ghost_name = δ15; now = ws10.0 }), (x6, (x8, (x9, (r12, tt))))) tt r)))) (id⊢ 𝓤 _) $ await ! tt $ choose ! (λ r17. split ! $ move ! (1 ∷ []) $ use1 𝓛 (some (λ (ws : Lasts c3.ended ((α4 ∷ []), tt) ((record { ref_ptr = (x1.ptr.0, x1.ptr.1); ghost_name = δ15; now = ws10.0 }), (x6, (x8, (x9, (r12, tt)))))). ‵ (lasts c3.ended ((α4 ∷ []), tt) ((record { ref_ptr = (x1.ptr.0, x1.ptr.1); ghost_name = δ15; now = ws10.0 }), (x6, (x8, (x9, (r12, tt))))) ws) ⊛ raw (fact 𝓤 (LoadedIn (concludedLoad x6.tc x8 x9 (cacheOf (record { ref_ptr = (x1.ptr.0, x1.ptr.1); ghost_name = δ15; now = ws10.0 }).now) r12) r17.answer r17.count (ws.0))))) (id⊢ 𝓤 _) $ choose ! (λ ws20. split ! $ move ! (1 ∷ []) $ heard ! (LoadedIn (concludedLoad x6.tc x8 x9 (cacheOf (record { ref_ptr = (x1.ptr.0, x1.ptr.1); ghost_name = δ15; now = ws10.0 }).now) r12) r17.answer r17.count (ws20.0)) (λ e18.
+        use1 𝓛 (later (some (λ (r : LoadOutcome). ((‵ (flft (α4 ∷ []) full_share) ⊛ ‵ ftrue) ⊛ ‵ ((row-LoadOutcome.the_row).own_val r (val16 ∷ []))) ⊛ raw (ensured 𝓛 c3.ended (c3.clauses 𝓛 mem run) ((α4 ∷ []), tt) ((record { ref_ptr = (x1.ptr.0, x1.ptr.1); ghost_name = δ15; now = ws10.0 }), (x6, (x8, (x9, (r12, tt))))) tt r)))) (id⊢ 𝓤 _) $ await ! tt $ choose ! (λ r17. split ! $ move ! (1 ∷ []) $ use1 𝓛 (some (λ (ws : Lasts c3.ended ((α4 ∷ []), tt) ((record { ref_ptr = (x1.ptr.0, x1.ptr.1); ghost_name = δ15; now = ws10.0 }), (x6, (x8, (x9, (r12, tt)))))). ‵ (lasts c3.ended ((α4 ∷ []), tt) ((record { ref_ptr = (x1.ptr.0, x1.ptr.1); ghost_name = δ15; now = ws10.0 }), (x6, (x8, (x9, (r12, tt))))) ws) ⊛ raw (fact 𝓤 (LoadedIn (concluded_load x6.tc x8 x9 (cache_of (record { ref_ptr = (x1.ptr.0, x1.ptr.1); ghost_name = δ15; now = ws10.0 }).now) r12) r17.answer r17.count (ws.0))))) (id⊢ 𝓤 _) $ choose ! (λ ws20. split ! $ move ! (1 ∷ []) $ heard ! (LoadedIn (concluded_load x6.tc x8 x9 (cache_of (record { ref_ptr = (x1.ptr.0, x1.ptr.1); ghost_name = δ15; now = ws10.0 }).now) r12) r17.answer r17.count (ws20.0)) (λ e18.
         fsplit ! $ move ! (1 ∷ []) $ fsplit ! $ drop ! $ fsplit ! $ drop ! $ fsplit ! $ drop ! $ fsplit ! $ drop ! $ drop ! $ move ! (1 ∷ []) $ split ! $ split ! $ move ! (1 ∷ []) $
         drop ! $ move ! (1 ∷ []) $
         facts ! row-LoadOutcome.the_row (Is row-LoadOutcome.the_row) (shows 𝓛 row-LoadOutcome.the_row) r17 (val16 ∷ []) (λ is19. land ! (from ! (stop !)) (init ! 35 refl ((LL.lawful row-LoadOutcome.the_type law-LoadOutcome.the_laws 𝓛).typed r17 _ is19).0) $
@@ -231,7 +231,7 @@ module _ {M : Type 1} {𝓤 : Ura M} (𝓛 : Logic 𝓤) (mem : Memory → SProp
         free1 ! $ move ! (23 ∷ 24 ∷ []) $ free1 ! $ move ! (21 ∷ 22 ∷ []) $ free1 ! $ move ! (19 ∷ 20 ∷ []) $ free1 ! $ move ! (17 ∷ 18 ∷ []) $ free1 ! $ move ! (15 ∷ 16 ∷ []) $
         free1 ! $ move ! (13 ∷ 14 ∷ []) $ free1 ! $ move ! (11 ∷ 12 ∷ []) $ free1 ! $ move ! (9 ∷ 10 ∷ []) $ free1 ! $ move ! (7 ∷ 8 ∷ []) $ free1 ! $ free0 ! $
         keep ! (2 ∷ 4 ∷ 3 ∷ 6 ∷ 5 ∷ 0 ∷ 1 ∷ []) $
-        by ! (exits ws20.0 r17 (LL.val row-LoadOutcome.the_type law-LoadOutcome.the_laws r17) (subst (Is row-LoadOutcome.the_row r17) (LL.tells row-LoadOutcome.the_type law-LoadOutcome.the_laws r17 _ is19) is19) (law.loads x6 x7 x8 x9 (memory x2.now x3 x4.now) (cacheOf x1.now) x5 e3 e8 e13 e18)))))))))))))))))))))))))))))))))))))))
+        by ! (exits ws20.0 r17 (LL.val row-LoadOutcome.the_type law-LoadOutcome.the_laws r17) (subst (Is row-LoadOutcome.the_row r17) (LL.tells row-LoadOutcome.the_type law-LoadOutcome.the_laws r17 _ is19) is19) (law.loads x6 x7 x8 x9 (memory x2.now x3 x4.now) (cache_of x1.now) x5 e3 e8 e13 e18)))))))))))))))))))))))))))))))))))))))
 
 module _ {M : Type 1} {𝓤 : Ura M} (𝓛 : Logic 𝓤) (mem : Memory → SProp 𝓤) (run : Routine → Fun 𝓤) (𝓣 : Tables 𝓤 𝓛.H) where
   open 𝓛 use {H}

@@ -43,10 +43,10 @@ use borrow.Enum.Known.{at as variant-at, lives_at}
 use Rattle.memory.proofs.Branching.{as_variant}
 use Rattle.load.proofs.Loading as law
 use Rattle.definition.specs.Memory.{memory}
-use Rattle.load.specs.Loaded.{foundLoad}
+use Rattle.load.specs.Loaded.{found_load}
 use Rattle.load.specs.declared.Found.{Found}
-use Rattle.definition.specs.Registers.{rootOf}
-use Rattle.definition.specs.Walk030.{everyLevel, outcomeOf}
+use Rattle.definition.specs.Registers.{root_of}
+use Rattle.definition.specs.Walk030.{every_level, outcome_of}
 use Rattle.walk030.specs.Walked.{shown}
 use Rattle.definition.specs.declared.Load.{Load}
 use Rattle.definition.specs.contracts.Load as row-Load
@@ -89,7 +89,7 @@ use Rattle.walk030.proofs.walk_030.Symbol.{name as #walk030·walk-030}
 use Rattle.walk030.proofs.walk_030.Met as c4-thm
 use Rattle.load.specs.contracts.by_030 as c5
 use Rattle.load.proofs.by_030.Symbol as c5-def
-use Rattle.load.proofs.by_030.Symbol.{name as #load·by-030}
+use Rattle.load.proofs.by_030.Symbol.{name as #load·by_030}
 use Rattle.load.proofs.by_030.Met as c5-thm
 use Rattle.load.specs.contracts.walked.Key.{name as #load·walked}
 use Rattle.load.specs.contracts.walked as self
@@ -128,7 +128,7 @@ module _ {M : Type 1} {𝓤 : Ura M} (𝓛 : Logic 𝓤) (mem : Memory → SProp
   abbrev Post : Val → SProp 𝓤
   Post = (walk_of 𝓛 self.ended stayed (self.clauses 𝓛 mem run)).post (((κ0, (κ1, tt)), (q0, (q1, tt)), tt, (x1, (x2, (x3, (x4, (x5, (x6, tt)))))), at_entry), tt)
 
-  exits : (r : Found) (u : Val) → Is row-Found.the_row r (u ∷ []) → (r ≡ foundLoad (memory x1.now x2 x3.now) x4 x5 x6) → ent 𝓤 (⋆ 𝓛 (‵ (flft κ0 q0) ∷ ‵ (flft κ1 q1) ∷ ‵ ((ShrSlice (named 0) κ0 u32).own_val x1 (slice_val x1.ref_ptr (length x1.now) ∷ [])) ∷ ‵ ((ShrSlice (named 1) κ1 row-Range.the_row).own_val x3 (slice_val x3.ref_ptr (length x3.now) ∷ [])) ∷ [])) (Post u)
+  exits : (r : Found) (u : Val) → Is row-Found.the_row r (u ∷ []) → (r ≡ found_load (memory x1.now x2 x3.now) x4 x5 x6) → ent 𝓤 (⋆ 𝓛 (‵ (flft κ0 q0) ∷ ‵ (flft κ1 q1) ∷ ‵ ((ShrSlice (named 0) κ0 u32).own_val x1 (slice_val x1.ref_ptr (length x1.now) ∷ [])) ∷ ‵ ((ShrSlice (named 1) κ1 row-Range.the_row).own_val x3 (slice_val x3.ref_ptr (length x3.now) ∷ [])) ∷ [])) (Post u)
   exits r u is e =
       qed 𝓛 (‵ (flft κ0 q0) ∷ ‵ (flft κ1 q1) ∷ ‵ ((ShrSlice (named 0) κ0 u32).own_val x1 (slice_val x1.ref_ptr (length x1.now) ∷ [])) ∷ ‵ ((ShrSlice (named 1) κ1 row-Range.the_row).own_val x3 (slice_val x3.ref_ptr (length x3.now) ∷ [])) ∷ []) ∵
       suffices ! _ (ends_at 𝓛 self.ended stayed (self.clauses 𝓛 mem run) (((κ0, (κ1, tt)), (q0, (q1, tt)), tt, (x1, (x2, (x3, (x4, (x5, (x6, tt)))))), at_entry), tt) u r (tt, (tt, (tt, (tt, (tt, (tt, tt)))))) (tt, (tt, (tt, (tt, (tt, (tt, tt))))))) $ says ! e $
@@ -153,8 +153,8 @@ module _ {M : Type 1} {𝓤 : Ura M} (𝓛 : Logic 𝓤) (mem : Memory → SProp
   goes-1 =
       qed 𝓛 ([]) ∵ nothing ! $ nothing ! $ join ! $ frame ! $ done !
 
-  said-1 : (r : ℕ) → ent 𝓤 (ensured 𝓛 c1.ended (c1.clauses 𝓛 mem run) tt tt tt r) (fact 𝓤 (r ≡ everyLevel))
-  said-1 r = ex_e 𝓤 _ (λ ws. snd∗ 𝓤 (sem 𝓛 (lasts c1.ended tt tt ws)) (fact 𝓤 (r ≡ everyLevel)))
+  said-1 : (r : ℕ) → ent 𝓤 (ensured 𝓛 c1.ended (c1.clauses 𝓛 mem run) tt tt tt r) (fact 𝓤 (r ≡ every_level))
+  said-1 r = ex_e 𝓤 _ (λ ws. snd∗ 𝓤 (sem 𝓛 (lasts c1.ended tt tt ws)) (fact 𝓤 (r ≡ every_level)))
 
   -- the call of `registers.tc_of`: what it is passed, what it asks, and what is known of its result
   abbrev to-2 : (a0 : Registers) (v0 : Val) → (C2 𝓛 mem run).Ghost
@@ -175,8 +175,8 @@ module _ {M : Type 1} {𝓤 : Ura M} (𝓛 : Logic 𝓤) (mem : Memory → SProp
   goes-3 a0 v0 a1 v1 i0 i1 =
       qed 𝓛 ([]) ∵ nothing ! $ owned ! u32 (Is u32) (uint_Makes 𝓛 w32) a1 _ i1 $ fjoin ! $ owned ! row-Registers.the_row (Is row-Registers.the_row) (LL.makes row-Registers.the_type law-Registers.the_plain 𝓛) a0 _ i0 $ fjoin ! $ nothing ! $ join ! $ frame ! $ done !
 
-  said-3 : (a0 : Registers) (a1 : ℕ) (r : Root) → ent 𝓤 (ensured 𝓛 c3.ended (c3.clauses 𝓛 mem run) tt (a0, (a1, tt)) tt r) (fact 𝓤 (r ≡ rootOf a0 a1))
-  said-3 a0 a1 r = ex_e 𝓤 _ (λ ws. snd∗ 𝓤 (sem 𝓛 (lasts c3.ended tt (a0, (a1, tt)) ws)) (fact 𝓤 (r ≡ rootOf a0 a1)))
+  said-3 : (a0 : Registers) (a1 : ℕ) (r : Root) → ent 𝓤 (ensured 𝓛 c3.ended (c3.clauses 𝓛 mem run) tt (a0, (a1, tt)) tt r) (fact 𝓤 (r ≡ root_of a0 a1))
+  said-3 a0 a1 r = ex_e 𝓤 _ (λ ws. snd∗ 𝓤 (sem 𝓛 (lasts c3.ended tt (a0, (a1, tt)) ws)) (fact 𝓤 (r ≡ root_of a0 a1)))
 
   -- the call of `walk_030`: what it is passed, what it asks, and what is known of its result
   abbrev to-4 : (a0 : Bor (List ℕ)) (v0 : Val) (a1 : ℕ) (v1 : Val) (a2 : Bor (List Range)) (v2 : Val) (a3 : ℕ) (v3 : Val) (a4 : Root) (v4 : Val) (a5 : ℕ) (v5 : Val) (a6 : ℕ) (v6 : Val) (a7 : ℕ) (v7 : Val) → (C4 𝓛 mem run).Ghost
@@ -186,8 +186,8 @@ module _ {M : Type 1} {𝓤 : Ura M} (𝓛 : Logic 𝓤) (mem : Memory → SProp
   goes-4 a0 v0 a1 v1 a2 v2 a3 v3 a4 v4 a5 v5 a6 v6 a7 v7 i1 i3 i4 i5 i6 i7 =
       qed 𝓛 (‵ (flft κ0 q0) ∷ ‵ (flft κ1 q1) ∷ ‵ ((ShrSlice (named 0) κ0 u32).own_val a0 (v0 ∷ [])) ∷ ‵ ((ShrSlice (named 1) κ1 row-Range.the_row).own_val a2 (v2 ∷ [])) ∷ []) ∵ nothing ! $ owned ! u32 (Is u32) (uint_Makes 𝓛 w32) a7 _ i7 $ fjoin ! $ owned ! u32 (Is u32) (uint_Makes 𝓛 w32) a6 _ i6 $ fjoin ! $ owned ! u32 (Is u32) (uint_Makes 𝓛 w32) a5 _ i5 $ fjoin ! $ owned ! row-Root.the_row (Is row-Root.the_row) (LL.makes row-Root.the_type law-Root.the_plain 𝓛) a4 _ i4 $ fjoin ! $ owned ! u32 (Is u32) (uint_Makes 𝓛 w32) a3 _ i3 $ fjoin ! $ move ! (4 ∷ 0 ∷ []) $ fjoin ! $ owned ! u32 (Is u32) (uint_Makes 𝓛 w32) a1 _ i1 $ fjoin ! $ move ! (3 ∷ 0 ∷ []) $ fjoin ! $ nothing ! $ move ! (3 ∷ 0 ∷ []) $ join ! $ move ! (2 ∷ 0 ∷ []) $ join ! $ join ! $ frame ! $ done !
 
-  said-4 : (a0 : Bor (List ℕ)) (a1 : ℕ) (a2 : Bor (List Range)) (a3 : ℕ) (a4 : Root) (a5 : ℕ) (a6 : ℕ) (a7 : ℕ) (r : Walked) → ent 𝓤 (ensured 𝓛 c4.ended (c4.clauses 𝓛 mem run) (κ0, (κ1, tt)) (a0, (a1, (a2, (a3, (a4, (a5, (a6, (a7, tt)))))))) tt r) (fact 𝓤 (r ≡ shown (outcomeOf (memory a0.now a1 a2.now) a3 a4 a5 a6 a7)))
-  said-4 a0 a1 a2 a3 a4 a5 a6 a7 r = ex_e 𝓤 _ (λ ws. snd∗ 𝓤 (sem 𝓛 (lasts c4.ended (κ0, (κ1, tt)) (a0, (a1, (a2, (a3, (a4, (a5, (a6, (a7, tt)))))))) ws)) (fact 𝓤 (r ≡ shown (outcomeOf (memory a0.now a1 a2.now) a3 a4 a5 a6 a7))))
+  said-4 : (a0 : Bor (List ℕ)) (a1 : ℕ) (a2 : Bor (List Range)) (a3 : ℕ) (a4 : Root) (a5 : ℕ) (a6 : ℕ) (a7 : ℕ) (r : Walked) → ent 𝓤 (ensured 𝓛 c4.ended (c4.clauses 𝓛 mem run) (κ0, (κ1, tt)) (a0, (a1, (a2, (a3, (a4, (a5, (a6, (a7, tt)))))))) tt r) (fact 𝓤 (r ≡ shown (outcome_of (memory a0.now a1 a2.now) a3 a4 a5 a6 a7)))
+  said-4 a0 a1 a2 a3 a4 a5 a6 a7 r = ex_e 𝓤 _ (λ ws. snd∗ 𝓤 (sem 𝓛 (lasts c4.ended (κ0, (κ1, tt)) (a0, (a1, (a2, (a3, (a4, (a5, (a6, (a7, tt)))))))) ws)) (fact 𝓤 (r ≡ shown (outcome_of (memory a0.now a1 a2.now) a3 a4 a5 a6 a7))))
 
   -- the call of `by_030`: what it is passed, what it asks, and what is known of its result
   abbrev to-5 : (a0 : ℕ) (v0 : Val) (a1 : Walked) (v1 : Val) → (C5 𝓛 mem run).Ghost
@@ -200,7 +200,7 @@ module _ {M : Type 1} {𝓤 : Ura M} (𝓛 : Logic 𝓤) (mem : Memory → SProp
   said-5 : (a0 : ℕ) (a1 : Walked) (r : Found) → ent 𝓤 (ensured 𝓛 c5.ended (c5.clauses 𝓛 mem run) tt (a0, (a1, tt)) tt r) (fact 𝓤 (r ≡ Found.By030 a0 a1))
   said-5 a0 a1 r = ex_e 𝓤 _ (λ ws. snd∗ 𝓤 (sem 𝓛 (lasts c5.ended tt (a0, (a1, tt)) ws)) (fact 𝓤 (r ≡ Found.By030 a0 a1)))
 
-  module _ (𝓣 : Tables 𝓤 H) (known-0 : Triple 𝓤 (𝓣.C #load·settled) (C0 𝓛 mem run)) (known-1 : Triple 𝓤 (𝓣.C #walk030·every-level) (C1 𝓛 mem run)) (known-2 : Triple 𝓤 (𝓣.C #memory·registers·tc-of) (C2 𝓛 mem run)) (known-3 : Triple 𝓤 (𝓣.C #walk030·root-of) (C3 𝓛 mem run)) (known-4 : Triple 𝓤 (𝓣.C #walk030·walk-030) (C4 𝓛 mem run)) (known-5 : Triple 𝓤 (𝓣.C #load·by-030) (C5 𝓛 mem run)) where
+  module _ (𝓣 : Tables 𝓤 H) (known-0 : Triple 𝓤 (𝓣.C #load·settled) (C0 𝓛 mem run)) (known-1 : Triple 𝓤 (𝓣.C #walk030·every-level) (C1 𝓛 mem run)) (known-2 : Triple 𝓤 (𝓣.C #memory·registers·tc-of) (C2 𝓛 mem run)) (known-3 : Triple 𝓤 (𝓣.C #walk030·root-of) (C3 𝓛 mem run)) (known-4 : Triple 𝓤 (𝓣.C #walk030·walk-030) (C4 𝓛 mem run)) (known-5 : Triple 𝓤 (𝓣.C #load·by_030) (C5 𝓛 mem run)) where
     abbrev C : Calls 𝓤 H
     C = 𝓣.C
 
@@ -214,7 +214,7 @@ module _ {M : Type 1} {𝓤 : Ura M} (𝓛 : Logic 𝓤) (mem : Memory → SProp
       abbrev En : Env 𝓤 H
       En = (law-Found.mir, l0) ∷ ((slice_ty (ty_ref (named 0) imm (pointee u32.written))), l1) ∷ ((ty_int w32), l2) ∷ ((slice_ty (ty_ref (named 1) imm (pointee (row-Range.the_row).written))), l3) ∷ (law-Registers.mir, l4) ∷ ((ty_int w32), l5) ∷ (law-Plan.mir, l6) ∷ (law-Load.mir, l7) ∷ ((ty_int w32), l8) ∷ ((ty_int w32), l9) ∷ ((ty_int w32), l10) ∷ (law-Root.mir, l11) ∷ (law-Walked.mir, l12) ∷ (law-Found.mir, l13) ∷ []
 
-      concludes : (r : Found) → Is row-Found.the_row r (EL.val row-Found.the_type law-Found.the_laws r ∷ []) → (r ≡ foundLoad (memory x1.now x2 x3.now) x4 x5 x6)
+      concludes : (r : Found) → Is row-Found.the_row r (EL.val row-Found.the_type law-Found.the_laws r ∷ []) → (r ≡ found_load (memory x1.now x2 x3.now) x4 x5 x6)
           → Sq 𝓛 (‵ (froom law-Found.mir l0 0) ∷ ‵ (fat full_share (slice_ty (ty_ref (named 0) imm (pointee u32.written))) l1 0 (slice_val x1.ref_ptr (length x1.now))) ∷ ‵ (fat full_share (ty_int w32) l2 0 (vint w32 x2)) ∷ ‵ (fat full_share (slice_ty (ty_ref (named 1) imm (pointee (row-Range.the_row).written))) l3 0 (slice_val x3.ref_ptr (length x3.now))) ∷ ‵ (fat full_share law-Registers.mir l4 0 (LL.val row-Registers.the_type law-Registers.the_laws x4)) ∷ ‵ (fat full_share (ty_int w32) l5 0 (vint w32 x5)) ∷ ‵ (fat full_share law-Plan.mir l6 0 (EL.val row-Plan.the_type law-Plan.the_laws x6)) ∷ ‵ (froom law-Load.mir l7 0) ∷ ‵ (froom (ty_int w32) l8 0) ∷ ‵ (froom (ty_int w32) l9 0) ∷ ‵ (froom (ty_int w32) l10 0) ∷ ‵ (froom law-Root.mir l11 0) ∷ ‵ (froom law-Walked.mir l12 0) ∷ ‵ (fat full_share law-Found.mir l13 0 (EL.val row-Found.the_type law-Found.the_laws r)) ∷ ‵ (fdies law-Found.mir l0) ∷ ‵ (fdies (slice_ty (ty_ref (named 0) imm (pointee u32.written))) l1) ∷ ‵ (fdies (ty_int w32) l2) ∷ ‵ (fdies (slice_ty (ty_ref (named 1) imm (pointee (row-Range.the_row).written))) l3) ∷ ‵ (fdies law-Registers.mir l4) ∷ ‵ (fdies (ty_int w32) l5) ∷ ‵ (fdies law-Plan.mir l6) ∷ ‵ (fdies law-Load.mir l7) ∷ ‵ (fdies (ty_int w32) l8) ∷ ‵ (fdies (ty_int w32) l9) ∷ ‵ (fdies (ty_int w32) l10) ∷ ‵ (fdies law-Root.mir l11) ∷ ‵ (fdies law-Walked.mir l12) ∷ ‵ (fdies law-Found.mir l13) ∷ ‵ (flft κ0 q0) ∷ ‵ (flft κ1 q1) ∷ ‵ ((ShrSlice (named 0) κ0 u32).own_val x1 (slice_val x1.ref_ptr (length x1.now) ∷ [])) ∷ ‵ ((ShrSlice (named 1) κ1 row-Range.the_row).own_val x3 (slice_val x3.ref_ptr (length x3.now) ∷ [])) ∷ []) (runs C Λ En parts.t-2 (at_ret En Post))
       concludes r is e =
           assigns ! (of_opd ! (load ! (from ! (stop !)) (look ! 13 refl))) (from ! (stop !)) (init ! 0 refl ((EL.lawful row-Found.the_type law-Found.the_laws 𝓛 tt).typed r _ is).0) $
@@ -247,7 +247,7 @@ module _ {M : Type 1} {𝓤 : Ura M} (𝓛 : Logic 𝓤) (mem : Memory → SProp
                   assigns ! (of_opd ! (load ! (from ! (vrt ! refl (fld ! refl (stop !)))) (look_in ! 6 (in_variant ! 1 0 refl refl (whole !))))) (from ! (stop !)) (init ! 8 refl ((uint_Lawful 𝓛 w32).typed v9.0 _ (EL.owed row-Plan.the_type law-Plan.the_laws (variant-at row-Plan.enum 1 v9) (EL.val row-Plan.the_type law-Plan.the_laws (variant-at row-Plan.enum 1 v9) ∷ []) (subst (λ (u : Plan). Is row-Plan.the_row u (EL.val row-Plan.the_type law-Plan.the_laws u ∷ [])) e10 i6)).0).0) $
                   use0 𝓛 (raw ((C1 𝓛 mem run).pre to-1)) goes-1 $
                   calls_at ! fm (C1 𝓛 mem run) known-1 to-1 (no_more !) (λ val11.
-                  use1 𝓛 (later (some (λ (r : ℕ). (‵ ftrue ⊛ ‵ (u32.own_val r (val11 ∷ []))) ⊛ raw (ensured 𝓛 c1.ended (c1.clauses 𝓛 mem run) tt tt tt r)))) (id⊢ 𝓤 _) $ await ! tt $ choose ! (λ r12. split ! $ move ! (1 ∷ []) $ use1 𝓛 (raw (fact 𝓤 (r12 ≡ everyLevel))) (said-1 r12) $ heard ! (r12 ≡ everyLevel) (λ e13. split ! $
+                  use1 𝓛 (later (some (λ (r : ℕ). (‵ ftrue ⊛ ‵ (u32.own_val r (val11 ∷ []))) ⊛ raw (ensured 𝓛 c1.ended (c1.clauses 𝓛 mem run) tt tt tt r)))) (id⊢ 𝓤 _) $ await ! tt $ choose ! (λ r12. split ! $ move ! (1 ∷ []) $ use1 𝓛 (raw (fact 𝓤 (r12 ≡ every_level))) (said-1 r12) $ heard ! (r12 ≡ every_level) (λ e13. split ! $
                   drop ! $ facts ! u32 (Is u32) (shows 𝓛 u32) r12 (val11 ∷ []) (λ is14. land ! (from ! (stop !)) (init ! 9 refl ((uint_Lawful 𝓛 w32).typed r12 _ is14).0) $
                   rewrite ! 9 (λ (u : Val). ‵ (fat full_share (ty_int w32) l9 0 u)) (ap only (uint_Tells w32 r12 _ is14)) refl $
                   use0 𝓛 (raw ((C2 𝓛 mem run).pre (to-2 x4 (LL.val row-Registers.the_type law-Registers.the_laws x4)))) (goes-2 x4 (LL.val row-Registers.the_type law-Registers.the_laws x4) i4) $
@@ -257,7 +257,7 @@ module _ {M : Type 1} {𝓤 : Ura M} (𝓛 : Logic 𝓤) (mem : Memory → SProp
                   rewrite ! 10 (λ (u : Val). ‵ (fat full_share (ty_int w32) l10 0 u)) (ap only (uint_Tells w32 r16 _ is18)) refl $
                   use0 𝓛 (raw ((C3 𝓛 mem run).pre (to-3 x4 (LL.val row-Registers.the_type law-Registers.the_laws x4) v9.0 (vint w32 v9.0)))) (goes-3 x4 (LL.val row-Registers.the_type law-Registers.the_laws x4) v9.0 (vint w32 v9.0) i4 (EL.owed row-Plan.the_type law-Plan.the_laws (variant-at row-Plan.enum 1 v9) (EL.val row-Plan.the_type law-Plan.the_laws (variant-at row-Plan.enum 1 v9) ∷ []) (subst (λ (u : Plan). Is row-Plan.the_row u (EL.val row-Plan.the_type law-Plan.the_laws u ∷ [])) e10 i6)).0) $
                   calls_at ! fm (C3 𝓛 mem run) known-3 (to-3 x4 (LL.val row-Registers.the_type law-Registers.the_laws x4) v9.0 (vint w32 v9.0)) (and_then ! (load ! (from ! (stop !)) (look ! 5 refl)) (and_then ! (load ! (from ! (stop !)) (look ! 9 refl)) (no_more !))) (λ val19.
-                  use1 𝓛 (later (some (λ (r : Root). (‵ ftrue ⊛ ‵ ((row-Root.the_row).own_val r (val19 ∷ []))) ⊛ raw (ensured 𝓛 c3.ended (c3.clauses 𝓛 mem run) tt (x4, (v9.0, tt)) tt r)))) (id⊢ 𝓤 _) $ await ! tt $ choose ! (λ r20. split ! $ move ! (1 ∷ []) $ use1 𝓛 (raw (fact 𝓤 (r20 ≡ rootOf x4 v9.0))) (said-3 x4 v9.0 r20) $ heard ! (r20 ≡ rootOf x4 v9.0) (λ e21. split ! $
+                  use1 𝓛 (later (some (λ (r : Root). (‵ ftrue ⊛ ‵ ((row-Root.the_row).own_val r (val19 ∷ []))) ⊛ raw (ensured 𝓛 c3.ended (c3.clauses 𝓛 mem run) tt (x4, (v9.0, tt)) tt r)))) (id⊢ 𝓤 _) $ await ! tt $ choose ! (λ r20. split ! $ move ! (1 ∷ []) $ use1 𝓛 (raw (fact 𝓤 (r20 ≡ root_of x4 v9.0))) (said-3 x4 v9.0 r20) $ heard ! (r20 ≡ root_of x4 v9.0) (λ e21. split ! $
                   drop ! $
                   facts ! row-Root.the_row (Is row-Root.the_row) (shows 𝓛 row-Root.the_row) r20 (val19 ∷ []) (λ is22. land ! (from ! (stop !)) (init ! 11 refl ((LL.lawful row-Root.the_type law-Root.the_laws 𝓛).typed r20 _ is22).0) $
                   rewrite ! 11 (λ (u : Val). ‵ (fat full_share law-Root.mir l11 0 u)) (ap only (LL.tells row-Root.the_type law-Root.the_laws r20 _ is22)) refl $ move ! (30 ∷ []) $
@@ -267,7 +267,7 @@ module _ {M : Type 1} {𝓤 : Ura M} (𝓛 : Logic 𝓤) (mem : Memory → SProp
                   split ! $ move ! (32 ∷ 33 ∷ 2 ∷ 0 ∷ []) $ group ! 4 $
                   use1 𝓛 (raw ((C4 𝓛 mem run).pre (to-4 x1 (slice_val x1.ref_ptr (length x1.now)) x2 (vint w32 x2) x3 (slice_val x3.ref_ptr (length x3.now)) r16 (vint w32 r16) r20 (LL.val row-Root.the_type law-Root.the_laws r20) x5 (vint w32 x5) v9.0 (vint w32 v9.0) r12 (vint w32 r12)))) (goes-4 x1 (slice_val x1.ref_ptr (length x1.now)) x2 (vint w32 x2) x3 (slice_val x3.ref_ptr (length x3.now)) r16 (vint w32 r16) r20 (LL.val row-Root.the_type law-Root.the_laws r20) x5 (vint w32 x5) v9.0 (vint w32 v9.0) r12 (vint w32 r12) i2 (subst (Is u32 r16) (uint_Tells w32 r16 _ is18) is18) (subst (Is row-Root.the_row r20) (LL.tells row-Root.the_type law-Root.the_laws r20 _ is22) is22) i5 (EL.owed row-Plan.the_type law-Plan.the_laws (variant-at row-Plan.enum 1 v9) (EL.val row-Plan.the_type law-Plan.the_laws (variant-at row-Plan.enum 1 v9) ∷ []) (subst (λ (u : Plan). Is row-Plan.the_row u (EL.val row-Plan.the_type law-Plan.the_laws u ∷ [])) e10 i6)).0 (subst (Is u32 r12) (uint_Tells w32 r12 _ is14) is14)) $
                   calls_at ! fm (C4 𝓛 mem run) known-4 (to-4 x1 (slice_val x1.ref_ptr (length x1.now)) x2 (vint w32 x2) x3 (slice_val x3.ref_ptr (length x3.now)) r16 (vint w32 r16) r20 (LL.val row-Root.the_type law-Root.the_laws r20) x5 (vint w32 x5) v9.0 (vint w32 v9.0) r12 (vint w32 r12)) (and_then ! (load ! (from ! (stop !)) (look ! 4 refl)) (and_then ! (load ! (from ! (stop !)) (look ! 5 refl)) (and_then ! (load ! (from ! (stop !)) (look ! 6 refl)) (and_then ! (load ! (from ! (stop !)) (look ! 13 refl)) (and_then ! (load ! (from ! (stop !)) (look ! 14 refl)) (and_then ! (load ! (from ! (stop !)) (look ! 8 refl)) (and_then ! (load ! (from ! (stop !)) (look ! 11 refl)) (and_then ! (load ! (from ! (stop !)) (look ! 12 refl)) (no_more !))))))))) (λ val23.
-                  use1 𝓛 (later (some (λ (r : Walked). ((‵ (flft κ0 q0) ⊛ ‵ (flft κ1 q1) ⊛ ‵ ftrue) ⊛ ‵ ((row-Walked.the_row).own_val r (val23 ∷ []))) ⊛ raw (ensured 𝓛 c4.ended (c4.clauses 𝓛 mem run) (κ0, (κ1, tt)) (x1, (x2, (x3, (r16, (r20, (x5, (v9.0, (r12, tt)))))))) tt r)))) (id⊢ 𝓤 _) $ await ! tt $ choose ! (λ r24. split ! $ move ! (1 ∷ []) $ use1 𝓛 (raw (fact 𝓤 (r24 ≡ shown (outcomeOf (memory x1.now x2 x3.now) r16 r20 x5 v9.0 r12)))) (said-4 x1 x2 x3 r16 r20 x5 v9.0 r12 r24) $ heard ! (r24 ≡ shown (outcomeOf (memory x1.now x2 x3.now) r16 r20 x5 v9.0 r12)) (λ e25. split ! $
+                  use1 𝓛 (later (some (λ (r : Walked). ((‵ (flft κ0 q0) ⊛ ‵ (flft κ1 q1) ⊛ ‵ ftrue) ⊛ ‵ ((row-Walked.the_row).own_val r (val23 ∷ []))) ⊛ raw (ensured 𝓛 c4.ended (c4.clauses 𝓛 mem run) (κ0, (κ1, tt)) (x1, (x2, (x3, (r16, (r20, (x5, (v9.0, (r12, tt)))))))) tt r)))) (id⊢ 𝓤 _) $ await ! tt $ choose ! (λ r24. split ! $ move ! (1 ∷ []) $ use1 𝓛 (raw (fact 𝓤 (r24 ≡ shown (outcome_of (memory x1.now x2 x3.now) r16 r20 x5 v9.0 r12)))) (said-4 x1 x2 x3 r16 r20 x5 v9.0 r12 r24) $ heard ! (r24 ≡ shown (outcome_of (memory x1.now x2 x3.now) r16 r20 x5 v9.0 r12)) (λ e25. split ! $
                   split ! $ move ! (1 ∷ []) $ split ! $ move ! (1 ∷ []) $ drop ! $ move ! (2 ∷ []) $
                   facts ! row-Walked.the_row (Is row-Walked.the_row) (shows 𝓛 row-Walked.the_row) r24 (val23 ∷ []) (λ is26. land ! (from ! (stop !)) (init ! 16 refl ((LL.lawful row-Walked.the_type law-Walked.the_laws 𝓛).typed r24 _ is26).0) $
                   rewrite ! 16 (λ (u : Val). ‵ (fat full_share law-Walked.mir l12 0 u)) (ap only (LL.tells row-Walked.the_type law-Walked.the_laws r24 _ is26)) refl $
@@ -281,7 +281,7 @@ module _ {M : Type 1} {𝓤 : Ura M} (𝓛 : Logic 𝓤) (mem : Memory → SProp
                   rewrite ! 10 (λ (u : Plan). ‵ (fat full_share law-Plan.mir l6 0 (EL.val row-Plan.the_type law-Plan.the_laws u))) (sym e10) refl $ forget ! 12 refl $ forget ! 13 refl $
                   forget ! 14 refl $ forget ! 15 refl $ forget ! 16 refl $
                   keep ! (4 ∷ 5 ∷ 6 ∷ 7 ∷ 8 ∷ 9 ∷ 10 ∷ 11 ∷ 12 ∷ 13 ∷ 14 ∷ 15 ∷ 16 ∷ 17 ∷ 18 ∷ 19 ∷ 20 ∷ 21 ∷ 22 ∷ 23 ∷ 24 ∷ 25 ∷ 26 ∷ 27 ∷ 28 ∷ 29 ∷ 30 ∷ 31 ∷ 1 ∷ 0 ∷ 3 ∷ 2 ∷ []) $
-                  concludes r28 (subst (Is row-Found.the_row r28) (EL.tells row-Found.the_type law-Found.the_laws r28 _ is30) is30) (law.walks-030 (memory x1.now x2 x3.now) x4 x5 x6 e10 e13 e17 e21 e25 e29))))))))))))))))))))))),
+                  concludes r28 (subst (Is row-Found.the_row r28) (EL.tells row-Found.the_type law-Found.the_laws r28 _ is30) is30) (law.walks_030 (memory x1.now x2 x3.now) x4 x5 x6 e10 e13 e17 e21 e25 e29))))))))))))))))))))))),
               tt,
             ),
           )
@@ -299,11 +299,11 @@ module _ {M : Type 1} {𝓤 : Ura M} (𝓛 : Logic 𝓤) (mem : Memory → SProp
 module _ {M : Type 1} {𝓤 : Ura M} (𝓛 : Logic 𝓤) (mem : Memory → SProp 𝓤) (run : Routine → Fun 𝓤) (𝓣 : Tables 𝓤 𝓛.H) where
   open 𝓛 use {H}
 
-  self-walks : Triple 𝓤 (𝓣.C #load·settled) (C0 𝓛 mem run) → Triple 𝓤 (𝓣.C #walk030·every-level) (C1 𝓛 mem run) → Triple 𝓤 (𝓣.C #memory·registers·tc-of) (C2 𝓛 mem run) → Triple 𝓤 (𝓣.C #walk030·root-of) (C3 𝓛 mem run) → Triple 𝓤 (𝓣.C #walk030·walk-030) (C4 𝓛 mem run) → Triple 𝓤 (𝓣.C #load·by-030) (C5 𝓛 mem run) → AllWalks 𝓛 self.ended stayed (WpFn 𝓤 H 𝓣.C 𝓣.Λ code.function) (self.clauses 𝓛 mem run)
+  self-walks : Triple 𝓤 (𝓣.C #load·settled) (C0 𝓛 mem run) → Triple 𝓤 (𝓣.C #walk030·every-level) (C1 𝓛 mem run) → Triple 𝓤 (𝓣.C #memory·registers·tc-of) (C2 𝓛 mem run) → Triple 𝓤 (𝓣.C #walk030·root-of) (C3 𝓛 mem run) → Triple 𝓤 (𝓣.C #walk030·walk-030) (C4 𝓛 mem run) → Triple 𝓤 (𝓣.C #load·by_030) (C5 𝓛 mem run) → AllWalks 𝓛 self.ended stayed (WpFn 𝓤 H 𝓣.C 𝓣.Λ code.function) (self.clauses 𝓛 mem run)
   self-walks known-0 known-1 known-2 known-3 known-4 known-5 = walked 𝓛 self.ended stayed (self.clauses 𝓛 mem run) (WpFn 𝓤 H 𝓣.C 𝓣.Λ code.function) (λ κs. (shr_slice_vals, (uint_vals w32, (shr_slice_vals, (LL.vals row-Registers.the_type law-Registers.the_laws, (uint_vals w32, (EL.vals row-Plan.the_type law-Plan.the_laws, tt))))))) (λ κs. (shr_slice_Tells (named 0) κs.0 u32, (uint_Tells w32, (shr_slice_Tells (named 1) κs.1.0 row-Range.the_row, (LL.tells row-Registers.the_type law-Registers.the_laws, (uint_Tells w32, (EL.tells row-Plan.the_type law-Plan.the_laws, tt)))))))
       (λ κs qs bounds a g are. via 𝓤 _ (fst∗ 𝓤 _ (emp 𝓤)) (walk 𝓛 mem run κs.0 κs.1.0 qs.0 qs.1.0 a.0 a.1.0 a.1.1.0 a.1.1.1.0 a.1.1.1.1.0 a.1.1.1.1.1.0 are.0 are.1.0 are.1.1.0 are.1.1.1.0 are.1.1.1.1.0 are.1.1.1.1.1.0 𝓣 known-0 known-1 known-2 known-3 known-4 known-5))
 
-  self-meets : Triple 𝓤 (𝓣.C #load·settled) (C0 𝓛 mem run) → Triple 𝓤 (𝓣.C #walk030·every-level) (C1 𝓛 mem run) → Triple 𝓤 (𝓣.C #memory·registers·tc-of) (C2 𝓛 mem run) → Triple 𝓤 (𝓣.C #walk030·root-of) (C3 𝓛 mem run) → Triple 𝓤 (𝓣.C #walk030·walk-030) (C4 𝓛 mem run) → Triple 𝓤 (𝓣.C #load·by-030) (C5 𝓛 mem run) → Meets 𝓛 self.signature (WpFn 𝓤 H 𝓣.C 𝓣.Λ code.function) (self.spec 𝓛 mem run)
+  self-meets : Triple 𝓤 (𝓣.C #load·settled) (C0 𝓛 mem run) → Triple 𝓤 (𝓣.C #walk030·every-level) (C1 𝓛 mem run) → Triple 𝓤 (𝓣.C #memory·registers·tc-of) (C2 𝓛 mem run) → Triple 𝓤 (𝓣.C #walk030·root-of) (C3 𝓛 mem run) → Triple 𝓤 (𝓣.C #walk030·walk-030) (C4 𝓛 mem run) → Triple 𝓤 (𝓣.C #load·by_030) (C5 𝓛 mem run) → Meets 𝓛 self.signature (WpFn 𝓤 H 𝓣.C 𝓣.Λ code.function) (self.spec 𝓛 mem run)
   self-meets known-0 known-1 known-2 known-3 known-4 known-5 = walk_Meets 𝓛 self.ended stayed (Goes-none_slice 𝓛 2 (0 ∷ []) tt (plain (λ _. u32)) yes, (Goes-none 𝓛 2 (λ _. u32) yes (λ κs x f. refl), (Goes-none_slice 𝓛 2 (1 ∷ []) tt (plain (λ _. row-Range.the_row)) yes, (Goes-none 𝓛 2 (λ _. row-Registers.the_row) yes (λ κs x f. refl), (Goes-none 𝓛 2 (λ _. u32) yes (λ κs x f. refl), (Goes-none 𝓛 2 (λ _. row-Plan.the_row) yes (λ κs x f. refl), tt)))))) (self.clauses 𝓛 mem run) (WpFn 𝓤 H 𝓣.C 𝓣.Λ code.function) (WpFn-mono 𝓤 H 𝓛.laws 𝓣 code.function) (self-walks known-0 known-1 known-2 known-3 known-4 known-5)
 
 pub walked-spec : {M : Type 1} → stated.statement M
@@ -317,4 +317,4 @@ walked-spec 𝓤 𝓛 𝓜 𝓡 =
     (cited 𝓤 𝓛.H (C2 𝓛 𝓜.mem 𝓡.run) 𝓜 𝓡 code.env #memory·registers·tc-of c2-def.routine code.calls-memory::registers::tc-of (c2-thm.met 𝓤 𝓛 𝓜 𝓡))
     (cited 𝓤 𝓛.H (C3 𝓛 𝓜.mem 𝓡.run) 𝓜 𝓡 code.env #walk030·root-of c3-def.routine code.calls-walk030::root-of (c3-thm.met 𝓤 𝓛 𝓜 𝓡))
     (cited 𝓤 𝓛.H (C4 𝓛 𝓜.mem 𝓡.run) 𝓜 𝓡 code.env #walk030·walk-030 c4-def.routine code.calls-walk030::walk-030 (c4-thm.met 𝓤 𝓛 𝓜 𝓡))
-    (cited 𝓤 𝓛.H (C5 𝓛 𝓜.mem 𝓡.run) 𝓜 𝓡 code.env #load·by-030 c5-def.routine code.calls-load·by-030 (c5-thm.met 𝓤 𝓛 𝓜 𝓡)))
+    (cited 𝓤 𝓛.H (C5 𝓛 𝓜.mem 𝓡.run) 𝓜 𝓡 code.env #load·by_030 c5-def.routine code.calls-load·by_030 (c5-thm.met 𝓤 𝓛 𝓜 𝓡)))

@@ -29,7 +29,7 @@ returns c = law.says c.before.before.before.before.f.given.1 c.before.before.hel
 
 -- src/lib.rt:252:1
 returns-2 : tie.Need-returns-2
-returns-2 c = law.says-refused c.before.before.f2.given.1
+returns-2 c = law.says_refused c.before.before.f2.given.1
 
 pub tell-finding-spec : {M : Type 1} → statement M
 tell-finding-spec =

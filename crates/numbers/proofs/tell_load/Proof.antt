@@ -19,7 +19,7 @@ returns : tie.Need-returns
 returns c = law.loaded c.before.before.enum_told.given.1 c.tell.ensures
 
 returns-2 : tie.Need-returns-2
-returns-2 c = law.load-refused c.before.before.before.answer.given.1 c.tell2.ensures
+returns-2 c = law.load_refused c.before.before.before.answer.given.1 c.tell2.ensures
 
 pub tell-load-spec : {M : Type 1} → statement M
 tell-load-spec =

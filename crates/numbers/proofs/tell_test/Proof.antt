@@ -19,7 +19,7 @@ returns : tie.Need-returns
 returns c = law.status c.before.before.before.answer.given.1 c.tell.ensures
 
 returns-2 : tie.Need-returns-2
-returns-2 c = law.test-refused c.before.before.before.answer2.given.1 c.tell2.ensures
+returns-2 c = law.test_refused c.before.before.before.answer2.given.1 c.tell2.ensures
 
 pub tell-test-spec : {M : Type 1} → statement M
 tell-test-spec =

@@ -29,15 +29,15 @@ enum-known-t-3 c = search rules
 
 -- src/lib.rt:222:1
 returns : tie.Need-returns
-returns c = law.walked-address c.before.t.given.1
+returns c = law.walked_address c.before.t.given.1
 
 -- src/lib.rt:222:1
 returns-2 : tie.Need-returns-2
-returns-2 c = law.walked-fault c.before.before.before.t2.given.1 c.before.kind-number.ensures c.cause-number.ensures
+returns-2 c = law.walked_fault c.before.before.before.t2.given.1 c.before.kind-number.ensures c.cause-number.ensures
 
 -- src/lib.rt:222:1
 returns-3 : tie.Need-returns-3
-returns-3 c = law.walked-refused c.before.t3.given.1
+returns-3 c = law.walked_refused c.before.t3.given.1
 
 pub walked-of-spec : {M : Type 1} → statement M
 walked-of-spec =

@@ -40,9 +40,9 @@ use types.SemTy.{Body as Behind}
 use types.Kit.{feq_i, fsplit3, fjoin3}
 use base.Fml.{fobs, fbor}
 use Rattle.pair.proofs.Behind as law
-use Rattle.definition.specs.Flush.{flushAll}
+use Rattle.definition.specs.Flush.{flush_all}
 use Rattle.cache.specs.Pair.{pair_of}
-use Rattle.tableless.specs.ByValue.{FlushedBy, flushedWith}
+use Rattle.tableless.specs.ByValue.{FlushedBy, flushed_with}
 use Rattle.cache.specs.declared.CachePair.{CachePair}
 use Rattle.cache.specs.contracts.CachePair as row-CachePair
 use Rattle.cache.proofs.CachePair.TheLaws as law-CachePair
@@ -91,7 +91,7 @@ module _ {M : Type 1} {𝓤 : Ura M} (𝓛 : Logic 𝓤) (mem : Memory → SProp
   abbrev Post : Val → SProp 𝓤
   Post = (walk_of 𝓛 self.ended stayed (self.clauses 𝓛 mem run)).post (((κ0, tt), (q0, tt), tt, (x1, tt), at_entry), tt)
 
-  exits : (y1 : CachePair) (r : Flush) (u : Val) → Is row-Flush.the_row r (u ∷ []) → (FlushedBy (flushAll (pair_of x1.now)) (flushedWith r (y1))) → ent 𝓤 (⋆ 𝓛 (‵ (flft κ0 q0) ∷ ‵ (fobs x1.ghost_name ((row-CachePair.the_row).coded.code y1)) ∷ ‵ (fbor κ0 (Behind (mem-of row-CachePair.the_row) x1.ref_ptr.0 x1.ref_ptr.1 x1.ghost_name)) ∷ [])) (Post u)
+  exits : (y1 : CachePair) (r : Flush) (u : Val) → Is row-Flush.the_row r (u ∷ []) → (FlushedBy (flush_all (pair_of x1.now)) (flushed_with r (y1))) → ent 𝓤 (⋆ 𝓛 (‵ (flft κ0 q0) ∷ ‵ (fobs x1.ghost_name ((row-CachePair.the_row).coded.code y1)) ∷ ‵ (fbor κ0 (Behind (mem-of row-CachePair.the_row) x1.ref_ptr.0 x1.ref_ptr.1 x1.ghost_name)) ∷ [])) (Post u)
   exits y1 r u is e =
       qed 𝓛 (‵ (flft κ0 q0) ∷ ‵ (fobs x1.name ((row-CachePair.the_row).coded.code y1)) ∷ ‵ (fbor κ0 (Behind (mem-of row-CachePair.the_row) x1.ptr.0 x1.ptr.1 x1.name)) ∷ []) ∵
       suffices ! _ (ends_at 𝓛 self.ended stayed (self.clauses 𝓛 mem run) (((κ0, tt), (q0, tt), tt, (x1, tt), at_entry), tt) u r (y1, tt) (tt, tt)) $ says ! e $
@@ -105,8 +105,8 @@ module _ {M : Type 1} {𝓤 : Ura M} (𝓛 : Logic 𝓤) (mem : Memory → SProp
   goes-0 a0 v0 i0 =
       qed 𝓛 ([]) ∵ nothing ! $ owned ! row-CachePair.the_row (Is row-CachePair.the_row) (LL.makes row-CachePair.the_type law-CachePair.the_plain 𝓛) a0 _ i0 $ fjoin ! $ nothing ! $ join ! $ frame ! $ done !
 
-  said-0 : (a0 : CachePair) (r : Flushed) → ent 𝓤 (ensured 𝓛 c0.ended (c0.clauses 𝓛 mem run) tt (a0, tt) tt r) (fact 𝓤 (FlushedBy (flushAll (pair_of a0)) r))
-  said-0 a0 r = ex_e 𝓤 _ (λ ws. snd∗ 𝓤 (sem 𝓛 (lasts c0.ended tt (a0, tt) ws)) (fact 𝓤 (FlushedBy (flushAll (pair_of a0)) r)))
+  said-0 : (a0 : CachePair) (r : Flushed) → ent 𝓤 (ensured 𝓛 c0.ended (c0.clauses 𝓛 mem run) tt (a0, tt) tt r) (fact 𝓤 (FlushedBy (flush_all (pair_of a0)) r))
+  said-0 a0 r = ex_e 𝓤 _ (λ ws. snd∗ 𝓤 (sem 𝓛 (lasts c0.ended tt (a0, tt) ws)) (fact 𝓤 (FlushedBy (flush_all (pair_of a0)) r)))
 
   -- the call of `flushed_caches`: what it is passed, what it asks, and what is known of its result
   abbrev to-1 : (a0 : Flushed) (v0 : Val) → (C1 𝓛 mem run).Ghost
@@ -151,7 +151,7 @@ module _ {M : Type 1} {𝓤 : Ura M} (𝓛 : Logic 𝓤) (mem : Memory → SProp
         use1 𝓛 (‵ (cell_at full_share (row-CachePair.the_row).mir (LL.val row-CachePair.the_type law-CachePair.the_laws x1.now ∷ []) x1.ref_ptr.0 x1.ref_ptr.1)) (𝓛.laws.at_raw full_share law-CachePair.mir x1.ref_ptr.0 x1.ref_ptr.1 (LL.val row-CachePair.the_type law-CachePair.the_laws x1.now)) $ closes ! tt row-CachePair.the_row x1.now (LL.val row-CachePair.the_type law-CachePair.the_laws x1.now ∷ []) x1.ref_ptr.0 x1.ref_ptr.1 $
         use0 𝓛 (raw ((C0 𝓛 mem run).pre (to-0 x1.now (LL.val row-CachePair.the_type law-CachePair.the_laws x1.now)))) (goes-0 x1.now (LL.val row-CachePair.the_type law-CachePair.the_laws x1.now) g2) $
         calls_at ! fm (C0 𝓛 mem run) known-0 (to-0 x1.now (LL.val row-CachePair.the_type law-CachePair.the_laws x1.now)) (and_then ! (load ! (from ! (stop !)) (look ! 8 refl)) (no_more !)) (λ u3.
-        use1 𝓛 (later (some (λ (r : Flushed). (‵ ftrue ⊛ ‵ ((row-Flushed.the_row).own_val r (u3 ∷ []))) ⊛ raw (ensured 𝓛 c0.ended (c0.clauses 𝓛 mem run) tt (x1.now, tt) tt r)))) (id⊢ 𝓤 _) $ await ! tt $ choose ! (λ r4. split ! $ move ! (1 ∷ []) $ use1 𝓛 (raw (fact 𝓤 (FlushedBy (flushAll (pair_of x1.now)) r4))) (said-0 x1.now r4) $ heard ! (FlushedBy (flushAll (pair_of x1.now)) r4) (λ e5. split ! $
+        use1 𝓛 (later (some (λ (r : Flushed). (‵ ftrue ⊛ ‵ ((row-Flushed.the_row).own_val r (u3 ∷ []))) ⊛ raw (ensured 𝓛 c0.ended (c0.clauses 𝓛 mem run) tt (x1.now, tt) tt r)))) (id⊢ 𝓤 _) $ await ! tt $ choose ! (λ r4. split ! $ move ! (1 ∷ []) $ use1 𝓛 (raw (fact 𝓤 (FlushedBy (flush_all (pair_of x1.now)) r4))) (said-0 x1.now r4) $ heard ! (FlushedBy (flush_all (pair_of x1.now)) r4) (λ e5. split ! $
         drop ! $
         facts ! row-Flushed.the_row (Is row-Flushed.the_row) (shows 𝓛 row-Flushed.the_row) r4 (u3 ∷ []) (λ is6. land ! (from ! (stop !)) (init ! 5 refl ((LL.lawful row-Flushed.the_type law-Flushed.the_laws 𝓛).typed r4 _ is6).0) $
         rewrite ! 5 (λ (u : Val). ‵ (fat full_share law-Flushed.mir l3 0 u)) (ap only (LL.tells row-Flushed.the_type law-Flushed.the_laws r4 _ is6)) refl $
@@ -173,7 +173,7 @@ module _ {M : Type 1} {𝓤 : Ura M} (𝓛 : Logic 𝓤) (mem : Memory → SProp
         rewrite ! 11 (λ (u : Val). ‵ (fat full_share law-Flush.mir l0 0 u)) (ap only (EL.tells row-Flush.the_type law-Flush.the_laws r14 _ is16)) refl $ returns ! (look ! 11 refl) $
         forget ! 11 refl $ forget ! 9 refl $ forget ! 7 refl $ forget ! 5 refl $ forget ! 3 refl $ move ! (11 ∷ 12 ∷ []) $ free1 ! $ move ! (9 ∷ 10 ∷ []) $ free1 ! $
         move ! (7 ∷ 8 ∷ []) $ free1 ! $ move ! (5 ∷ 6 ∷ []) $ free1 ! $ move ! (3 ∷ 4 ∷ []) $ free1 ! $ free0 ! $ keep ! (2 ∷ 0 ∷ 1 ∷ []) $
-        by ! (exits r8 r14 (EL.val row-Flush.the_type law-Flush.the_laws r14) (subst (Is row-Flush.the_row r14) (EL.tells row-Flush.the_type law-Flush.the_laws r14 _ is16) is16) (law.flushes-in e5 e9 e15)))))))))))))))))))))))
+        by ! (exits r8 r14 (EL.val row-Flush.the_type law-Flush.the_laws r14) (subst (Is row-Flush.the_row r14) (EL.tells row-Flush.the_type law-Flush.the_laws r14 _ is16) is16) (law.flushes_in e5 e9 e15)))))))))))))))))))))))
 
 module _ {M : Type 1} {𝓤 : Ura M} (𝓛 : Logic 𝓤) (mem : Memory → SProp 𝓤) (run : Routine → Fun 𝓤) (𝓣 : Tables 𝓤 𝓛.H) where
   open 𝓛 use {H}

@@ -49,7 +49,7 @@ use Rattle.pair.proofs.Behind as law
 use Rattle.definition.specs.Memory.{memory}
 use Rattle.definition.specs.Load.{load as load_of}
 use Rattle.cache.specs.Pair.{pair_of}
-use Rattle.mmu.specs.ByValue.{LoadedBy, loadedWith}
+use Rattle.mmu.specs.ByValue.{LoadedBy, loaded_with}
 use Rattle.cache.specs.declared.CachePair.{CachePair}
 use Rattle.cache.specs.contracts.CachePair as row-CachePair
 use Rattle.cache.proofs.CachePair.TheLaws as law-CachePair
@@ -103,7 +103,7 @@ module _ {M : Type 1} {𝓤 : Ura M} (𝓛 : Logic 𝓤) (mem : Memory → SProp
   abbrev Post : Val → SProp 𝓤
   Post = (walk_of 𝓛 self.ended stayed (self.clauses 𝓛 mem run)).post (((κ0, (κ1, (κ2, tt))), (q0, (q1, (q2, tt))), tt, (x1, (x2, (x3, (x4, (x5, (x6, (x7, (x8, tt)))))))), at_entry), tt)
 
-  exits : (y1 : CachePair) (r : LoadOutcome) (u : Val) → Is row-LoadOutcome.the_row r (u ∷ []) → (LoadedBy (load_of x5 x6 x7 x8 (memory x2.now x3 x4.now) (pair_of x1.now)) (loadedWith r.answer r.count (y1))) → ent 𝓤 (⋆ 𝓛 (‵ (flft κ0 q0) ∷ ‵ (flft κ1 q1) ∷ ‵ (flft κ2 q2) ∷ ‵ ((ShrSlice (named 1) κ1 u32).own_val x2 (slice_val x2.ref_ptr (length x2.now) ∷ [])) ∷ ‵ ((ShrSlice (named 2) κ2 row-Range.the_row).own_val x4 (slice_val x4.ref_ptr (length x4.now) ∷ [])) ∷ ‵ (fobs x1.ghost_name ((row-CachePair.the_row).coded.code y1)) ∷ ‵ (fbor κ0 (Behind (mem-of row-CachePair.the_row) x1.ref_ptr.0 x1.ref_ptr.1 x1.ghost_name)) ∷ [])) (Post u)
+  exits : (y1 : CachePair) (r : LoadOutcome) (u : Val) → Is row-LoadOutcome.the_row r (u ∷ []) → (LoadedBy (load_of x5 x6 x7 x8 (memory x2.now x3 x4.now) (pair_of x1.now)) (loaded_with r.answer r.count (y1))) → ent 𝓤 (⋆ 𝓛 (‵ (flft κ0 q0) ∷ ‵ (flft κ1 q1) ∷ ‵ (flft κ2 q2) ∷ ‵ ((ShrSlice (named 1) κ1 u32).own_val x2 (slice_val x2.ref_ptr (length x2.now) ∷ [])) ∷ ‵ ((ShrSlice (named 2) κ2 row-Range.the_row).own_val x4 (slice_val x4.ref_ptr (length x4.now) ∷ [])) ∷ ‵ (fobs x1.ghost_name ((row-CachePair.the_row).coded.code y1)) ∷ ‵ (fbor κ0 (Behind (mem-of row-CachePair.the_row) x1.ref_ptr.0 x1.ref_ptr.1 x1.ghost_name)) ∷ [])) (Post u)
   exits y1 r u is e =
       qed 𝓛 (‵ (flft κ0 q0) ∷ ‵ (flft κ1 q1) ∷ ‵ (flft κ2 q2) ∷ ‵ ((ShrSlice (named 1) κ1 u32).own_val x2 (slice_val x2.ref_ptr (length x2.now) ∷ [])) ∷ ‵ ((ShrSlice (named 2) κ2 row-Range.the_row).own_val x4 (slice_val x4.ref_ptr (length x4.now) ∷ [])) ∷ ‵ (fobs x1.name ((row-CachePair.the_row).coded.code y1)) ∷ ‵ (fbor κ0 (Behind (mem-of row-CachePair.the_row) x1.ptr.0 x1.ptr.1 x1.name)) ∷ []) ∵
       suffices ! _ (ends_at 𝓛 self.ended stayed (self.clauses 𝓛 mem run) (((κ0, (κ1, (κ2, tt))), (q0, (q1, (q2, tt))), tt, (x1, (x2, (x3, (x4, (x5, (x6, (x7, (x8, tt)))))))), at_entry), tt) u r (y1, (tt, (tt, (tt, (tt, (tt, (tt, (tt, tt)))))))) (tt, (tt, (tt, (tt, (tt, (tt, (tt, (tt, tt))))))))) $ says ! e $
@@ -196,7 +196,7 @@ module _ {M : Type 1} {𝓤 : Ura M} (𝓛 : Logic 𝓤) (mem : Memory → SProp
         move ! (25 ∷ 26 ∷ []) $ free1 ! $ move ! (23 ∷ 24 ∷ []) $ free1 ! $ move ! (21 ∷ 22 ∷ []) $ free1 ! $ move ! (19 ∷ 20 ∷ []) $ free1 ! $ move ! (17 ∷ 18 ∷ []) $ free1 ! $
         move ! (15 ∷ 16 ∷ []) $ free1 ! $ move ! (13 ∷ 14 ∷ []) $ free1 ! $ move ! (11 ∷ 12 ∷ []) $ free1 ! $ move ! (9 ∷ 10 ∷ []) $ free1 ! $ move ! (7 ∷ 8 ∷ []) $ free1 ! $
         free0 ! $ keep ! (2 ∷ 4 ∷ 3 ∷ 6 ∷ 5 ∷ 0 ∷ 1 ∷ []) $
-        by ! (exits r8 r14 (LL.val row-LoadOutcome.the_type law-LoadOutcome.the_laws r14) (subst (Is row-LoadOutcome.the_row r14) (LL.tells row-LoadOutcome.the_type law-LoadOutcome.the_laws r14 _ is16) is16) (law.loads-in e5 e9 e15))))))))))))))))))))))))))))))
+        by ! (exits r8 r14 (LL.val row-LoadOutcome.the_type law-LoadOutcome.the_laws r14) (subst (Is row-LoadOutcome.the_row r14) (LL.tells row-LoadOutcome.the_type law-LoadOutcome.the_laws r14 _ is16) is16) (law.loads_in e5 e9 e15))))))))))))))))))))))))))))))
 
 module _ {M : Type 1} {𝓤 : Ura M} (𝓛 : Logic 𝓤) (mem : Memory → SProp 𝓤) (run : Routine → Fun 𝓤) (𝓣 : Tables 𝓤 𝓛.H) where
   open 𝓛 use {H}

@@ -6,15 +6,15 @@ use native.Mathlib.Omega.{arith}
 use lib.ListN.{length, take, drop}
 use Rattle.definition.specs.Words.{any_of}
 use Rattle.definition.specs.Refusal.{crossed}
-use Rattle.replay.specs.Playing.{rangesOf, state_of}
-use Rattle.playing.specs.Driving.{Plays, goesOn}
+use Rattle.replay.specs.Playing.{ranges_of, state_of}
+use Rattle.playing.specs.Driving.{Plays, goes_on}
 use borrow.Author.Rules.{rules}
 use Rattle.playing.proofs.drained.Statement.{statement}
 use Rattle.playing.proofs.drained.Tie as tie
 
 abbrev invariant-loop : tie.invariant-loop
 invariant-loop c030₀ c040₀ longs₀ buffer₀ have out₀ line₀ states now₀ at₀ turns₀ c030 c040 longs buffer out line now at turns =
-    (length longs ≡ length longs₀) × (length out ≡ length out₀) × (length line ≡ length line₀) × (length buffer ≡ length buffer₀) × (buffer ≡ buffer₀) × (at ≤ have) × (any_of crossed (rangesOf now) ≡ false) × Plays (state_of now₀ longs₀ c030₀ c040₀) (take have buffer₀) (state_of now longs c030 c040) (take (have - at) (drop at buffer₀))
+    (length longs ≡ length longs₀) × (length out ≡ length out₀) × (length line ≡ length line₀) × (length buffer ≡ length buffer₀) × (buffer ≡ buffer₀) × (at ≤ have) × (any_of crossed (ranges_of now) ≡ false) × Plays (state_of now₀ longs₀ c030₀ c040₀) (take have buffer₀) (state_of now longs c030 c040) (take (have - at) (drop at buffer₀))
 
 abbrev decreases-loop : tie.decreases-loop
 decreases-loop c030₀ c040₀ longs₀ buffer₀ have out₀ line₀ states now₀ at₀ turns₀ c030 c040 longs buffer out line now at turns =
@@ -78,7 +78,7 @@ returns c =
     let held = l.invariant in
     let r = c.before.before.before.before.before.before.before.before.before.before.before.before.before.some in
     let w = c.before.before.resting in
-    (law.crossed-stays w.ensures.0 r.ensures.0, law.rested (state_of g.kept g.longs.now g.c030.now g.c040.now) g.buffer.now _ g.have _ (rw w.ensures.0 refl) w.ensures.2 (rw held.4 at w.ensures.3) (law.one_more (state_of g.kept g.longs.now g.c030.now g.c040.now) g.buffer.now g.have l.at held.5 c.before.before.before.before.before.before.before.before.before.before.before.before.before.before.before.before.before.before.before.before.before.before.before.before.before.before.before.requires.0 (rw held.4 at r.ensures.1) (state_of l.now l.longs l.c030 l.c040) held.7 (rw held.4 at (r.ensures.2.plays (ap goesOn c.before.before.before.before.enum-told2.given.1)))))
+    (law.crossed_stays w.ensures.0 r.ensures.0, law.rested (state_of g.kept g.longs.now g.c030.now g.c040.now) g.buffer.now _ g.have _ (rw w.ensures.0 refl) w.ensures.2 (rw held.4 at w.ensures.3) (law.one_more (state_of g.kept g.longs.now g.c030.now g.c040.now) g.buffer.now g.have l.at held.5 c.before.before.before.before.before.before.before.before.before.before.before.before.before.before.before.before.before.before.before.before.before.before.before.before.before.before.before.requires.0 (rw held.4 at r.ensures.1) (state_of l.now l.longs l.c030 l.c040) held.7 (rw held.4 at (r.ensures.2.plays (ap goes_on c.before.before.before.before.enum-told2.given.1)))))
 
 enum-told-3 : tie.Need-enum-told-3 invariant-loop decreases-loop
 enum-told-3 c = search rules
@@ -99,7 +99,7 @@ same-length-8 : tie.Need-same-length-8 invariant-loop decreases-loop
 same-length-8 c = c.before.before.before.before.before.before.before.before.before.before.some.auto.1.1.1.1.1.1.0 ∙ c.before.before.before.before.before.before.before.before.before.before.before.before.before.before.before.before.before.before.before.loop.invariant.2
 
 returns-2 : tie.Need-returns-2 invariant-loop decreases-loop
-returns-2 c = (law.crossed-stays c.over.ensures.0 c.before.before.before.before.before.before.before.before.before.before.some.ensures.0, law.stopped c.over.ensures.1)
+returns-2 c = (law.crossed_stays c.over.ensures.0 c.before.before.before.before.before.before.before.before.before.before.some.ensures.0, law.stopped c.over.ensures.1)
 
 sub-turns : tie.Need-overflow-sub-turns invariant-loop decreases-loop
 sub-turns c = search rules
@@ -113,7 +113,7 @@ loop-again c =
     let l = c.before.before.before.before.before.before.before.before.before.before.before.before.before.before.before.before.before.before.loop in
     let held = l.invariant in
     let r = c.before.before.before.before.before.before.before.before.before.some in
-    (r.auto.1.1.0 ∙ held.0, r.auto.1.1.1.1.1.0 ∙ held.1, r.auto.1.1.1.1.1.1.0 ∙ held.2, held.3, held.4, law.within (state_of g.kept g.longs.now g.c030.now g.c040.now) g.buffer.now g.have l.at held.5 c.before.before.before.before.before.before.before.before.before.before.before.before.before.before.before.before.before.before.before.before.before.before.before.requires.0 (rw held.4 at r.ensures.1), r.ensures.0, law.one_more (state_of g.kept g.longs.now g.c030.now g.c040.now) g.buffer.now g.have l.at held.5 c.before.before.before.before.before.before.before.before.before.before.before.before.before.before.before.before.before.before.before.before.before.before.before.requires.0 (rw held.4 at r.ensures.1) (state_of l.now l.longs l.c030 l.c040) held.7 (rw held.4 at (r.ensures.2.plays (ap goesOn c.enum_told.given.1))))
+    (r.auto.1.1.0 ∙ held.0, r.auto.1.1.1.1.1.0 ∙ held.1, r.auto.1.1.1.1.1.1.0 ∙ held.2, held.3, held.4, law.within (state_of g.kept g.longs.now g.c030.now g.c040.now) g.buffer.now g.have l.at held.5 c.before.before.before.before.before.before.before.before.before.before.before.before.before.before.before.before.before.before.before.before.before.before.before.requires.0 (rw held.4 at r.ensures.1), r.ensures.0, law.one_more (state_of g.kept g.longs.now g.c030.now g.c040.now) g.buffer.now g.have l.at held.5 c.before.before.before.before.before.before.before.before.before.before.before.before.before.before.before.before.before.before.before.before.before.before.before.requires.0 (rw held.4 at r.ensures.1) (state_of l.now l.longs l.c030 l.c040) held.7 (rw held.4 at (r.ensures.2.plays (ap goes_on c.enum_told.given.1))))
 
 over-requires-2 : tie.Need-over-requires-2 invariant-loop decreases-loop
 over-requires-2 c κs = search rules
@@ -131,7 +131,7 @@ same-length-12 : tie.Need-same-length-12 invariant-loop decreases-loop
 same-length-12 c = c.before.before.loop.invariant.2
 
 returns-3 : tie.Need-returns-3 invariant-loop decreases-loop
-returns-3 c = (law.crossed-stays c.over2.ensures.0 c.before.before.loop.invariant.6, law.stopped c.over2.ensures.1)
+returns-3 c = (law.crossed_stays c.over2.ensures.0 c.before.before.loop.invariant.6, law.stopped c.over2.ensures.1)
 
 pub drained-spec : {M : Type 1} → statement M
 drained-spec =

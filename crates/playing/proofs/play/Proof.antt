@@ -5,7 +5,7 @@ use lib.ListN.{length}
 use mathlib.Core.Bool.{false}
 use Rattle.definition.specs.Words.{any_of}
 use Rattle.definition.specs.Refusal.{crossed}
-use Rattle.replay.specs.Playing.{rangesOf}
+use Rattle.replay.specs.Playing.{ranges_of}
 use native.Mathlib.Omega.{arith}
 use borrow.Author.Rules.{rules}
 use Rattle.playing.proofs.play.Statement.{statement}
@@ -13,7 +13,7 @@ use Rattle.playing.proofs.play.Tie as tie
 
 abbrev invariant-loop : tie.invariant-loop
 invariant-loop states c030₀ c040₀ longs₀ buffer₀ out₀ line₀ room w₀ turns₀ c030 c040 longs buffer out line w turns =
-    (8192 ≡ length longs) × (131072 ≡ length buffer) × (65536 ≡ length out) × (16384 ≡ length line) × (any_of crossed (rangesOf w.kept) ≡ false)
+    (8192 ≡ length longs) × (131072 ≡ length buffer) × (65536 ≡ length out) × (16384 ≡ length line) × (any_of crossed (ranges_of w.kept) ≡ false)
 
 abbrev decreases-loop : tie.decreases-loop
 decreases-loop states c030₀ c040₀ longs₀ buffer₀ out₀ line₀ room w₀ turns₀ c030 c040 longs buffer out line w turns =

@@ -16,10 +16,10 @@ probe-in-order-requires : tie.Need-probe-in-order-requires
 probe-in-order-requires c κs = search rules
 
 returns : tie.Need-returns
-returns c = law.probe-accepted _ _ _ _ _ _ c.before.before.before.before.no-family.ensures c.before.before.before.bad-cache.ensures c.before.before.first-refusal.ensures c.before.if1.true c.probe-in-order.ensures
+returns c = law.probe_accepted _ _ _ _ _ _ c.before.before.before.before.no-family.ensures c.before.before.before.bad-cache.ensures c.before.before.first-refusal.ensures c.before.if1.true c.probe-in-order.ensures
 
 returns-2 : tie.Need-returns-2
-returns-2 c = law.probe-refused _ _ _ _ _ _ c.before.before.before.no-family.ensures c.before.before.bad-cache.ensures c.before.first-refusal.ensures c.if1.false
+returns-2 c = law.probe_refused _ _ _ _ _ _ c.before.before.before.no-family.ensures c.before.before.bad-cache.ensures c.before.first-refusal.ensures c.if1.false
 
 pub probe-spec : {M : Type 1} → statement M
 probe-spec =

@@ -29,13 +29,13 @@ enum-told-2 : tie.Need-enum-told-2
 enum-told-2 c = search rules
 
 returns : tie.Need-returns
-returns c = law.none-030 _ _ _ _ c.before.before.page-shift.ensures c.enum_told.given.1
+returns c = law.none_030 _ _ _ _ c.before.before.page-shift.ensures c.enum_told.given.1
 
 returns-2 : tie.Need-returns-2
-returns-2 c = law.at-030 _ _ _ _ c.before.before.before.before.before.before.before.before.page-shift.ensures (search rules) c.before.before.before.before.before.before.shift.given.1 c.before.before.before.before.probe.ensures c.before.before.base.given.1 c.hit-address.ensures
+returns-2 c = law.at_030 _ _ _ _ c.before.before.before.before.before.before.before.before.page-shift.ensures (search rules) c.before.before.before.before.before.before.shift.given.1 c.before.before.before.before.probe.ensures c.before.before.base.given.1 c.hit-address.ensures
 
 returns-3 : tie.Need-returns-3
-returns-3 c = law.miss-030 _ _ _ _ c.before.before.before.before.before.before.page-shift.ensures (search rules) c.before.before.before.before.shift.given.1 c.before.before.probe.ensures c.enum-told2.given.1
+returns-3 c = law.miss_030 _ _ _ _ c.before.before.before.before.before.before.page-shift.ensures (search rules) c.before.before.before.before.shift.given.1 c.before.before.probe.ensures c.enum-told2.given.1
 
 pub probe-030-spec : {M : Type 1} → statement M
 probe-030-spec =

@@ -23,10 +23,10 @@ enum_told : tie.Need-enum-told
 enum_told c = search rules
 
 returns : tie.Need-returns
-returns c = law.at-040 c.before.before.before.before.before.before.args.g _ _ _ _ c.before.before.before.before.before.page-bits.ensures c.before.before.before.before.look-040.ensures c.before.before.base.given.1 c.joined-040.ensures
+returns c = law.at_040 c.before.before.before.before.before.before.args.g _ _ _ _ c.before.before.before.before.before.page-bits.ensures c.before.before.before.before.look-040.ensures c.before.before.base.given.1 c.joined_040.ensures
 
 returns-2 : tie.Need-returns-2
-returns-2 c = law.miss-040 c.before.before.before.before.args.g _ _ _ _ c.before.before.before.page-bits.ensures c.before.before.look-040.ensures c.enum_told.given.1
+returns-2 c = law.miss_040 c.before.before.before.before.args.g _ _ _ _ c.before.before.before.page-bits.ensures c.before.before.look-040.ensures c.enum_told.given.1
 
 pub probe-040-spec : {M : Type 1} → statement M
 probe-040-spec =

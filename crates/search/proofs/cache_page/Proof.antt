@@ -23,10 +23,10 @@ insert-requires : tie.Need-insert-requires
 insert-requires c κs = search rules
 
 returns : tie.Need-returns
-returns c = law.cache-none _ _ c.before.before.page-shift.ensures _ _ c.enum_told.given.1 c.before.before.before.requires.1
+returns c = law.cache_none _ _ c.before.before.page-shift.ensures _ _ c.enum_told.given.1 c.before.before.before.requires.1
 
 returns-2 : tie.Need-returns-2
-returns-2 c = law.cache-put _ _ c.before.before.before.before.before.before.page-shift.ensures _ _ (search rules) c.before.before.before.before.shift.given.1 c.before.before.page-base.ensures c.insert.ensures
+returns-2 c = law.cache_put _ _ c.before.before.before.before.before.before.page-shift.ensures _ _ (search rules) c.before.before.before.before.shift.given.1 c.before.before.page-base.ensures c.insert.ensures
 
 pub cache-page-spec : {M : Type 1} → statement M
 cache-page-spec =

@@ -45,19 +45,19 @@ configuration-fault-requires-2 : tie.Need-configuration-fault-requires-2
 configuration-fault-requires-2 c κs = search rules
 
 returns : tie.Need-returns
-returns c = law.end-page _ _ _ _ _ _ c.before.before.before.before.end.given.1 c.before.before.physical.ensures c.page-found.ensures
+returns c = law.end_page _ _ _ _ _ _ c.before.before.before.before.end.given.1 c.before.before.physical.ensures c.page-found.ensures
 
 returns-2 : tie.Need-returns-2
-returns-2 c = law.end-invalid _ _ _ _ _ c.before.before.before.end2.given.1 c.before.missing-cause.ensures c.fault.ensures (search rules)
+returns-2 c = law.end_invalid _ _ _ _ _ c.before.before.before.end2.given.1 c.before.missing-cause.ensures c.fault.ensures (search rules)
 
 returns-3 : tie.Need-returns-3
-returns-3 c = law.end-bus _ _ _ _ _ c.before.before.end3.given.1 c.bus-fault.ensures (search rules)
+returns-3 c = law.end_bus _ _ _ _ _ c.before.before.end3.given.1 c.bus-fault.ensures (search rules)
 
 returns-4 : tie.Need-returns-4
-returns-4 c = law.end-stop _ _ _ _ _ c.before.enum_told.given.1 c.configuration-fault.ensures (search rules)
+returns-4 c = law.end_stop _ _ _ _ _ c.before.enum_told.given.1 c.configuration-fault.ensures (search rules)
 
 returns-5 : tie.Need-returns-5
-returns-5 c = law.end-config _ _ _ _ _ c.before.enum-told2.given.1 c.configuration-fault2.ensures (search rules)
+returns-5 c = law.end_config _ _ _ _ _ c.before.enum-told2.given.1 c.configuration-fault2.ensures (search rules)
 
 pub end-030-spec : {M : Type 1} → statement M
 end-030-spec =

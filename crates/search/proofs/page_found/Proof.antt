@@ -10,7 +10,7 @@ permitted-requires : tie.Need-permitted-requires
 permitted-requires c κs = search rules
 
 returns : tie.Need-returns
-returns c = law.page-is _ _ _ _ _ _ _ c.before.cache-unless.ensures c.permitted.ensures
+returns c = law.page_is _ _ _ _ _ _ _ c.before.cache-unless.ensures c.permitted.ensures
 
 pub page-found-spec : {M : Type 1} → statement M
 page-found-spec = tie.close (tie.spec cache-unless-requires permitted-requires returns)

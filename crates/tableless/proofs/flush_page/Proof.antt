@@ -7,7 +7,7 @@ flush-page-in-requires : tie.Need-flush-page-in-requires
 flush-page-in-requires c κs = search rules
 
 returns : tie.Need-returns
-returns c = law.flushed-030 (c.flush-page-in.ensures _) (search rules)
+returns c = law.flushed_030 (c.flush-page-in.ensures _) (search rules)
 
 pub flush-page-spec : {M : Type 1} → statement M
 flush-page-spec = tie.close (tie.spec flush-page-in-requires returns)

@@ -39,11 +39,11 @@ use denote.Triple.Clauses.{ensured, lasts}
 use denote.Exit.{yes}
 use Rattle.test.proofs.Testing as law
 use Rattle.definition.specs.Memory.{memory}
-use Rattle.test.specs.Tested.{testGiven, foundTest, shownTested, TestedIn}
+use Rattle.test.specs.Tested.{test_given, found_test, shown_tested, TestedIn}
 use Rattle.test.specs.declared.Found.{Found}
-use Rattle.definition.specs.Refusal.{badBase}
-use Rattle.test.specs.Tested.{planTest}
-use Rattle.test.specs.Tested.{concludedTest}
+use Rattle.definition.specs.Refusal.{bad_base}
+use Rattle.test.specs.Tested.{plan_test}
+use Rattle.test.specs.Tested.{concluded_test}
 use Rattle.definition.specs.declared.Range.{Range}
 use Rattle.definition.specs.contracts.Range as row-Range
 use Rattle.definition.specs.declared.Registers.{Registers}
@@ -103,7 +103,7 @@ module _ {M : Type 1} {𝓤 : Ura M} (𝓛 : Logic 𝓤) (mem : Memory → SProp
   abbrev Post : Val → SProp 𝓤
   Post = (walk_of 𝓛 self.ended stayed (self.clauses 𝓛 mem run)).post (((κ0, (κ1, tt)), (q0, (q1, tt)), tt, (x1, (x2, (x3, (x4, (x5, (x6, (x7, (x8, (x9, tt))))))))), at_entry), tt)
 
-  exits : (r : TestOutcome) (u : Val) → Is row-TestOutcome.the_row r (u ∷ []) → (TestedIn (shownTested (testGiven x4 x5 x6 x7 x8 x9 (memory x1.now x2 x3.now))) r.answer r.count) → ent 𝓤 (⋆ 𝓛 (‵ (flft κ0 q0) ∷ ‵ (flft κ1 q1) ∷ ‵ ((ShrSlice (named 0) κ0 u32).own_val x1 (slice_val x1.ref_ptr (length x1.now) ∷ [])) ∷ ‵ ((ShrSlice (named 1) κ1 row-Range.the_row).own_val x3 (slice_val x3.ref_ptr (length x3.now) ∷ [])) ∷ [])) (Post u)
+  exits : (r : TestOutcome) (u : Val) → Is row-TestOutcome.the_row r (u ∷ []) → (TestedIn (shown_tested (test_given x4 x5 x6 x7 x8 x9 (memory x1.now x2 x3.now))) r.answer r.count) → ent 𝓤 (⋆ 𝓛 (‵ (flft κ0 q0) ∷ ‵ (flft κ1 q1) ∷ ‵ ((ShrSlice (named 0) κ0 u32).own_val x1 (slice_val x1.ref_ptr (length x1.now) ∷ [])) ∷ ‵ ((ShrSlice (named 1) κ1 row-Range.the_row).own_val x3 (slice_val x3.ref_ptr (length x3.now) ∷ [])) ∷ [])) (Post u)
   exits r u is e =
       qed 𝓛 (‵ (flft κ0 q0) ∷ ‵ (flft κ1 q1) ∷ ‵ ((ShrSlice (named 0) κ0 u32).own_val x1 (slice_val x1.ref_ptr (length x1.now) ∷ [])) ∷ ‵ ((ShrSlice (named 1) κ1 row-Range.the_row).own_val x3 (slice_val x3.ref_ptr (length x3.now) ∷ [])) ∷ []) ∵
       suffices ! _ (ends_at 𝓛 self.ended stayed (self.clauses 𝓛 mem run) (((κ0, (κ1, tt)), (q0, (q1, tt)), tt, (x1, (x2, (x3, (x4, (x5, (x6, (x7, (x8, (x9, tt))))))))), at_entry), tt) u r (tt, (tt, (tt, (tt, (tt, (tt, (tt, (tt, (tt, tt))))))))) (tt, (tt, (tt, (tt, (tt, (tt, (tt, (tt, (tt, tt)))))))))) $ says ! e $
@@ -117,8 +117,8 @@ module _ {M : Type 1} {𝓤 : Ura M} (𝓛 : Logic 𝓤) (mem : Memory → SProp
   goes-0 a0 v0 a1 v1 i1 =
       qed 𝓛 (‵ (flft κ0 q0) ∷ ‵ ((ShrSlice (named 0) κ0 u32).own_val a0 (v0 ∷ [])) ∷ []) ∵ nothing ! $ owned ! u32 (Is u32) (uint_Makes 𝓛 w32) a1 _ i1 $ fjoin ! $ move ! (2 ∷ 0 ∷ []) $ fjoin ! $ nothing ! $ move ! (2 ∷ 0 ∷ []) $ join ! $ join ! $ frame ! $ done !
 
-  said-0 : (a0 : Bor (List ℕ)) (a1 : ℕ) (r : Bool) → ent 𝓤 (ensured 𝓛 c0.ended (c0.clauses 𝓛 mem run) (κ0, tt) (a0, (a1, tt)) tt r) (fact 𝓤 (r ≡ badBase (memory a0.now a1 [])))
-  said-0 a0 a1 r = ex_e 𝓤 _ (λ ws. snd∗ 𝓤 (sem 𝓛 (lasts c0.ended (κ0, tt) (a0, (a1, tt)) ws)) (fact 𝓤 (r ≡ badBase (memory a0.now a1 []))))
+  said-0 : (a0 : Bor (List ℕ)) (a1 : ℕ) (r : Bool) → ent 𝓤 (ensured 𝓛 c0.ended (c0.clauses 𝓛 mem run) (κ0, tt) (a0, (a1, tt)) tt r) (fact 𝓤 (r ≡ bad_base (memory a0.now a1 [])))
+  said-0 a0 a1 r = ex_e 𝓤 _ (λ ws. snd∗ 𝓤 (sem 𝓛 (lasts c0.ended (κ0, tt) (a0, (a1, tt)) ws)) (fact 𝓤 (r ≡ bad_base (memory a0.now a1 []))))
 
   -- the call of `before.plan_test`: what it is passed, what it asks, and what is known of its result
   abbrev to-1 : (a0 : Bool) (v0 : Val) (a1 : Bool) (v1 : Val) (a2 : Registers) (v2 : Val) (a3 : ℕ) (v3 : Val) (a4 : Bool) (v4 : Val) (a5 : ℕ) (v5 : Val) (a6 : ℕ) (v6 : Val) → (C1 𝓛 mem run).Ghost
@@ -128,8 +128,8 @@ module _ {M : Type 1} {𝓤 : Ura M} (𝓛 : Logic 𝓤) (mem : Memory → SProp
   goes-1 a0 v0 a1 v1 a2 v2 a3 v3 a4 v4 a5 v5 a6 v6 i0 i1 i2 i3 i4 i5 i6 =
       qed 𝓛 ([]) ∵ nothing ! $ owned ! u32 (Is u32) (uint_Makes 𝓛 w32) a6 _ i6 $ fjoin ! $ owned ! u32 (Is u32) (uint_Makes 𝓛 w32) a5 _ i5 $ fjoin ! $ owned ! Boolean (Is Boolean) (bool_Makes 𝓛) a4 _ i4 $ fjoin ! $ owned ! u32 (Is u32) (uint_Makes 𝓛 w32) a3 _ i3 $ fjoin ! $ owned ! row-Registers.the_row (Is row-Registers.the_row) (LL.makes row-Registers.the_type law-Registers.the_plain 𝓛) a2 _ i2 $ fjoin ! $ owned ! Boolean (Is Boolean) (bool_Makes 𝓛) a1 _ i1 $ fjoin ! $ owned ! Boolean (Is Boolean) (bool_Makes 𝓛) a0 _ i0 $ fjoin ! $ nothing ! $ join ! $ frame ! $ done !
 
-  said-1 : (a0 : Bool) (a1 : Bool) (a2 : Registers) (a3 : ℕ) (a4 : Bool) (a5 : ℕ) (a6 : ℕ) (r : Plan) → ent 𝓤 (ensured 𝓛 c1.ended (c1.clauses 𝓛 mem run) tt (a0, (a1, (a2, (a3, (a4, (a5, (a6, tt))))))) tt r) (fact 𝓤 (r ≡ planTest a2 a3 a4 a5 a6 a0 a1))
-  said-1 a0 a1 a2 a3 a4 a5 a6 r = ex_e 𝓤 _ (λ ws. snd∗ 𝓤 (sem 𝓛 (lasts c1.ended tt (a0, (a1, (a2, (a3, (a4, (a5, (a6, tt))))))) ws)) (fact 𝓤 (r ≡ planTest a2 a3 a4 a5 a6 a0 a1)))
+  said-1 : (a0 : Bool) (a1 : Bool) (a2 : Registers) (a3 : ℕ) (a4 : Bool) (a5 : ℕ) (a6 : ℕ) (r : Plan) → ent 𝓤 (ensured 𝓛 c1.ended (c1.clauses 𝓛 mem run) tt (a0, (a1, (a2, (a3, (a4, (a5, (a6, tt))))))) tt r) (fact 𝓤 (r ≡ plan_test a2 a3 a4 a5 a6 a0 a1))
+  said-1 a0 a1 a2 a3 a4 a5 a6 r = ex_e 𝓤 _ (λ ws. snd∗ 𝓤 (sem 𝓛 (lasts c1.ended tt (a0, (a1, (a2, (a3, (a4, (a5, (a6, tt))))))) ws)) (fact 𝓤 (r ≡ plan_test a2 a3 a4 a5 a6 a0 a1)))
 
   -- the call of `walked`: what it is passed, what it asks, and what is known of its result
   abbrev to-2 : (a0 : Bor (List ℕ)) (v0 : Val) (a1 : ℕ) (v1 : Val) (a2 : Bor (List Range)) (v2 : Val) (a3 : Registers) (v3 : Val) (a4 : ℕ) (v4 : Val) (a5 : ℕ) (v5 : Val) (a6 : ℕ) (v6 : Val) (a7 : Plan) (v7 : Val) → (C2 𝓛 mem run).Ghost
@@ -139,8 +139,8 @@ module _ {M : Type 1} {𝓤 : Ura M} (𝓛 : Logic 𝓤) (mem : Memory → SProp
   goes-2 a0 v0 a1 v1 a2 v2 a3 v3 a4 v4 a5 v5 a6 v6 a7 v7 i1 i3 i4 i5 i6 i7 =
       qed 𝓛 (‵ (flft κ0 q0) ∷ ‵ (flft κ1 q1) ∷ ‵ ((ShrSlice (named 0) κ0 u32).own_val a0 (v0 ∷ [])) ∷ ‵ ((ShrSlice (named 1) κ1 row-Range.the_row).own_val a2 (v2 ∷ [])) ∷ []) ∵ nothing ! $ owned ! row-Plan.the_row (Is row-Plan.the_row) (EL.makes row-Plan.the_type law-Plan.the_plain 𝓛) a7 _ i7 $ fjoin ! $ owned ! u32 (Is u32) (uint_Makes 𝓛 w32) a6 _ i6 $ fjoin ! $ owned ! u32 (Is u32) (uint_Makes 𝓛 w32) a5 _ i5 $ fjoin ! $ owned ! u32 (Is u32) (uint_Makes 𝓛 w32) a4 _ i4 $ fjoin ! $ owned ! row-Registers.the_row (Is row-Registers.the_row) (LL.makes row-Registers.the_type law-Registers.the_plain 𝓛) a3 _ i3 $ fjoin ! $ move ! (4 ∷ 0 ∷ []) $ fjoin ! $ owned ! u32 (Is u32) (uint_Makes 𝓛 w32) a1 _ i1 $ fjoin ! $ move ! (3 ∷ 0 ∷ []) $ fjoin ! $ nothing ! $ move ! (3 ∷ 0 ∷ []) $ join ! $ move ! (2 ∷ 0 ∷ []) $ join ! $ join ! $ frame ! $ done !
 
-  said-2 : (a0 : Bor (List ℕ)) (a1 : ℕ) (a2 : Bor (List Range)) (a3 : Registers) (a4 : ℕ) (a5 : ℕ) (a6 : ℕ) (a7 : Plan) (r : Found) → ent 𝓤 (ensured 𝓛 c2.ended (c2.clauses 𝓛 mem run) (κ0, (κ1, tt)) (a0, (a1, (a2, (a3, (a4, (a5, (a6, (a7, tt)))))))) tt r) (fact 𝓤 (r ≡ foundTest (memory a0.now a1 a2.now) a3 a4 a5 a6 a7))
-  said-2 a0 a1 a2 a3 a4 a5 a6 a7 r = ex_e 𝓤 _ (λ ws. snd∗ 𝓤 (sem 𝓛 (lasts c2.ended (κ0, (κ1, tt)) (a0, (a1, (a2, (a3, (a4, (a5, (a6, (a7, tt)))))))) ws)) (fact 𝓤 (r ≡ foundTest (memory a0.now a1 a2.now) a3 a4 a5 a6 a7)))
+  said-2 : (a0 : Bor (List ℕ)) (a1 : ℕ) (a2 : Bor (List Range)) (a3 : Registers) (a4 : ℕ) (a5 : ℕ) (a6 : ℕ) (a7 : Plan) (r : Found) → ent 𝓤 (ensured 𝓛 c2.ended (c2.clauses 𝓛 mem run) (κ0, (κ1, tt)) (a0, (a1, (a2, (a3, (a4, (a5, (a6, (a7, tt)))))))) tt r) (fact 𝓤 (r ≡ found_test (memory a0.now a1 a2.now) a3 a4 a5 a6 a7))
+  said-2 a0 a1 a2 a3 a4 a5 a6 a7 r = ex_e 𝓤 _ (λ ws. snd∗ 𝓤 (sem 𝓛 (lasts c2.ended (κ0, (κ1, tt)) (a0, (a1, (a2, (a3, (a4, (a5, (a6, (a7, tt)))))))) ws)) (fact 𝓤 (r ≡ found_test (memory a0.now a1 a2.now) a3 a4 a5 a6 a7)))
 
   -- the call of `after.concluded`: what it is passed, what it asks, and what is known of its result
   abbrev to-3 : (a0 : ℕ) (v0 : Val) (a1 : Found) (v1 : Val) → (C3 𝓛 mem run).Ghost
@@ -150,8 +150,8 @@ module _ {M : Type 1} {𝓤 : Ura M} (𝓛 : Logic 𝓤) (mem : Memory → SProp
   goes-3 a0 v0 a1 v1 i0 i1 =
       qed 𝓛 ([]) ∵ nothing ! $ owned ! row-Found.the_row (Is row-Found.the_row) (EL.makes row-Found.the_type law-Found.the_plain 𝓛) a1 _ i1 $ fjoin ! $ owned ! u32 (Is u32) (uint_Makes 𝓛 w32) a0 _ i0 $ fjoin ! $ nothing ! $ join ! $ frame ! $ done !
 
-  said-3 : (a0 : ℕ) (a1 : Found) (r : TestOutcome) → ent 𝓤 (ensured 𝓛 c3.ended (c3.clauses 𝓛 mem run) tt (a0, (a1, tt)) tt r) (fact 𝓤 (TestedIn (concludedTest a0 a1) r.answer r.count))
-  said-3 a0 a1 r = ex_e 𝓤 _ (λ ws. snd∗ 𝓤 (sem 𝓛 (lasts c3.ended tt (a0, (a1, tt)) ws)) (fact 𝓤 (TestedIn (concludedTest a0 a1) r.answer r.count)))
+  said-3 : (a0 : ℕ) (a1 : Found) (r : TestOutcome) → ent 𝓤 (ensured 𝓛 c3.ended (c3.clauses 𝓛 mem run) tt (a0, (a1, tt)) tt r) (fact 𝓤 (TestedIn (concluded_test a0 a1) r.answer r.count))
+  said-3 a0 a1 r = ex_e 𝓤 _ (λ ws. snd∗ 𝓤 (sem 𝓛 (lasts c3.ended tt (a0, (a1, tt)) ws)) (fact 𝓤 (TestedIn (concluded_test a0 a1) r.answer r.count)))
 
   module _ (𝓣 : Tables 𝓤 H) (known-0 : Triple 𝓤 (𝓣.C #checks·bad-longs) (C0 𝓛 mem run)) (known-1 : Triple 𝓤 (𝓣.C #test·before·plan-test) (C1 𝓛 mem run)) (known-2 : Triple 𝓤 (𝓣.C #test·walked) (C2 𝓛 mem run)) (known-3 : Triple 𝓤 (𝓣.C #test·after·concluded) (C3 𝓛 mem run)) where
     abbrev C : Calls 𝓤 H
@@ -174,13 +174,13 @@ module _ {M : Type 1} {𝓤 : Ura M} (𝓛 : Logic 𝓤) (mem : Memory → SProp
         split ! $ move ! (3 ∷ 0 ∷ []) $ group ! 2 $
         use1 𝓛 (raw ((C0 𝓛 mem run).pre (to-0 x1 (slice_val x1.ref_ptr (length x1.now)) x2 (vint w32 x2)))) (goes-0 x1 (slice_val x1.ref_ptr (length x1.now)) x2 (vint w32 x2) i2) $
         calls_at ! fm (C0 𝓛 mem run) known-0 (to-0 x1 (slice_val x1.ref_ptr (length x1.now)) x2 (vint w32 x2)) (and_then ! (load ! (from ! (stop !)) (look ! 26 refl)) (and_then ! (load ! (from ! (stop !)) (look ! 24 refl)) (no_more !))) (λ val1.
-        use1 𝓛 (later (some (λ (r : Bool). ((‵ (flft κ0 q0) ⊛ ‵ ftrue) ⊛ ‵ (Boolean.own r (val1 ∷ []))) ⊛ raw (ensured 𝓛 c0.ended (c0.clauses 𝓛 mem run) (κ0, tt) (x1, (x2, tt)) tt r)))) (id⊢ 𝓤 _) $ await ! tt $ choose ! (λ r2. split ! $ move ! (1 ∷ []) $ use1 𝓛 (raw (fact 𝓤 (r2 ≡ badBase (memory x1.now x2 [])))) (said-0 x1 x2 r2) $ heard ! (r2 ≡ badBase (memory x1.now x2 [])) (λ e3. split ! $
+        use1 𝓛 (later (some (λ (r : Bool). ((‵ (flft κ0 q0) ⊛ ‵ ftrue) ⊛ ‵ (Boolean.own r (val1 ∷ []))) ⊛ raw (ensured 𝓛 c0.ended (c0.clauses 𝓛 mem run) (κ0, tt) (x1, (x2, tt)) tt r)))) (id⊢ 𝓤 _) $ await ! tt $ choose ! (λ r2. split ! $ move ! (1 ∷ []) $ use1 𝓛 (raw (fact 𝓤 (r2 ≡ bad_base (memory x1.now x2 [])))) (said-0 x1 x2 r2) $ heard ! (r2 ≡ bad_base (memory x1.now x2 [])) (λ e3. split ! $
         split ! $ move ! (1 ∷ []) $ drop ! $ move ! (1 ∷ []) $
         facts ! Boolean (Is Boolean) (shows 𝓛 Boolean) r2 (val1 ∷ []) (λ is4. land ! (from ! (stop !)) (init ! 8 refl ((bool_Lawful 𝓛).typed r2 _ is4).0) $
         rewrite ! 8 (λ (u : Val). ‵ (fat full_share ty_bool l10 0 u)) (ap only (bool_Tells r2 _ is4)) refl $
         use0 𝓛 (raw ((C1 𝓛 mem run).pre (to-1 r2 (vbool r2) x4 (vbool x4) x5 (LL.val row-Registers.the_type law-Registers.the_laws x5) x6 (vint w32 x6) x7 (vbool x7) x8 (vint w32 x8) x9 (vint w32 x9)))) (goes-1 r2 (vbool r2) x4 (vbool x4) x5 (LL.val row-Registers.the_type law-Registers.the_laws x5) x6 (vint w32 x6) x7 (vbool x7) x8 (vint w32 x8) x9 (vint w32 x9) (subst (Is Boolean r2) (bool_Tells r2 _ is4) is4) i4 i5 i6 i7 i8 i9) $
         calls_at ! fm (C1 𝓛 mem run) known-1 (to-1 r2 (vbool r2) x4 (vbool x4) x5 (LL.val row-Registers.the_type law-Registers.the_laws x5) x6 (vint w32 x6) x7 (vbool x7) x8 (vint w32 x8) x9 (vint w32 x9)) (and_then ! (load ! (from ! (stop !)) (look ! 9 refl)) (and_then ! (load ! (from ! (stop !)) (look ! 21 refl)) (and_then ! (load ! (from ! (stop !)) (look ! 19 refl)) (and_then ! (load ! (from ! (stop !)) (look ! 17 refl)) (and_then ! (load ! (from ! (stop !)) (look ! 15 refl)) (and_then ! (load ! (from ! (stop !)) (look ! 13 refl)) (and_then ! (load ! (from ! (stop !)) (look ! 11 refl)) (no_more !)))))))) (λ val5.
-        use1 𝓛 (later (some (λ (r : Plan). (‵ ftrue ⊛ ‵ ((row-Plan.the_row).own_val r (val5 ∷ []))) ⊛ raw (ensured 𝓛 c1.ended (c1.clauses 𝓛 mem run) tt (r2, (x4, (x5, (x6, (x7, (x8, (x9, tt))))))) tt r)))) (id⊢ 𝓤 _) $ await ! tt $ choose ! (λ r6. split ! $ move ! (1 ∷ []) $ use1 𝓛 (raw (fact 𝓤 (r6 ≡ planTest x5 x6 x7 x8 x9 r2 x4))) (said-1 r2 x4 x5 x6 x7 x8 x9 r6) $ heard ! (r6 ≡ planTest x5 x6 x7 x8 x9 r2 x4) (λ e7. split ! $
+        use1 𝓛 (later (some (λ (r : Plan). (‵ ftrue ⊛ ‵ ((row-Plan.the_row).own_val r (val5 ∷ []))) ⊛ raw (ensured 𝓛 c1.ended (c1.clauses 𝓛 mem run) tt (r2, (x4, (x5, (x6, (x7, (x8, (x9, tt))))))) tt r)))) (id⊢ 𝓤 _) $ await ! tt $ choose ! (λ r6. split ! $ move ! (1 ∷ []) $ use1 𝓛 (raw (fact 𝓤 (r6 ≡ plan_test x5 x6 x7 x8 x9 r2 x4))) (said-1 r2 x4 x5 x6 x7 x8 x9 r6) $ heard ! (r6 ≡ plan_test x5 x6 x7 x8 x9 r2 x4) (λ e7. split ! $
         drop ! $
         facts ! row-Plan.the_row (Is row-Plan.the_row) (shows 𝓛 row-Plan.the_row) r6 (val5 ∷ []) (λ is8. land ! (from ! (stop !)) (init ! 6 refl ((EL.lawful row-Plan.the_type law-Plan.the_laws 𝓛 tt).typed r6 _ is8).0) $
         rewrite ! 6 (λ (u : Val). ‵ (fat full_share law-Plan.mir l11 0 u)) (ap only (EL.tells row-Plan.the_type law-Plan.the_laws r6 _ is8)) refl $ move ! (1 ∷ []) $
@@ -190,13 +190,13 @@ module _ {M : Type 1} {𝓤 : Ura M} (𝓛 : Logic 𝓤) (mem : Memory → SProp
         split ! $ move ! (4 ∷ 5 ∷ 2 ∷ 0 ∷ []) $ group ! 4 $
         use1 𝓛 (raw ((C2 𝓛 mem run).pre (to-2 x1 (slice_val x1.ref_ptr (length x1.now)) x2 (vint w32 x2) x3 (slice_val x3.ref_ptr (length x3.now)) x5 (LL.val row-Registers.the_type law-Registers.the_laws x5) x6 (vint w32 x6) x8 (vint w32 x8) x9 (vint w32 x9) r6 (EL.val row-Plan.the_type law-Plan.the_laws r6)))) (goes-2 x1 (slice_val x1.ref_ptr (length x1.now)) x2 (vint w32 x2) x3 (slice_val x3.ref_ptr (length x3.now)) x5 (LL.val row-Registers.the_type law-Registers.the_laws x5) x6 (vint w32 x6) x8 (vint w32 x8) x9 (vint w32 x9) r6 (EL.val row-Plan.the_type law-Plan.the_laws r6) i2 i5 i6 i8 i9 (subst (Is row-Plan.the_row r6) (EL.tells row-Plan.the_type law-Plan.the_laws r6 _ is8) is8)) $
         calls_at ! fm (C2 𝓛 mem run) known-2 (to-2 x1 (slice_val x1.ref_ptr (length x1.now)) x2 (vint w32 x2) x3 (slice_val x3.ref_ptr (length x3.now)) x5 (LL.val row-Registers.the_type law-Registers.the_laws x5) x6 (vint w32 x6) x8 (vint w32 x8) x9 (vint w32 x9) r6 (EL.val row-Plan.the_type law-Plan.the_laws r6)) (and_then ! (load ! (from ! (stop !)) (look ! 25 refl)) (and_then ! (load ! (from ! (stop !)) (look ! 23 refl)) (and_then ! (load ! (from ! (stop !)) (look ! 21 refl)) (and_then ! (load ! (from ! (stop !)) (look ! 17 refl)) (and_then ! (load ! (from ! (stop !)) (look ! 15 refl)) (and_then ! (load ! (from ! (stop !)) (look ! 11 refl)) (and_then ! (load ! (from ! (stop !)) (look ! 9 refl)) (and_then ! (load ! (from ! (stop !)) (look ! 5 refl)) (no_more !))))))))) (λ val9.
-        use1 𝓛 (later (some (λ (r : Found). ((‵ (flft κ0 q0) ⊛ ‵ (flft κ1 q1) ⊛ ‵ ftrue) ⊛ ‵ ((row-Found.the_row).own_val r (val9 ∷ []))) ⊛ raw (ensured 𝓛 c2.ended (c2.clauses 𝓛 mem run) (κ0, (κ1, tt)) (x1, (x2, (x3, (x5, (x6, (x8, (x9, (r6, tt)))))))) tt r)))) (id⊢ 𝓤 _) $ await ! tt $ choose ! (λ r10. split ! $ move ! (1 ∷ []) $ use1 𝓛 (raw (fact 𝓤 (r10 ≡ foundTest (memory x1.now x2 x3.now) x5 x6 x8 x9 r6))) (said-2 x1 x2 x3 x5 x6 x8 x9 r6 r10) $ heard ! (r10 ≡ foundTest (memory x1.now x2 x3.now) x5 x6 x8 x9 r6) (λ e11. split ! $
+        use1 𝓛 (later (some (λ (r : Found). ((‵ (flft κ0 q0) ⊛ ‵ (flft κ1 q1) ⊛ ‵ ftrue) ⊛ ‵ ((row-Found.the_row).own_val r (val9 ∷ []))) ⊛ raw (ensured 𝓛 c2.ended (c2.clauses 𝓛 mem run) (κ0, (κ1, tt)) (x1, (x2, (x3, (x5, (x6, (x8, (x9, (r6, tt)))))))) tt r)))) (id⊢ 𝓤 _) $ await ! tt $ choose ! (λ r10. split ! $ move ! (1 ∷ []) $ use1 𝓛 (raw (fact 𝓤 (r10 ≡ found_test (memory x1.now x2 x3.now) x5 x6 x8 x9 r6))) (said-2 x1 x2 x3 x5 x6 x8 x9 r6 r10) $ heard ! (r10 ≡ found_test (memory x1.now x2 x3.now) x5 x6 x8 x9 r6) (λ e11. split ! $
         split ! $ move ! (1 ∷ []) $ split ! $ move ! (1 ∷ []) $ drop ! $ move ! (2 ∷ []) $
         facts ! row-Found.the_row (Is row-Found.the_row) (shows 𝓛 row-Found.the_row) r10 (val9 ∷ []) (λ is12. land ! (from ! (stop !)) (init ! 4 refl ((EL.lawful row-Found.the_type law-Found.the_laws 𝓛 tt).typed r10 _ is12).0) $
         rewrite ! 4 (λ (u : Val). ‵ (fat full_share law-Found.mir l12 0 u)) (ap only (EL.tells row-Found.the_type law-Found.the_laws r10 _ is12)) refl $
         use0 𝓛 (raw ((C3 𝓛 mem run).pre (to-3 x6 (vint w32 x6) r10 (EL.val row-Found.the_type law-Found.the_laws r10)))) (goes-3 x6 (vint w32 x6) r10 (EL.val row-Found.the_type law-Found.the_laws r10) i6 (subst (Is row-Found.the_row r10) (EL.tells row-Found.the_type law-Found.the_laws r10 _ is12) is12)) $
         calls_at ! fm (C3 𝓛 mem run) known-3 (to-3 x6 (vint w32 x6) r10 (EL.val row-Found.the_type law-Found.the_laws r10)) (and_then ! (load ! (from ! (stop !)) (look ! 17 refl)) (and_then ! (load ! (from ! (stop !)) (look ! 5 refl)) (no_more !))) (λ val13.
-        use1 𝓛 (later (some (λ (r : TestOutcome). (‵ ftrue ⊛ ‵ ((row-TestOutcome.the_row).own_val r (val13 ∷ []))) ⊛ raw (ensured 𝓛 c3.ended (c3.clauses 𝓛 mem run) tt (x6, (r10, tt)) tt r)))) (id⊢ 𝓤 _) $ await ! tt $ choose ! (λ r14. split ! $ move ! (1 ∷ []) $ use1 𝓛 (raw (fact 𝓤 (TestedIn (concludedTest x6 r10) r14.answer r14.count))) (said-3 x6 r10 r14) $ heard ! (TestedIn (concludedTest x6 r10) r14.answer r14.count) (λ e15. split ! $
+        use1 𝓛 (later (some (λ (r : TestOutcome). (‵ ftrue ⊛ ‵ ((row-TestOutcome.the_row).own_val r (val13 ∷ []))) ⊛ raw (ensured 𝓛 c3.ended (c3.clauses 𝓛 mem run) tt (x6, (r10, tt)) tt r)))) (id⊢ 𝓤 _) $ await ! tt $ choose ! (λ r14. split ! $ move ! (1 ∷ []) $ use1 𝓛 (raw (fact 𝓤 (TestedIn (concluded_test x6 r10) r14.answer r14.count))) (said-3 x6 r10 r14) $ heard ! (TestedIn (concluded_test x6 r10) r14.answer r14.count) (λ e15. split ! $
         drop ! $
         facts ! row-TestOutcome.the_row (Is row-TestOutcome.the_row) (shows 𝓛 row-TestOutcome.the_row) r14 (val13 ∷ []) (λ is16. land ! (from ! (stop !)) (init ! 28 refl ((LL.lawful row-TestOutcome.the_type law-TestOutcome.the_laws 𝓛).typed r14 _ is16).0) $
         rewrite ! 28 (λ (u : Val). ‵ (fat full_share law-TestOutcome.mir l0 0 u)) (ap only (LL.tells row-TestOutcome.the_type law-TestOutcome.the_laws r14 _ is16)) refl $

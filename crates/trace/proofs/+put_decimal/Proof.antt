@@ -6,7 +6,7 @@ use lib.ListN.{length}
 use borrow.Author.Rules.{rules}
 use borrow.Fn.Kinds.{In}
 use borrow.Fn.PlainCycle.{Measures, is, falls, and}
-use Rattle.trace.proofs.Digits.{decimal-one, longer, one-digit, more-digits}
+use Rattle.trace.proofs.Digits.{decimal_one, longer, one_digit, more_digits}
 use Rattle.trace.proofs.put_decimal.Reads as put-decimal
 use Rattle.trace.proofs.put_decimal.Kinds as put-decimal-kinds
 use Rattle.trace.proofs.+put_decimal.Lts-put_decimal as lts
@@ -39,13 +39,13 @@ decimal-digit-requires : (t : ℕ) → lts.Need-decimal-digit-requires (claims t
 decimal-digit-requires t c κs = search rules
 
 put-byte-requires : (t : ℕ) → lts.Need-put-byte-requires (claims t) (at t) put-decimal.Post
-put-byte-requires t c κs = omega (arith, ap length (decimal-one c.before.before.before.before.args.n c.before.before.if1.true), c.before.before.before.before.requires.1)
+put-byte-requires t c κs = omega (arith, ap length (decimal_one c.before.before.before.before.args.n c.before.before.if1.true), c.before.before.before.before.requires.1)
 
 same_length : (t : ℕ) → lts.Need-same-length (claims t) (at t) put-decimal.Post
 same_length t c = search rules
 
 returns : (t : ℕ) → lts.Need-returns (claims t) (at t) put-decimal.Post
-returns t c = one-digit c.before.before.before.before.before.before.before.args.n c.before.before.before.decimal_digit.ensures c.before.before.before.before.before.if1.true c.before.before.put_byte.ensures
+returns t c = one_digit c.before.before.before.before.before.before.before.args.n c.before.before.before.decimal_digit.ensures c.before.before.before.before.before.if1.true c.before.before.put_byte.ensures
 
 put-decimal-requires : (t : ℕ) → lts.Need-put-decimal-requires (claims t) (at t) put-decimal.Post
 put-decimal-requires t c κs = (omega (arith, c.before.before.before.requires.0), omega (arith, longer c.before.before.before.args.n c.before.if1.false, c.before.before.before.requires.1))
@@ -60,7 +60,7 @@ same-length-2 : (t : ℕ) → lts.Need-same-length-2 (claims t) (at t) put-decim
 same-length-2 t c = search rules
 
 returns-2 : (t : ℕ) → lts.Need-returns-2 (claims t) (at t) put-decimal.Post
-returns-2 t c = more-digits c.before.before.before.before.before.before.before.before.before.before.before.args.n c.before.before.before.decimal-digit2.ensures c.before.before.before.before.before.before.before.before.before.if1.false (omega arith) c.before.before.before.before.before.before.before.put-decimal.ensures c.before.before.put-byte2.ensures
+returns-2 t c = more_digits c.before.before.before.before.before.before.before.before.before.before.before.args.n c.before.before.before.decimal-digit2.ensures c.before.before.before.before.before.before.before.before.before.if1.false (omega arith) c.before.before.before.before.before.before.before.put-decimal.ensures c.before.before.put-byte2.ensures
 
 pub +put-decimal-spec : {M : Type 1} → statement M
 +put-decimal-spec =

@@ -1,11 +1,11 @@
-use Rattle.trace.proofs.Shapes.{two-longs}
+use Rattle.trace.proofs.Shapes.{two_longs_lem}
 use borrow.Author.Tests.{eq-eqb, ne_eqb}
 use borrow.Author.Rules.{rules}
 use Rattle.trace.proofs.longs_of.Statement.{statement}
 use Rattle.trace.proofs.longs_of.Tie as tie
 
 returns : tie.Need-returns
-returns c = rw (two-longs c.before.before.args.kind c.before.before.args.b.now c.before.before.requires.0 c.before.before.requires.1, ne_eqb _ _ c.if1.true)
+returns c = rw (two_longs_lem c.before.before.args.kind c.before.before.args.b.now c.before.before.requires.0 c.before.before.requires.1, ne_eqb _ _ c.if1.true)
 
 long-at-requires : tie.Need-long-at-requires
 long-at-requires c κs = search rules
@@ -16,7 +16,7 @@ long-at-requires-2 c κs = search rules
 returns-2 : tie.Need-returns-2
 returns-2 c =
     rw (
-      two-longs c.before.before.before.before.before.args.kind c.before.before.before.before.before.args.b.now c.before.before.before.before.before.requires.0 c.before.before.before.before.before.requires.1,
+      two_longs_lem c.before.before.before.before.before.args.kind c.before.before.before.before.before.args.b.now c.before.before.before.before.before.requires.0 c.before.before.before.before.before.requires.1,
       eq-eqb _ _ c.before.before.before.if1.false,
       eq-eqb _ _ c.if2.true,
       c.before.before.long-at.ensures,
@@ -26,7 +26,7 @@ returns-2 c =
 returns-3 : tie.Need-returns-3
 returns-3 c =
     rw (
-      two-longs c.before.before.before.before.before.args.kind c.before.before.before.before.before.args.b.now c.before.before.before.before.before.requires.0 c.before.before.before.before.before.requires.1,
+      two_longs_lem c.before.before.before.before.before.args.kind c.before.before.before.before.before.args.b.now c.before.before.before.before.before.requires.0 c.before.before.before.before.before.requires.1,
       eq-eqb _ _ c.before.before.before.if1.false,
       ne_eqb _ _ c.if2.false,
       c.before.before.long-at.ensures,

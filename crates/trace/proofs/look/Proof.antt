@@ -1,4 +1,4 @@
-use Rattle.trace.proofs.Seeing.{seen_none, seen-access, seen_other}
+use Rattle.trace.proofs.Seeing.{seen_none, seen_access, seen_other}
 use borrow.Author.Rules.{rules}
 use Rattle.trace.proofs.look.Statement.{statement}
 use Rattle.trace.proofs.look.Tie as tie
@@ -22,7 +22,7 @@ access-of-requires : tie.Need-access-of-requires
 access-of-requires c κs = search rules
 
 returns-2 : tie.Need-returns-2
-returns-2 c = seen-access _ c.before.before.before.before.if1.false c.before.before.before.byte_at.ensures.0 c.before.before.if2.true c.Access-of.ensures
+returns-2 c = seen_access _ c.before.before.before.before.if1.false c.before.before.before.byte_at.ensures.0 c.before.before.if2.true c.Access-of.ensures
 
 returns-3 : tie.Need-returns-3
 returns-3 c = seen_other _ c.before.before.if1.false c.before.byte_at.ensures.0 c.if2.false

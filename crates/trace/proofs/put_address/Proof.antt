@@ -1,4 +1,4 @@
-use Rattle.trace.proofs.Digits.{hex-eight}
+use Rattle.trace.proofs.Digits.{hex_eight}
 use Rattle.trace.proofs.Writes.{then}
 use mathlib.Core.List.{append_assoc}
 use borrow.Author.Rules.{rules}
@@ -24,7 +24,7 @@ returns : tie.Need-returns
 returns c =
     simp append_assoc
     (then c.before.before.before.before.before.before.before.before.before.before.before.before.before.before.put_byte.ensures
-    (then (rw (hex-eight c.before.before.before.before.before.before.before.before.before.before.before.before.before.before.before.before.before.args.address) at (then c.before.before.before.before.before.before.before.before.before.before.put-hex.ensures c.before.before.before.before.before.before.put-hex2.ensures)) c.before.before.put_count.ensures))
+    (then (rw (hex_eight c.before.before.before.before.before.before.before.before.before.before.before.before.before.before.before.before.before.args.address) at (then c.before.before.before.before.before.before.before.before.before.before.put-hex.ensures c.before.before.before.before.before.before.put-hex2.ensures)) c.before.before.put_count.ensures))
 
 pub put-address-spec : {M : Type 1} → statement M
 put-address-spec =

@@ -1,4 +1,4 @@
-use Rattle.trace.proofs.Digits.{hex-four}
+use Rattle.trace.proofs.Digits.{hex_four}
 use Rattle.trace.proofs.Writes.{then}
 use borrow.Author.Rules.{rules}
 use Rattle.trace.proofs.put_hex.Statement.{statement}
@@ -33,7 +33,7 @@ same_length c = search rules
 
 returns : tie.Need-returns
 returns c =
-    rw (hex-four c.before.before.before.before.before.before.before.before.before.before.before.before.before.before.before.before.before.before.before.before.before.args.n c.before.before.before.before.before.before.before.before.before.before.before.before.before.before.before.before.before.before.hex-digit.ensures c.before.before.before.before.before.before.before.before.before.before.before.before.before.hex-digit2.ensures c.before.before.before.before.before.before.before.before.hex-digit3.ensures c.before.before.before.hex-digit4.ensures)
+    rw (hex_four c.before.before.before.before.before.before.before.before.before.before.before.before.before.before.before.before.before.before.before.before.before.args.n c.before.before.before.before.before.before.before.before.before.before.before.before.before.before.before.before.before.before.hex-digit.ensures c.before.before.before.before.before.before.before.before.before.before.before.before.before.hex-digit2.ensures c.before.before.before.before.before.before.before.before.hex-digit3.ensures c.before.before.before.hex-digit4.ensures)
     at (then c.before.before.before.before.before.before.before.before.before.before.before.before.before.before.before.before.before.put_byte.ensures (then c.before.before.before.before.before.before.before.before.before.before.before.before.put-byte2.ensures (then c.before.before.before.before.before.before.before.put-byte3.ensures c.before.before.put-byte4.ensures)))
 
 pub put-hex-spec : {M : Type 1} → statement M

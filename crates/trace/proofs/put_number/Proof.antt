@@ -1,4 +1,4 @@
-use Rattle.trace.proofs.Digits.{decimal-short, one-digit}
+use Rattle.trace.proofs.Digits.{decimal_short, one_digit}
 use Rattle.trace.proofs.Writes.{then}
 use native.Mathlib.Omega.{arith}
 use borrow.Author.Rules.{rules}
@@ -18,10 +18,10 @@ same_length : tie.Need-same-length
 same_length c = search rules
 
 returns : tie.Need-returns
-returns c = then c.before.before.before.before.before.before.before.before.put_byte.ensures (one-digit c.before.before.before.before.before.before.before.before.before.before.before.args.n c.before.before.before.decimal_digit.ensures c.before.before.before.before.before.if1.true c.before.before.put-byte2.ensures)
+returns c = then c.before.before.before.before.before.before.before.before.put_byte.ensures (one_digit c.before.before.before.before.before.before.before.before.before.before.before.args.n c.before.before.before.decimal_digit.ensures c.before.before.before.before.before.if1.true c.before.before.put-byte2.ensures)
 
 put-decimal-requires : tie.Need-put-decimal-requires
-put-decimal-requires c κs = omega (arith, decimal-short 9 c.before.before.before.before.before.before.before.args.n (omega arith))
+put-decimal-requires c κs = omega (arith, decimal_short 9 c.before.before.before.before.before.before.before.args.n (omega arith))
 
 same-length-2 : tie.Need-same-length-2
 same-length-2 c = search rules

@@ -51,14 +51,14 @@ use base.Fml.{fobs, fbor}
 use denote.Array.{Array}
 use Rattle.translate.proofs.Translating as law
 use Rattle.definition.specs.Memory.{memory}
-use Rattle.cache.specs.Pair.{cachesOf}
-use Rattle.translate.specs.Stages.{foundOf, shownTranslated, translateGiven}
+use Rattle.cache.specs.Pair.{caches_of}
+use Rattle.translate.specs.Stages.{found_of, shown_translated, translate_given}
 use Rattle.translate.specs.InPlace.{AnsweredIn}
 use Rattle.translate.specs.declared.Found.{Found}
-use Rattle.definition.specs.Refusal.{badBase}
-use Rattle.translate.specs.Stages.{planAccess}
+use Rattle.definition.specs.Refusal.{bad_base}
+use Rattle.translate.specs.Stages.{plan_access}
 use Rattle.translate.specs.InPlace.{PlannedIn}
-use Rattle.translate.specs.Stages.{concludedOf}
+use Rattle.translate.specs.Stages.{concluded_of}
 use Rattle.definition.specs.declared.Access.{Access}
 use Rattle.definition.specs.contracts.Access as row-Access
 use Rattle.definition.proofs.Access.TheLaws as law-Access
@@ -121,7 +121,7 @@ module _ {M : Type 1} {𝓤 : Ura M} (𝓛 : Logic 𝓤) (mem : Memory → SProp
   abbrev Post : Val → SProp 𝓤
   Post = (walk_of 𝓛 self.ended stayed (self.clauses 𝓛 mem run)).post (((κ0, (κ1, (κ2, (κ3, tt)))), (q0, (q1, (q2, (q3, tt)))), tt, (x1, (x2, (x3, (x4, (x5, (x6, (x7, (x8, tt)))))))), at_entry), tt)
 
-  exits : (y1 : List ℕ) (y2 : List ℕ) (r : Outcome) (u : Val) → Is row-Outcome.the_row r (u ∷ []) → (AnsweredIn (shownTranslated (translateGiven x6 x7 x8 (memory x3.now x4 x5.now) (cachesOf x1.now x2.now))) r.answer r.count (y1) (y2)) → ent 𝓤 (⋆ 𝓛 (‵ (flft κ0 q0) ∷ ‵ (flft κ1 q1) ∷ ‵ (flft κ2 q2) ∷ ‵ (flft κ3 q3) ∷ ‵ ((ShrSlice (named 2) κ2 u32).own_val x3 (slice_val x3.ref_ptr (length x3.now) ∷ [])) ∷ ‵ ((ShrSlice (named 3) κ3 row-Range.the_row).own_val x5 (slice_val x5.ref_ptr (length x5.now) ∷ [])) ∷ ‵ (fobs x1.ghost_name ((Array u64 69).coded.code y1)) ∷ ‵ (fbor κ0 (Behind (mem-of (Array u64 69)) x1.ref_ptr.0 x1.ref_ptr.1 x1.ghost_name)) ∷ ‵ (fobs x2.ghost_name ((Array u64 128).coded.code y2)) ∷ ‵ (fbor κ1 (Behind (mem-of (Array u64 128)) x2.ref_ptr.0 x2.ref_ptr.1 x2.ghost_name)) ∷ [])) (Post u)
+  exits : (y1 : List ℕ) (y2 : List ℕ) (r : Outcome) (u : Val) → Is row-Outcome.the_row r (u ∷ []) → (AnsweredIn (shown_translated (translate_given x6 x7 x8 (memory x3.now x4 x5.now) (caches_of x1.now x2.now))) r.answer r.count (y1) (y2)) → ent 𝓤 (⋆ 𝓛 (‵ (flft κ0 q0) ∷ ‵ (flft κ1 q1) ∷ ‵ (flft κ2 q2) ∷ ‵ (flft κ3 q3) ∷ ‵ ((ShrSlice (named 2) κ2 u32).own_val x3 (slice_val x3.ref_ptr (length x3.now) ∷ [])) ∷ ‵ ((ShrSlice (named 3) κ3 row-Range.the_row).own_val x5 (slice_val x5.ref_ptr (length x5.now) ∷ [])) ∷ ‵ (fobs x1.ghost_name ((Array u64 69).coded.code y1)) ∷ ‵ (fbor κ0 (Behind (mem-of (Array u64 69)) x1.ref_ptr.0 x1.ref_ptr.1 x1.ghost_name)) ∷ ‵ (fobs x2.ghost_name ((Array u64 128).coded.code y2)) ∷ ‵ (fbor κ1 (Behind (mem-of (Array u64 128)) x2.ref_ptr.0 x2.ref_ptr.1 x2.ghost_name)) ∷ [])) (Post u)
   exits y1 y2 r u is e =
       qed 𝓛 (‵ (flft κ0 q0) ∷ ‵ (flft κ1 q1) ∷ ‵ (flft κ2 q2) ∷ ‵ (flft κ3 q3) ∷ ‵ ((ShrSlice (named 2) κ2 u32).own_val x3 (slice_val x3.ref_ptr (length x3.now) ∷ [])) ∷ ‵ ((ShrSlice (named 3) κ3 row-Range.the_row).own_val x5 (slice_val x5.ref_ptr (length x5.now) ∷ [])) ∷ ‵ (fobs x1.name ((Array u64 69).coded.code y1)) ∷ ‵ (fbor κ0 (Behind (mem-of (Array u64 69)) x1.ptr.0 x1.ptr.1 x1.name)) ∷ ‵ (fobs x2.name ((Array u64 128).coded.code y2)) ∷ ‵ (fbor κ1 (Behind (mem-of (Array u64 128)) x2.ptr.0 x2.ptr.1 x2.name)) ∷ []) ∵
       suffices ! _ (ends_at 𝓛 self.ended stayed (self.clauses 𝓛 mem run) (((κ0, (κ1, (κ2, (κ3, tt)))), (q0, (q1, (q2, (q3, tt)))), tt, (x1, (x2, (x3, (x4, (x5, (x6, (x7, (x8, tt)))))))), at_entry), tt) u r (y1, (y2, (tt, (tt, (tt, (tt, (tt, (tt, tt)))))))) (tt, (tt, (tt, (tt, (tt, (tt, (tt, (tt, tt))))))))) $ says ! e $
@@ -135,8 +135,8 @@ module _ {M : Type 1} {𝓤 : Ura M} (𝓛 : Logic 𝓤) (mem : Memory → SProp
   goes-0 a0 v0 a1 v1 i1 =
       qed 𝓛 (‵ (flft κ2 q2) ∷ ‵ ((ShrSlice (named 0) κ2 u32).own_val a0 (v0 ∷ [])) ∷ []) ∵ nothing ! $ owned ! u32 (Is u32) (uint_Makes 𝓛 w32) a1 _ i1 $ fjoin ! $ move ! (2 ∷ 0 ∷ []) $ fjoin ! $ nothing ! $ move ! (2 ∷ 0 ∷ []) $ join ! $ join ! $ frame ! $ done !
 
-  said-0 : (a0 : Bor (List ℕ)) (a1 : ℕ) (r : Bool) → ent 𝓤 (ensured 𝓛 c0.ended (c0.clauses 𝓛 mem run) (κ2, tt) (a0, (a1, tt)) tt r) (fact 𝓤 (r ≡ badBase (memory a0.now a1 [])))
-  said-0 a0 a1 r = ex_e 𝓤 _ (λ ws. snd∗ 𝓤 (sem 𝓛 (lasts c0.ended (κ2, tt) (a0, (a1, tt)) ws)) (fact 𝓤 (r ≡ badBase (memory a0.now a1 []))))
+  said-0 : (a0 : Bor (List ℕ)) (a1 : ℕ) (r : Bool) → ent 𝓤 (ensured 𝓛 c0.ended (c0.clauses 𝓛 mem run) (κ2, tt) (a0, (a1, tt)) tt r) (fact 𝓤 (r ≡ bad_base (memory a0.now a1 [])))
+  said-0 a0 a1 r = ex_e 𝓤 _ (λ ws. snd∗ 𝓤 (sem 𝓛 (lasts c0.ended (κ2, tt) (a0, (a1, tt)) ws)) (fact 𝓤 (r ≡ bad_base (memory a0.now a1 []))))
 
   -- the call of `before.plan_access`: what it is passed, and what it asks
   abbrev to-1 : (κ4 : Lft) (q4 : Share) (κ5 : Lft) (q5 : Share) (a0 : Bor (List ℕ)) (v0 : Val) (a1 : Bor (List ℕ)) (v1 : Val) (a2 : Bool) (v2 : Val) (a3 : Bool) (v3 : Val) (a4 : Registers) (v4 : Val) (a5 : Access) (v5 : Val) → (C1 𝓛 mem run).Ghost
@@ -154,8 +154,8 @@ module _ {M : Type 1} {𝓤 : Ura M} (𝓛 : Logic 𝓤) (mem : Memory → SProp
   goes-2 a0 v0 a1 v1 a2 v2 a3 v3 a4 v4 a5 v5 i1 i3 i4 i5 =
       qed 𝓛 (‵ (flft κ2 q2) ∷ ‵ (flft κ3 q3) ∷ ‵ ((ShrSlice (named 0) κ2 u32).own_val a0 (v0 ∷ [])) ∷ ‵ ((ShrSlice (named 1) κ3 row-Range.the_row).own_val a2 (v2 ∷ [])) ∷ []) ∵ nothing ! $ owned ! row-Plan.the_row (Is row-Plan.the_row) (EL.makes row-Plan.the_type law-Plan.the_plain 𝓛) a5 _ i5 $ fjoin ! $ owned ! row-Access.the_row (Is row-Access.the_row) (LL.makes row-Access.the_type law-Access.the_plain 𝓛) a4 _ i4 $ fjoin ! $ owned ! row-Registers.the_row (Is row-Registers.the_row) (LL.makes row-Registers.the_type law-Registers.the_plain 𝓛) a3 _ i3 $ fjoin ! $ move ! (4 ∷ 0 ∷ []) $ fjoin ! $ owned ! u32 (Is u32) (uint_Makes 𝓛 w32) a1 _ i1 $ fjoin ! $ move ! (3 ∷ 0 ∷ []) $ fjoin ! $ nothing ! $ move ! (3 ∷ 0 ∷ []) $ join ! $ move ! (2 ∷ 0 ∷ []) $ join ! $ join ! $ frame ! $ done !
 
-  said-2 : (a0 : Bor (List ℕ)) (a1 : ℕ) (a2 : Bor (List Range)) (a3 : Registers) (a4 : Access) (a5 : Plan) (r : Found) → ent 𝓤 (ensured 𝓛 c2.ended (c2.clauses 𝓛 mem run) (κ2, (κ3, tt)) (a0, (a1, (a2, (a3, (a4, (a5, tt)))))) tt r) (fact 𝓤 (r ≡ foundOf (memory a0.now a1 a2.now) a3 a4 a5))
-  said-2 a0 a1 a2 a3 a4 a5 r = ex_e 𝓤 _ (λ ws. snd∗ 𝓤 (sem 𝓛 (lasts c2.ended (κ2, (κ3, tt)) (a0, (a1, (a2, (a3, (a4, (a5, tt)))))) ws)) (fact 𝓤 (r ≡ foundOf (memory a0.now a1 a2.now) a3 a4 a5)))
+  said-2 : (a0 : Bor (List ℕ)) (a1 : ℕ) (a2 : Bor (List Range)) (a3 : Registers) (a4 : Access) (a5 : Plan) (r : Found) → ent 𝓤 (ensured 𝓛 c2.ended (c2.clauses 𝓛 mem run) (κ2, (κ3, tt)) (a0, (a1, (a2, (a3, (a4, (a5, tt)))))) tt r) (fact 𝓤 (r ≡ found_of (memory a0.now a1 a2.now) a3 a4 a5))
+  said-2 a0 a1 a2 a3 a4 a5 r = ex_e 𝓤 _ (λ ws. snd∗ 𝓤 (sem 𝓛 (lasts c2.ended (κ2, (κ3, tt)) (a0, (a1, (a2, (a3, (a4, (a5, tt)))))) ws)) (fact 𝓤 (r ≡ found_of (memory a0.now a1 a2.now) a3 a4 a5)))
 
   -- the call of `after.concluded`: what it is passed, and what it asks
   abbrev to-3 : (κ6 : Lft) (q6 : Share) (κ7 : Lft) (q7 : Share) (a0 : Bor (List ℕ)) (v0 : Val) (a1 : Bor (List ℕ)) (v1 : Val) (a2 : Registers) (v2 : Val) (a3 : Access) (v3 : Val) (a4 : Found) (v4 : Val) → (C3 𝓛 mem run).Ghost
@@ -187,7 +187,7 @@ module _ {M : Type 1} {𝓤 : Ura M} (𝓛 : Logic 𝓤) (mem : Memory → SProp
         split ! $ move ! (3 ∷ 0 ∷ []) $ group ! 2 $
         use1 𝓛 (raw ((C0 𝓛 mem run).pre (to-0 x3 (slice_val x3.ref_ptr (length x3.now)) x4 (vint w32 x4)))) (goes-0 x3 (slice_val x3.ref_ptr (length x3.now)) x4 (vint w32 x4) i4) $
         calls_at ! fm (C0 𝓛 mem run) known-0 (to-0 x3 (slice_val x3.ref_ptr (length x3.now)) x4 (vint w32 x4)) (and_then ! (load ! (from ! (stop !)) (look ! 34 refl)) (and_then ! (load ! (from ! (stop !)) (look ! 32 refl)) (no_more !))) (λ val1.
-        use1 𝓛 (later (some (λ (r : Bool). ((‵ (flft κ2 q2) ⊛ ‵ ftrue) ⊛ ‵ (Boolean.own r (val1 ∷ []))) ⊛ raw (ensured 𝓛 c0.ended (c0.clauses 𝓛 mem run) (κ2, tt) (x3, (x4, tt)) tt r)))) (id⊢ 𝓤 _) $ await ! tt $ choose ! (λ r2. split ! $ move ! (1 ∷ []) $ use1 𝓛 (raw (fact 𝓤 (r2 ≡ badBase (memory x3.now x4 [])))) (said-0 x3 x4 r2) $ heard ! (r2 ≡ badBase (memory x3.now x4 [])) (λ e3. split ! $
+        use1 𝓛 (later (some (λ (r : Bool). ((‵ (flft κ2 q2) ⊛ ‵ ftrue) ⊛ ‵ (Boolean.own r (val1 ∷ []))) ⊛ raw (ensured 𝓛 c0.ended (c0.clauses 𝓛 mem run) (κ2, tt) (x3, (x4, tt)) tt r)))) (id⊢ 𝓤 _) $ await ! tt $ choose ! (λ r2. split ! $ move ! (1 ∷ []) $ use1 𝓛 (raw (fact 𝓤 (r2 ≡ bad_base (memory x3.now x4 [])))) (said-0 x3 x4 r2) $ heard ! (r2 ≡ bad_base (memory x3.now x4 [])) (λ e3. split ! $
         split ! $ move ! (1 ∷ []) $ drop ! $ move ! (1 ∷ []) $
         facts ! Boolean (Is Boolean) (shows 𝓛 Boolean) r2 (val1 ∷ []) (λ is4. land ! (from ! (stop !)) (init ! 22 refl ((bool_Lawful 𝓛).typed r2 _ is4).0) $
         rewrite ! 22 (λ (u : Val). ‵ (fat full_share ty_bool l9 0 u)) (ap only (bool_Tells r2 _ is4)) refl $
@@ -201,7 +201,7 @@ module _ {M : Type 1} {𝓤 : Ura M} (𝓛 : Logic 𝓤) (mem : Memory → SProp
         move ! (5 ∷ 2 ∷ 3 ∷ 0 ∷ []) $ group ! 4 $
         use1 𝓛 (raw ((C1 𝓛 mem run).pre (to-1 (α4 ∷ []) full_share (α5 ∷ []) full_share (record { ref_ptr = (x1.ref_ptr.0, x1.ref_ptr.1); ghost_name = δ5; now = x1.now }) (vptr x1.ref_ptr.0 x1.ref_ptr.1) (record { ref_ptr = (x2.ref_ptr.0, x2.ref_ptr.1); ghost_name = δ6; now = x2.now }) (vptr x2.ref_ptr.0 x2.ref_ptr.1) r2 (vbool r2) x6 (vbool x6) x7 (LL.val row-Registers.the_type law-Registers.the_laws x7) x8 (LL.val row-Access.the_type law-Access.the_laws x8)))) (goes-1 (α4 ∷ []) full_share (α5 ∷ []) full_share (record { ref_ptr = (x1.ref_ptr.0, x1.ref_ptr.1); ghost_name = δ5; now = x1.now }) (vptr x1.ref_ptr.0 x1.ref_ptr.1) (record { ref_ptr = (x2.ref_ptr.0, x2.ref_ptr.1); ghost_name = δ6; now = x2.now }) (vptr x2.ref_ptr.0 x2.ref_ptr.1) r2 (vbool r2) x6 (vbool x6) x7 (LL.val row-Registers.the_type law-Registers.the_laws x7) x8 (LL.val row-Access.the_type law-Access.the_laws x8) (subst (Is Boolean r2) (bool_Tells r2 _ is4) is4) i6 i7 i8) $
         calls_at ! fm (C1 𝓛 mem run) known-1 (to-1 (α4 ∷ []) full_share (α5 ∷ []) full_share (record { ref_ptr = (x1.ref_ptr.0, x1.ref_ptr.1); ghost_name = δ5; now = x1.now }) (vptr x1.ref_ptr.0 x1.ref_ptr.1) (record { ref_ptr = (x2.ref_ptr.0, x2.ref_ptr.1); ghost_name = δ6; now = x2.now }) (vptr x2.ref_ptr.0 x2.ref_ptr.1) r2 (vbool r2) x6 (vbool x6) x7 (LL.val row-Registers.the_type law-Registers.the_laws x7) x8 (LL.val row-Access.the_type law-Access.the_laws x8)) (and_then ! (load ! (from ! (stop !)) (look ! 13 refl)) (and_then ! (load ! (from ! (stop !)) (look ! 11 refl)) (and_then ! (load ! (from ! (stop !)) (look ! 19 refl)) (and_then ! (load ! (from ! (stop !)) (look ! 25 refl)) (and_then ! (load ! (from ! (stop !)) (look ! 23 refl)) (and_then ! (load ! (from ! (stop !)) (look ! 21 refl)) (no_more !))))))) (λ val7.
-        use1 𝓛 (later (some (λ (r : Plan). ((‵ (flft (α4 ∷ []) full_share) ⊛ ‵ (flft (α5 ∷ []) full_share) ⊛ ‵ ftrue) ⊛ ‵ ((row-Plan.the_row).own_val r (val7 ∷ []))) ⊛ raw (ensured 𝓛 c1.ended (c1.clauses 𝓛 mem run) ((α4 ∷ []), ((α5 ∷ []), tt)) ((record { ref_ptr = (x1.ref_ptr.0, x1.ref_ptr.1); ghost_name = δ5; now = x1.now }), ((record { ref_ptr = (x2.ref_ptr.0, x2.ref_ptr.1); ghost_name = δ6; now = x2.now }), (r2, (x6, (x7, (x8, tt)))))) tt r)))) (id⊢ 𝓤 _) $ await ! tt $ choose ! (λ r8. split ! $ move ! (1 ∷ []) $ use1 𝓛 (some (λ (ws : Lasts c1.ended ((α4 ∷ []), ((α5 ∷ []), tt)) ((record { ref_ptr = (x1.ref_ptr.0, x1.ref_ptr.1); ghost_name = δ5; now = x1.now }), ((record { ref_ptr = (x2.ref_ptr.0, x2.ref_ptr.1); ghost_name = δ6; now = x2.now }), (r2, (x6, (x7, (x8, tt))))))). ‵ (lasts c1.ended ((α4 ∷ []), ((α5 ∷ []), tt)) ((record { ref_ptr = (x1.ref_ptr.0, x1.ref_ptr.1); ghost_name = δ5; now = x1.now }), ((record { ref_ptr = (x2.ref_ptr.0, x2.ref_ptr.1); ghost_name = δ6; now = x2.now }), (r2, (x6, (x7, (x8, tt)))))) ws) ⊛ raw (fact 𝓤 (PlannedIn (planAccess x7 x8 r2 x6 (cachesOf (record { ref_ptr = (x1.ref_ptr.0, x1.ref_ptr.1); ghost_name = δ5; now = x1.now }).now (record { ref_ptr = (x2.ref_ptr.0, x2.ref_ptr.1); ghost_name = δ6; now = x2.now }).now)) r8 (ws.0) (ws.1.0))))) (id⊢ 𝓤 _) $ choose ! (λ ws11. split ! $ move ! (1 ∷ []) $ heard ! (PlannedIn (planAccess x7 x8 r2 x6 (cachesOf (record { ref_ptr = (x1.ref_ptr.0, x1.ref_ptr.1); ghost_name = δ5; now = x1.now }).now (record { ref_ptr = (x2.ref_ptr.0, x2.ref_ptr.1); ghost_name = δ6; now = x2.now }).now)) r8 (ws11.0) (ws11.1.0)) (λ e9.
+        use1 𝓛 (later (some (λ (r : Plan). ((‵ (flft (α4 ∷ []) full_share) ⊛ ‵ (flft (α5 ∷ []) full_share) ⊛ ‵ ftrue) ⊛ ‵ ((row-Plan.the_row).own_val r (val7 ∷ []))) ⊛ raw (ensured 𝓛 c1.ended (c1.clauses 𝓛 mem run) ((α4 ∷ []), ((α5 ∷ []), tt)) ((record { ref_ptr = (x1.ref_ptr.0, x1.ref_ptr.1); ghost_name = δ5; now = x1.now }), ((record { ref_ptr = (x2.ref_ptr.0, x2.ref_ptr.1); ghost_name = δ6; now = x2.now }), (r2, (x6, (x7, (x8, tt)))))) tt r)))) (id⊢ 𝓤 _) $ await ! tt $ choose ! (λ r8. split ! $ move ! (1 ∷ []) $ use1 𝓛 (some (λ (ws : Lasts c1.ended ((α4 ∷ []), ((α5 ∷ []), tt)) ((record { ref_ptr = (x1.ref_ptr.0, x1.ref_ptr.1); ghost_name = δ5; now = x1.now }), ((record { ref_ptr = (x2.ref_ptr.0, x2.ref_ptr.1); ghost_name = δ6; now = x2.now }), (r2, (x6, (x7, (x8, tt))))))). ‵ (lasts c1.ended ((α4 ∷ []), ((α5 ∷ []), tt)) ((record { ref_ptr = (x1.ref_ptr.0, x1.ref_ptr.1); ghost_name = δ5; now = x1.now }), ((record { ref_ptr = (x2.ref_ptr.0, x2.ref_ptr.1); ghost_name = δ6; now = x2.now }), (r2, (x6, (x7, (x8, tt)))))) ws) ⊛ raw (fact 𝓤 (PlannedIn (plan_access x7 x8 r2 x6 (caches_of (record { ref_ptr = (x1.ref_ptr.0, x1.ref_ptr.1); ghost_name = δ5; now = x1.now }).now (record { ref_ptr = (x2.ref_ptr.0, x2.ref_ptr.1); ghost_name = δ6; now = x2.now }).now)) r8 (ws.0) (ws.1.0))))) (id⊢ 𝓤 _) $ choose ! (λ ws11. split ! $ move ! (1 ∷ []) $ heard ! (PlannedIn (plan_access x7 x8 r2 x6 (caches_of (record { ref_ptr = (x1.ref_ptr.0, x1.ref_ptr.1); ghost_name = δ5; now = x1.now }).now (record { ref_ptr = (x2.ref_ptr.0, x2.ref_ptr.1); ghost_name = δ6; now = x2.now }).now)) r8 (ws11.0) (ws11.1.0)) (λ e9.
         fsplit ! $ move ! (1 ∷ []) $ fsplit ! $ move ! (1 ∷ []) $ fsplit ! $ drop ! $ fsplit ! $ drop ! $ fsplit ! $ drop ! $ fsplit ! $ drop ! $ drop ! $ move ! (2 ∷ []) $ split ! $
         split ! $ move ! (1 ∷ []) $ split ! $ move ! (1 ∷ []) $ drop ! $ move ! (2 ∷ []) $
         facts ! row-Plan.the_row (Is row-Plan.the_row) (shows 𝓛 row-Plan.the_row) r8 (val7 ∷ []) (λ is10. land ! (from ! (stop !)) (init ! 20 refl ((EL.lawful row-Plan.the_type law-Plan.the_laws 𝓛 tt).typed r8 _ is10).0) $
@@ -217,7 +217,7 @@ module _ {M : Type 1} {𝓤 : Ura M} (𝓛 : Logic 𝓤) (mem : Memory → SProp
         split ! $ move ! (10 ∷ 11 ∷ 2 ∷ 0 ∷ []) $ group ! 4 $
         use1 𝓛 (raw ((C2 𝓛 mem run).pre (to-2 x3 (slice_val x3.ref_ptr (length x3.now)) x4 (vint w32 x4) x5 (slice_val x5.ref_ptr (length x5.now)) x7 (LL.val row-Registers.the_type law-Registers.the_laws x7) x8 (LL.val row-Access.the_type law-Access.the_laws x8) r8 (EL.val row-Plan.the_type law-Plan.the_laws r8)))) (goes-2 x3 (slice_val x3.ref_ptr (length x3.now)) x4 (vint w32 x4) x5 (slice_val x5.ref_ptr (length x5.now)) x7 (LL.val row-Registers.the_type law-Registers.the_laws x7) x8 (LL.val row-Access.the_type law-Access.the_laws x8) r8 (EL.val row-Plan.the_type law-Plan.the_laws r8) i4 i7 i8 (subst (Is row-Plan.the_row r8) (EL.tells row-Plan.the_type law-Plan.the_laws r8 _ is10) is10)) $
         calls_at ! fm (C2 𝓛 mem run) known-2 (to-2 x3 (slice_val x3.ref_ptr (length x3.now)) x4 (vint w32 x4) x5 (slice_val x5.ref_ptr (length x5.now)) x7 (LL.val row-Registers.the_type law-Registers.the_laws x7) x8 (LL.val row-Access.the_type law-Access.the_laws x8) r8 (EL.val row-Plan.the_type law-Plan.the_laws r8)) (and_then ! (load ! (from ! (stop !)) (look ! 33 refl)) (and_then ! (load ! (from ! (stop !)) (look ! 31 refl)) (and_then ! (load ! (from ! (stop !)) (look ! 29 refl)) (and_then ! (load ! (from ! (stop !)) (look ! 25 refl)) (and_then ! (load ! (from ! (stop !)) (look ! 23 refl)) (and_then ! (load ! (from ! (stop !)) (look ! 19 refl)) (no_more !))))))) (λ val12.
-        use1 𝓛 (later (some (λ (r : Found). ((‵ (flft κ2 q2) ⊛ ‵ (flft κ3 q3) ⊛ ‵ ftrue) ⊛ ‵ ((row-Found.the_row).own_val r (val12 ∷ []))) ⊛ raw (ensured 𝓛 c2.ended (c2.clauses 𝓛 mem run) (κ2, (κ3, tt)) (x3, (x4, (x5, (x7, (x8, (r8, tt)))))) tt r)))) (id⊢ 𝓤 _) $ await ! tt $ choose ! (λ r13. split ! $ move ! (1 ∷ []) $ use1 𝓛 (raw (fact 𝓤 (r13 ≡ foundOf (memory x3.now x4 x5.now) x7 x8 r8))) (said-2 x3 x4 x5 x7 x8 r8 r13) $ heard ! (r13 ≡ foundOf (memory x3.now x4 x5.now) x7 x8 r8) (λ e14. split ! $
+        use1 𝓛 (later (some (λ (r : Found). ((‵ (flft κ2 q2) ⊛ ‵ (flft κ3 q3) ⊛ ‵ ftrue) ⊛ ‵ ((row-Found.the_row).own_val r (val12 ∷ []))) ⊛ raw (ensured 𝓛 c2.ended (c2.clauses 𝓛 mem run) (κ2, (κ3, tt)) (x3, (x4, (x5, (x7, (x8, (r8, tt)))))) tt r)))) (id⊢ 𝓤 _) $ await ! tt $ choose ! (λ r13. split ! $ move ! (1 ∷ []) $ use1 𝓛 (raw (fact 𝓤 (r13 ≡ found_of (memory x3.now x4 x5.now) x7 x8 r8))) (said-2 x3 x4 x5 x7 x8 r8 r13) $ heard ! (r13 ≡ found_of (memory x3.now x4 x5.now) x7 x8 r8) (λ e14. split ! $
         split ! $ move ! (1 ∷ []) $ split ! $ move ! (1 ∷ []) $ drop ! $ move ! (2 ∷ []) $
         facts ! row-Found.the_row (Is row-Found.the_row) (shows 𝓛 row-Found.the_row) r13 (val12 ∷ []) (λ is15. land ! (from ! (stop !)) (init ! 18 refl ((EL.lawful row-Found.the_type law-Found.the_laws 𝓛 tt).typed r13 _ is15).0) $
         rewrite ! 18 (λ (u : Val). ‵ (fat full_share law-Found.mir l11 0 u)) (ap only (EL.tells row-Found.the_type law-Found.the_laws r13 _ is15)) refl $
@@ -231,7 +231,7 @@ module _ {M : Type 1} {𝓤 : Ura M} (𝓛 : Logic 𝓤) (mem : Memory → SProp
         move ! (5 ∷ 2 ∷ 3 ∷ 0 ∷ []) $ group ! 4 $
         use1 𝓛 (raw ((C3 𝓛 mem run).pre (to-3 (α6 ∷ []) full_share (α7 ∷ []) full_share (record { ref_ptr = (x1.ptr.0, x1.ptr.1); ghost_name = δ16; now = ws11.0 }) (vptr x1.ptr.0 x1.ptr.1) (record { ref_ptr = (x2.ptr.0, x2.ptr.1); ghost_name = δ17; now = ws11.1.0 }) (vptr x2.ptr.0 x2.ptr.1) x7 (LL.val row-Registers.the_type law-Registers.the_laws x7) x8 (LL.val row-Access.the_type law-Access.the_laws x8) r13 (EL.val row-Found.the_type law-Found.the_laws r13)))) (goes-3 (α6 ∷ []) full_share (α7 ∷ []) full_share (record { ref_ptr = (x1.ptr.0, x1.ptr.1); ghost_name = δ16; now = ws11.0 }) (vptr x1.ptr.0 x1.ptr.1) (record { ref_ptr = (x2.ptr.0, x2.ptr.1); ghost_name = δ17; now = ws11.1.0 }) (vptr x2.ptr.0 x2.ptr.1) x7 (LL.val row-Registers.the_type law-Registers.the_laws x7) x8 (LL.val row-Access.the_type law-Access.the_laws x8) r13 (EL.val row-Found.the_type law-Found.the_laws r13) i7 i8 (subst (Is row-Found.the_row r13) (EL.tells row-Found.the_type law-Found.the_laws r13 _ is15) is15)) $
         calls_at ! fm (C3 𝓛 mem run) known-3 (to-3 (α6 ∷ []) full_share (α7 ∷ []) full_share (record { ref_ptr = (x1.ptr.0, x1.ptr.1); ghost_name = δ16; now = ws11.0 }) (vptr x1.ptr.0 x1.ptr.1) (record { ref_ptr = (x2.ptr.0, x2.ptr.1); ghost_name = δ17; now = ws11.1.0 }) (vptr x2.ptr.0 x2.ptr.1) x7 (LL.val row-Registers.the_type law-Registers.the_laws x7) x8 (LL.val row-Access.the_type law-Access.the_laws x8) r13 (EL.val row-Found.the_type law-Found.the_laws r13)) (and_then ! (load ! (from ! (stop !)) (look ! 9 refl)) (and_then ! (load ! (from ! (stop !)) (look ! 7 refl)) (and_then ! (load ! (from ! (stop !)) (look ! 23 refl)) (and_then ! (load ! (from ! (stop !)) (look ! 21 refl)) (and_then ! (load ! (from ! (stop !)) (look ! 15 refl)) (no_more !)))))) (λ val18.
-        use1 𝓛 (later (some (λ (r : Outcome). ((‵ (flft (α6 ∷ []) full_share) ⊛ ‵ (flft (α7 ∷ []) full_share) ⊛ ‵ ftrue) ⊛ ‵ ((row-Outcome.the_row).own_val r (val18 ∷ []))) ⊛ raw (ensured 𝓛 c3.ended (c3.clauses 𝓛 mem run) ((α6 ∷ []), ((α7 ∷ []), tt)) ((record { ref_ptr = (x1.ptr.0, x1.ptr.1); ghost_name = δ16; now = ws11.0 }), ((record { ref_ptr = (x2.ptr.0, x2.ptr.1); ghost_name = δ17; now = ws11.1.0 }), (x7, (x8, (r13, tt))))) tt r)))) (id⊢ 𝓤 _) $ await ! tt $ choose ! (λ r19. split ! $ move ! (1 ∷ []) $ use1 𝓛 (some (λ (ws : Lasts c3.ended ((α6 ∷ []), ((α7 ∷ []), tt)) ((record { ref_ptr = (x1.ptr.0, x1.ptr.1); ghost_name = δ16; now = ws11.0 }), ((record { ref_ptr = (x2.ptr.0, x2.ptr.1); ghost_name = δ17; now = ws11.1.0 }), (x7, (x8, (r13, tt)))))). ‵ (lasts c3.ended ((α6 ∷ []), ((α7 ∷ []), tt)) ((record { ref_ptr = (x1.ptr.0, x1.ptr.1); ghost_name = δ16; now = ws11.0 }), ((record { ref_ptr = (x2.ptr.0, x2.ptr.1); ghost_name = δ17; now = ws11.1.0 }), (x7, (x8, (r13, tt))))) ws) ⊛ raw (fact 𝓤 (AnsweredIn (concludedOf x7 x8 (cachesOf (record { ref_ptr = (x1.ptr.0, x1.ptr.1); ghost_name = δ16; now = ws11.0 }).now (record { ref_ptr = (x2.ptr.0, x2.ptr.1); ghost_name = δ17; now = ws11.1.0 }).now) r13) r19.answer r19.count (ws.0) (ws.1.0))))) (id⊢ 𝓤 _) $ choose ! (λ ws22. split ! $ move ! (1 ∷ []) $ heard ! (AnsweredIn (concludedOf x7 x8 (cachesOf (record { ref_ptr = (x1.ptr.0, x1.ptr.1); ghost_name = δ16; now = ws11.0 }).now (record { ref_ptr = (x2.ptr.0, x2.ptr.1); ghost_name = δ17; now = ws11.1.0 }).now) r13) r19.answer r19.count (ws22.0) (ws22.1.0)) (λ e20.
+        use1 𝓛 (later (some (λ (r : Outcome). ((‵ (flft (α6 ∷ []) full_share) ⊛ ‵ (flft (α7 ∷ []) full_share) ⊛ ‵ ftrue) ⊛ ‵ ((row-Outcome.the_row).own_val r (val18 ∷ []))) ⊛ raw (ensured 𝓛 c3.ended (c3.clauses 𝓛 mem run) ((α6 ∷ []), ((α7 ∷ []), tt)) ((record { ref_ptr = (x1.ptr.0, x1.ptr.1); ghost_name = δ16; now = ws11.0 }), ((record { ref_ptr = (x2.ptr.0, x2.ptr.1); ghost_name = δ17; now = ws11.1.0 }), (x7, (x8, (r13, tt))))) tt r)))) (id⊢ 𝓤 _) $ await ! tt $ choose ! (λ r19. split ! $ move ! (1 ∷ []) $ use1 𝓛 (some (λ (ws : Lasts c3.ended ((α6 ∷ []), ((α7 ∷ []), tt)) ((record { ref_ptr = (x1.ptr.0, x1.ptr.1); ghost_name = δ16; now = ws11.0 }), ((record { ref_ptr = (x2.ptr.0, x2.ptr.1); ghost_name = δ17; now = ws11.1.0 }), (x7, (x8, (r13, tt)))))). ‵ (lasts c3.ended ((α6 ∷ []), ((α7 ∷ []), tt)) ((record { ref_ptr = (x1.ptr.0, x1.ptr.1); ghost_name = δ16; now = ws11.0 }), ((record { ref_ptr = (x2.ptr.0, x2.ptr.1); ghost_name = δ17; now = ws11.1.0 }), (x7, (x8, (r13, tt))))) ws) ⊛ raw (fact 𝓤 (AnsweredIn (concluded_of x7 x8 (caches_of (record { ref_ptr = (x1.ptr.0, x1.ptr.1); ghost_name = δ16; now = ws11.0 }).now (record { ref_ptr = (x2.ptr.0, x2.ptr.1); ghost_name = δ17; now = ws11.1.0 }).now) r13) r19.answer r19.count (ws.0) (ws.1.0))))) (id⊢ 𝓤 _) $ choose ! (λ ws22. split ! $ move ! (1 ∷ []) $ heard ! (AnsweredIn (concluded_of x7 x8 (caches_of (record { ref_ptr = (x1.ptr.0, x1.ptr.1); ghost_name = δ16; now = ws11.0 }).now (record { ref_ptr = (x2.ptr.0, x2.ptr.1); ghost_name = δ17; now = ws11.1.0 }).now) r13) r19.answer r19.count (ws22.0) (ws22.1.0)) (λ e20.
         fsplit ! $ move ! (1 ∷ []) $ fsplit ! $ move ! (1 ∷ []) $ fsplit ! $ drop ! $ fsplit ! $ drop ! $ fsplit ! $ drop ! $ drop ! $ move ! (2 ∷ []) $ split ! $ split ! $
         move ! (1 ∷ []) $ split ! $ move ! (1 ∷ []) $ drop ! $ move ! (2 ∷ []) $
         facts ! row-Outcome.the_row (Is row-Outcome.the_row) (shows 𝓛 row-Outcome.the_row) r19 (val18 ∷ []) (λ is21. land ! (from ! (stop !)) (init ! 40 refl ((LL.lawful row-Outcome.the_type law-Outcome.the_laws 𝓛).typed r19 _ is21).0) $

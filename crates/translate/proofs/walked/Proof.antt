@@ -44,10 +44,10 @@ use borrow.Enum.Known.{at as variant-at, lives_at}
 use Rattle.memory.proofs.Branching.{as_variant}
 use Rattle.translate.proofs.Translating as law
 use Rattle.definition.specs.Memory.{memory}
-use Rattle.translate.specs.Stages.{foundOf}
+use Rattle.translate.specs.Stages.{found_of}
 use Rattle.translate.specs.declared.Found.{Found}
-use Rattle.definition.specs.Registers.{rootOf}
-use Rattle.definition.specs.Walk030.{everyLevel, outcomeOf}
+use Rattle.definition.specs.Registers.{root_of}
+use Rattle.definition.specs.Walk030.{every_level, outcome_of}
 use Rattle.walk030.specs.Walked.{shown}
 use Rattle.definition.specs.Walk040.{walk040}
 use Rattle.walk040.specs.Walked.{shown040}
@@ -102,7 +102,7 @@ use Rattle.walk030.proofs.walk_030.Symbol.{name as #walk030·walk-030}
 use Rattle.walk030.proofs.walk_030.Met as c5-thm
 use Rattle.translate.specs.contracts.by_030 as c6
 use Rattle.translate.proofs.by_030.Symbol as c6-def
-use Rattle.translate.proofs.by_030.Symbol.{name as #translate·by-030}
+use Rattle.translate.proofs.by_030.Symbol.{name as #translate·by_030}
 use Rattle.translate.proofs.by_030.Met as c6-thm
 use Rattle.walk040.specs.contracts.walk as c7
 use Rattle.walk040.proofs.walk.Symbol as c7-def
@@ -110,7 +110,7 @@ use Rattle.walk040.proofs.walk.Symbol.{name as #walk040·walk}
 use Rattle.walk040.proofs.walk.Met as c7-thm
 use Rattle.translate.specs.contracts.by_040 as c8
 use Rattle.translate.proofs.by_040.Symbol as c8-def
-use Rattle.translate.proofs.by_040.Symbol.{name as #translate·by-040}
+use Rattle.translate.proofs.by_040.Symbol.{name as #translate·by_040}
 use Rattle.translate.proofs.by_040.Met as c8-thm
 use Rattle.translate.specs.contracts.walked.Key.{name as #translate·walked}
 use Rattle.translate.specs.contracts.walked as self
@@ -158,7 +158,7 @@ module _ {M : Type 1} {𝓤 : Ura M} (𝓛 : Logic 𝓤) (mem : Memory → SProp
   abbrev Post : Val → SProp 𝓤
   Post = (walk_of 𝓛 self.ended stayed (self.clauses 𝓛 mem run)).post (((κ0, (κ1, tt)), (q0, (q1, tt)), tt, (x1, (x2, (x3, (x4, (x5, (x6, tt)))))), at_entry), tt)
 
-  exits : (r : Found) (u : Val) → Is row-Found.the_row r (u ∷ []) → (r ≡ foundOf (memory x1.now x2 x3.now) x4 x5 x6) → ent 𝓤 (⋆ 𝓛 (‵ (flft κ0 q0) ∷ ‵ (flft κ1 q1) ∷ ‵ ((ShrSlice (named 0) κ0 u32).own_val x1 (slice_val x1.ref_ptr (length x1.now) ∷ [])) ∷ ‵ ((ShrSlice (named 1) κ1 row-Range.the_row).own_val x3 (slice_val x3.ref_ptr (length x3.now) ∷ [])) ∷ [])) (Post u)
+  exits : (r : Found) (u : Val) → Is row-Found.the_row r (u ∷ []) → (r ≡ found_of (memory x1.now x2 x3.now) x4 x5 x6) → ent 𝓤 (⋆ 𝓛 (‵ (flft κ0 q0) ∷ ‵ (flft κ1 q1) ∷ ‵ ((ShrSlice (named 0) κ0 u32).own_val x1 (slice_val x1.ref_ptr (length x1.now) ∷ [])) ∷ ‵ ((ShrSlice (named 1) κ1 row-Range.the_row).own_val x3 (slice_val x3.ref_ptr (length x3.now) ∷ [])) ∷ [])) (Post u)
   exits r u is e =
       qed 𝓛 (‵ (flft κ0 q0) ∷ ‵ (flft κ1 q1) ∷ ‵ ((ShrSlice (named 0) κ0 u32).own_val x1 (slice_val x1.ref_ptr (length x1.now) ∷ [])) ∷ ‵ ((ShrSlice (named 1) κ1 row-Range.the_row).own_val x3 (slice_val x3.ref_ptr (length x3.now) ∷ [])) ∷ []) ∵
       suffices ! _ (ends_at 𝓛 self.ended stayed (self.clauses 𝓛 mem run) (((κ0, (κ1, tt)), (q0, (q1, tt)), tt, (x1, (x2, (x3, (x4, (x5, (x6, tt)))))), at_entry), tt) u r (tt, (tt, (tt, (tt, (tt, (tt, tt)))))) (tt, (tt, (tt, (tt, (tt, (tt, tt))))))) $ says ! e $
@@ -194,8 +194,8 @@ module _ {M : Type 1} {𝓤 : Ura M} (𝓛 : Logic 𝓤) (mem : Memory → SProp
   goes-2 =
       qed 𝓛 ([]) ∵ nothing ! $ nothing ! $ join ! $ frame ! $ done !
 
-  said-2 : (r : ℕ) → ent 𝓤 (ensured 𝓛 c2.ended (c2.clauses 𝓛 mem run) tt tt tt r) (fact 𝓤 (r ≡ everyLevel))
-  said-2 r = ex_e 𝓤 _ (λ ws. snd∗ 𝓤 (sem 𝓛 (lasts c2.ended tt tt ws)) (fact 𝓤 (r ≡ everyLevel)))
+  said-2 : (r : ℕ) → ent 𝓤 (ensured 𝓛 c2.ended (c2.clauses 𝓛 mem run) tt tt tt r) (fact 𝓤 (r ≡ every_level))
+  said-2 r = ex_e 𝓤 _ (λ ws. snd∗ 𝓤 (sem 𝓛 (lasts c2.ended tt tt ws)) (fact 𝓤 (r ≡ every_level)))
 
   -- the call of `registers.tc_of`: what it is passed, what it asks, and what is known of its result
   abbrev to-3 : (a0 : Registers) (v0 : Val) → (C3 𝓛 mem run).Ghost
@@ -216,8 +216,8 @@ module _ {M : Type 1} {𝓤 : Ura M} (𝓛 : Logic 𝓤) (mem : Memory → SProp
   goes-4 a0 v0 a1 v1 i0 i1 =
       qed 𝓛 ([]) ∵ nothing ! $ owned ! u32 (Is u32) (uint_Makes 𝓛 w32) a1 _ i1 $ fjoin ! $ owned ! row-Registers.the_row (Is row-Registers.the_row) (LL.makes row-Registers.the_type law-Registers.the_plain 𝓛) a0 _ i0 $ fjoin ! $ nothing ! $ join ! $ frame ! $ done !
 
-  said-4 : (a0 : Registers) (a1 : ℕ) (r : Root) → ent 𝓤 (ensured 𝓛 c4.ended (c4.clauses 𝓛 mem run) tt (a0, (a1, tt)) tt r) (fact 𝓤 (r ≡ rootOf a0 a1))
-  said-4 a0 a1 r = ex_e 𝓤 _ (λ ws. snd∗ 𝓤 (sem 𝓛 (lasts c4.ended tt (a0, (a1, tt)) ws)) (fact 𝓤 (r ≡ rootOf a0 a1)))
+  said-4 : (a0 : Registers) (a1 : ℕ) (r : Root) → ent 𝓤 (ensured 𝓛 c4.ended (c4.clauses 𝓛 mem run) tt (a0, (a1, tt)) tt r) (fact 𝓤 (r ≡ root_of a0 a1))
+  said-4 a0 a1 r = ex_e 𝓤 _ (λ ws. snd∗ 𝓤 (sem 𝓛 (lasts c4.ended tt (a0, (a1, tt)) ws)) (fact 𝓤 (r ≡ root_of a0 a1)))
 
   -- the call of `walk_030`: what it is passed, what it asks, and what is known of its result
   abbrev to-5 : (a0 : Bor (List ℕ)) (v0 : Val) (a1 : ℕ) (v1 : Val) (a2 : Bor (List Range)) (v2 : Val) (a3 : ℕ) (v3 : Val) (a4 : Root) (v4 : Val) (a5 : ℕ) (v5 : Val) (a6 : ℕ) (v6 : Val) (a7 : ℕ) (v7 : Val) → (C5 𝓛 mem run).Ghost
@@ -227,8 +227,8 @@ module _ {M : Type 1} {𝓤 : Ura M} (𝓛 : Logic 𝓤) (mem : Memory → SProp
   goes-5 a0 v0 a1 v1 a2 v2 a3 v3 a4 v4 a5 v5 a6 v6 a7 v7 i1 i3 i4 i5 i6 i7 =
       qed 𝓛 (‵ (flft κ0 q0) ∷ ‵ (flft κ1 q1) ∷ ‵ ((ShrSlice (named 0) κ0 u32).own_val a0 (v0 ∷ [])) ∷ ‵ ((ShrSlice (named 1) κ1 row-Range.the_row).own_val a2 (v2 ∷ [])) ∷ []) ∵ nothing ! $ owned ! u32 (Is u32) (uint_Makes 𝓛 w32) a7 _ i7 $ fjoin ! $ owned ! u32 (Is u32) (uint_Makes 𝓛 w32) a6 _ i6 $ fjoin ! $ owned ! u32 (Is u32) (uint_Makes 𝓛 w32) a5 _ i5 $ fjoin ! $ owned ! row-Root.the_row (Is row-Root.the_row) (LL.makes row-Root.the_type law-Root.the_plain 𝓛) a4 _ i4 $ fjoin ! $ owned ! u32 (Is u32) (uint_Makes 𝓛 w32) a3 _ i3 $ fjoin ! $ move ! (4 ∷ 0 ∷ []) $ fjoin ! $ owned ! u32 (Is u32) (uint_Makes 𝓛 w32) a1 _ i1 $ fjoin ! $ move ! (3 ∷ 0 ∷ []) $ fjoin ! $ nothing ! $ move ! (3 ∷ 0 ∷ []) $ join ! $ move ! (2 ∷ 0 ∷ []) $ join ! $ join ! $ frame ! $ done !
 
-  said-5 : (a0 : Bor (List ℕ)) (a1 : ℕ) (a2 : Bor (List Range)) (a3 : ℕ) (a4 : Root) (a5 : ℕ) (a6 : ℕ) (a7 : ℕ) (r : Walked) → ent 𝓤 (ensured 𝓛 c5.ended (c5.clauses 𝓛 mem run) (κ0, (κ1, tt)) (a0, (a1, (a2, (a3, (a4, (a5, (a6, (a7, tt)))))))) tt r) (fact 𝓤 (r ≡ shown (outcomeOf (memory a0.now a1 a2.now) a3 a4 a5 a6 a7)))
-  said-5 a0 a1 a2 a3 a4 a5 a6 a7 r = ex_e 𝓤 _ (λ ws. snd∗ 𝓤 (sem 𝓛 (lasts c5.ended (κ0, (κ1, tt)) (a0, (a1, (a2, (a3, (a4, (a5, (a6, (a7, tt)))))))) ws)) (fact 𝓤 (r ≡ shown (outcomeOf (memory a0.now a1 a2.now) a3 a4 a5 a6 a7))))
+  said-5 : (a0 : Bor (List ℕ)) (a1 : ℕ) (a2 : Bor (List Range)) (a3 : ℕ) (a4 : Root) (a5 : ℕ) (a6 : ℕ) (a7 : ℕ) (r : Walked) → ent 𝓤 (ensured 𝓛 c5.ended (c5.clauses 𝓛 mem run) (κ0, (κ1, tt)) (a0, (a1, (a2, (a3, (a4, (a5, (a6, (a7, tt)))))))) tt r) (fact 𝓤 (r ≡ shown (outcome_of (memory a0.now a1 a2.now) a3 a4 a5 a6 a7)))
+  said-5 a0 a1 a2 a3 a4 a5 a6 a7 r = ex_e 𝓤 _ (λ ws. snd∗ 𝓤 (sem 𝓛 (lasts c5.ended (κ0, (κ1, tt)) (a0, (a1, (a2, (a3, (a4, (a5, (a6, (a7, tt)))))))) ws)) (fact 𝓤 (r ≡ shown (outcome_of (memory a0.now a1 a2.now) a3 a4 a5 a6 a7))))
 
   -- the call of `by_030`: what it is passed, what it asks, and what is known of its result
   abbrev to-6 : (a0 : ℕ) (v0 : Val) (a1 : Walked) (v1 : Val) → (C6 𝓛 mem run).Ghost
@@ -263,7 +263,7 @@ module _ {M : Type 1} {𝓤 : Ura M} (𝓛 : Logic 𝓤) (mem : Memory → SProp
   said-8 : (a0 : Bool) (a1 : Walked040) (r : Found) → ent 𝓤 (ensured 𝓛 c8.ended (c8.clauses 𝓛 mem run) tt (a0, (a1, tt)) tt r) (fact 𝓤 (r ≡ Found.By040 a0 a1))
   said-8 a0 a1 r = ex_e 𝓤 _ (λ ws. snd∗ 𝓤 (sem 𝓛 (lasts c8.ended tt (a0, (a1, tt)) ws)) (fact 𝓤 (r ≡ Found.By040 a0 a1)))
 
-  module _ (𝓣 : Tables 𝓤 H) (known-0 : Triple 𝓤 (𝓣.C #translate·settled) (C0 𝓛 mem run)) (known-1 : Triple 𝓤 (𝓣.C #checks·address-of) (C1 𝓛 mem run)) (known-2 : Triple 𝓤 (𝓣.C #walk030·every-level) (C2 𝓛 mem run)) (known-3 : Triple 𝓤 (𝓣.C #memory·registers·tc-of) (C3 𝓛 mem run)) (known-4 : Triple 𝓤 (𝓣.C #walk030·root-of) (C4 𝓛 mem run)) (known-5 : Triple 𝓤 (𝓣.C #walk030·walk-030) (C5 𝓛 mem run)) (known-6 : Triple 𝓤 (𝓣.C #translate·by-030) (C6 𝓛 mem run)) (known-7 : Triple 𝓤 (𝓣.C #walk040·walk) (C7 𝓛 mem run)) (known-8 : Triple 𝓤 (𝓣.C #translate·by-040) (C8 𝓛 mem run)) where
+  module _ (𝓣 : Tables 𝓤 H) (known-0 : Triple 𝓤 (𝓣.C #translate·settled) (C0 𝓛 mem run)) (known-1 : Triple 𝓤 (𝓣.C #checks·address-of) (C1 𝓛 mem run)) (known-2 : Triple 𝓤 (𝓣.C #walk030·every-level) (C2 𝓛 mem run)) (known-3 : Triple 𝓤 (𝓣.C #memory·registers·tc-of) (C3 𝓛 mem run)) (known-4 : Triple 𝓤 (𝓣.C #walk030·root-of) (C4 𝓛 mem run)) (known-5 : Triple 𝓤 (𝓣.C #walk030·walk-030) (C5 𝓛 mem run)) (known-6 : Triple 𝓤 (𝓣.C #translate·by_030) (C6 𝓛 mem run)) (known-7 : Triple 𝓤 (𝓣.C #walk040·walk) (C7 𝓛 mem run)) (known-8 : Triple 𝓤 (𝓣.C #translate·by_040) (C8 𝓛 mem run)) where
     abbrev C : Calls 𝓤 H
     C = 𝓣.C
 
@@ -277,7 +277,7 @@ module _ {M : Type 1} {𝓤 : Ura M} (𝓛 : Logic 𝓤) (mem : Memory → SProp
       abbrev En : Env 𝓤 H
       En = (law-Found.mir, l0) ∷ ((slice_ty (ty_ref (named 0) imm (pointee u32.written))), l1) ∷ ((ty_int w32), l2) ∷ ((slice_ty (ty_ref (named 1) imm (pointee (row-Range.the_row).written))), l3) ∷ (law-Registers.mir, l4) ∷ (law-Access.mir, l5) ∷ (law-Plan.mir, l6) ∷ (law-Translation.mir, l7) ∷ ((ty_int w32), l8) ∷ ((ty_int w32), l9) ∷ ((ty_int w32), l10) ∷ ((ty_int w32), l11) ∷ (law-Root.mir, l12) ∷ (law-Walked.mir, l13) ∷ (ty_bool, l14) ∷ ((ty_int w32), l15) ∷ (law-Walked040.mir, l16) ∷ (law-Found.mir, l17) ∷ []
 
-      concludes : (r : Found) → Is row-Found.the_row r (EL.val row-Found.the_type law-Found.the_laws r ∷ []) → (r ≡ foundOf (memory x1.now x2 x3.now) x4 x5 x6)
+      concludes : (r : Found) → Is row-Found.the_row r (EL.val row-Found.the_type law-Found.the_laws r ∷ []) → (r ≡ found_of (memory x1.now x2 x3.now) x4 x5 x6)
           → Sq 𝓛 (‵ (froom law-Found.mir l0 0) ∷ ‵ (fat full_share (slice_ty (ty_ref (named 0) imm (pointee u32.written))) l1 0 (slice_val x1.ref_ptr (length x1.now))) ∷ ‵ (fat full_share (ty_int w32) l2 0 (vint w32 x2)) ∷ ‵ (fat full_share (slice_ty (ty_ref (named 1) imm (pointee (row-Range.the_row).written))) l3 0 (slice_val x3.ref_ptr (length x3.now))) ∷ ‵ (fat full_share law-Registers.mir l4 0 (LL.val row-Registers.the_type law-Registers.the_laws x4)) ∷ ‵ (fat full_share law-Access.mir l5 0 (LL.val row-Access.the_type law-Access.the_laws x5)) ∷ ‵ (fat full_share law-Plan.mir l6 0 (EL.val row-Plan.the_type law-Plan.the_laws x6)) ∷ ‵ (froom law-Translation.mir l7 0) ∷ ‵ (froom (ty_int w32) l8 0) ∷ ‵ (froom (ty_int w32) l9 0) ∷ ‵ (froom (ty_int w32) l10 0) ∷ ‵ (froom (ty_int w32) l11 0) ∷ ‵ (froom law-Root.mir l12 0) ∷ ‵ (froom law-Walked.mir l13 0) ∷ ‵ (froom ty_bool l14 0) ∷ ‵ (froom (ty_int w32) l15 0) ∷ ‵ (froom law-Walked040.mir l16 0) ∷ ‵ (fat full_share law-Found.mir l17 0 (EL.val row-Found.the_type law-Found.the_laws r)) ∷ ‵ (fdies law-Found.mir l0) ∷ ‵ (fdies (slice_ty (ty_ref (named 0) imm (pointee u32.written))) l1) ∷ ‵ (fdies (ty_int w32) l2) ∷ ‵ (fdies (slice_ty (ty_ref (named 1) imm (pointee (row-Range.the_row).written))) l3) ∷ ‵ (fdies law-Registers.mir l4) ∷ ‵ (fdies law-Access.mir l5) ∷ ‵ (fdies law-Plan.mir l6) ∷ ‵ (fdies law-Translation.mir l7) ∷ ‵ (fdies (ty_int w32) l8) ∷ ‵ (fdies (ty_int w32) l9) ∷ ‵ (fdies (ty_int w32) l10) ∷ ‵ (fdies (ty_int w32) l11) ∷ ‵ (fdies law-Root.mir l12) ∷ ‵ (fdies law-Walked.mir l13) ∷ ‵ (fdies ty_bool l14) ∷ ‵ (fdies (ty_int w32) l15) ∷ ‵ (fdies law-Walked040.mir l16) ∷ ‵ (fdies law-Found.mir l17) ∷ ‵ (flft κ0 q0) ∷ ‵ (flft κ1 q1) ∷ ‵ ((ShrSlice (named 0) κ0 u32).own_val x1 (slice_val x1.ref_ptr (length x1.now) ∷ [])) ∷ ‵ ((ShrSlice (named 1) κ1 row-Range.the_row).own_val x3 (slice_val x3.ref_ptr (length x3.now) ∷ [])) ∷ []) (runs C Λ En parts.t-2 (at_ret En Post))
       concludes r is e =
           assigns ! (of_opd ! (load ! (from ! (stop !)) (look ! 17 refl))) (from ! (stop !)) (init ! 0 refl ((EL.lawful row-Found.the_type law-Found.the_laws 𝓛 tt).typed r _ is).0) $
@@ -315,7 +315,7 @@ module _ {M : Type 1} {𝓤 : Ura M} (𝓛 : Logic 𝓤) (mem : Memory → SProp
                   drop ! $ facts ! u32 (Is u32) (shows 𝓛 u32) r12 (val11 ∷ []) (λ is14. land ! (from ! (stop !)) (init ! 9 refl ((uint_Lawful 𝓛 w32).typed r12 _ is14).0) $
                   rewrite ! 9 (λ (u : Val). ‵ (fat full_share (ty_int w32) l9 0 u)) (ap only (uint_Tells w32 r12 _ is14)) refl $ use0 𝓛 (raw ((C2 𝓛 mem run).pre to-2)) goes-2 $
                   calls_at ! fm (C2 𝓛 mem run) known-2 to-2 (no_more !) (λ val15.
-                  use1 𝓛 (later (some (λ (r : ℕ). (‵ ftrue ⊛ ‵ (u32.own_val r (val15 ∷ []))) ⊛ raw (ensured 𝓛 c2.ended (c2.clauses 𝓛 mem run) tt tt tt r)))) (id⊢ 𝓤 _) $ await ! tt $ choose ! (λ r16. split ! $ move ! (1 ∷ []) $ use1 𝓛 (raw (fact 𝓤 (r16 ≡ everyLevel))) (said-2 r16) $ heard ! (r16 ≡ everyLevel) (λ e17. split ! $
+                  use1 𝓛 (later (some (λ (r : ℕ). (‵ ftrue ⊛ ‵ (u32.own_val r (val15 ∷ []))) ⊛ raw (ensured 𝓛 c2.ended (c2.clauses 𝓛 mem run) tt tt tt r)))) (id⊢ 𝓤 _) $ await ! tt $ choose ! (λ r16. split ! $ move ! (1 ∷ []) $ use1 𝓛 (raw (fact 𝓤 (r16 ≡ every_level))) (said-2 r16) $ heard ! (r16 ≡ every_level) (λ e17. split ! $
                   drop ! $ facts ! u32 (Is u32) (shows 𝓛 u32) r16 (val15 ∷ []) (λ is18. land ! (from ! (stop !)) (init ! 10 refl ((uint_Lawful 𝓛 w32).typed r16 _ is18).0) $
                   rewrite ! 10 (λ (u : Val). ‵ (fat full_share (ty_int w32) l10 0 u)) (ap only (uint_Tells w32 r16 _ is18)) refl $
                   use0 𝓛 (raw ((C3 𝓛 mem run).pre (to-3 x4 (LL.val row-Registers.the_type law-Registers.the_laws x4)))) (goes-3 x4 (LL.val row-Registers.the_type law-Registers.the_laws x4) i4) $
@@ -325,7 +325,7 @@ module _ {M : Type 1} {𝓤 : Ura M} (𝓛 : Logic 𝓤) (mem : Memory → SProp
                   rewrite ! 11 (λ (u : Val). ‵ (fat full_share (ty_int w32) l11 0 u)) (ap only (uint_Tells w32 r20 _ is22)) refl $
                   use0 𝓛 (raw ((C4 𝓛 mem run).pre (to-4 x4 (LL.val row-Registers.the_type law-Registers.the_laws x4) v9.0 (vint w32 v9.0)))) (goes-4 x4 (LL.val row-Registers.the_type law-Registers.the_laws x4) v9.0 (vint w32 v9.0) i4 (EL.owed row-Plan.the_type law-Plan.the_laws (variant-at row-Plan.enum 1 v9) (EL.val row-Plan.the_type law-Plan.the_laws (variant-at row-Plan.enum 1 v9) ∷ []) (subst (λ (u : Plan). Is row-Plan.the_row u (EL.val row-Plan.the_type law-Plan.the_laws u ∷ [])) e10 i6)).0) $
                   calls_at ! fm (C4 𝓛 mem run) known-4 (to-4 x4 (LL.val row-Registers.the_type law-Registers.the_laws x4) v9.0 (vint w32 v9.0)) (and_then ! (load ! (from ! (stop !)) (look ! 5 refl)) (and_then ! (load ! (from ! (stop !)) (look ! 9 refl)) (no_more !))) (λ val23.
-                  use1 𝓛 (later (some (λ (r : Root). (‵ ftrue ⊛ ‵ ((row-Root.the_row).own_val r (val23 ∷ []))) ⊛ raw (ensured 𝓛 c4.ended (c4.clauses 𝓛 mem run) tt (x4, (v9.0, tt)) tt r)))) (id⊢ 𝓤 _) $ await ! tt $ choose ! (λ r24. split ! $ move ! (1 ∷ []) $ use1 𝓛 (raw (fact 𝓤 (r24 ≡ rootOf x4 v9.0))) (said-4 x4 v9.0 r24) $ heard ! (r24 ≡ rootOf x4 v9.0) (λ e25. split ! $
+                  use1 𝓛 (later (some (λ (r : Root). (‵ ftrue ⊛ ‵ ((row-Root.the_row).own_val r (val23 ∷ []))) ⊛ raw (ensured 𝓛 c4.ended (c4.clauses 𝓛 mem run) tt (x4, (v9.0, tt)) tt r)))) (id⊢ 𝓤 _) $ await ! tt $ choose ! (λ r24. split ! $ move ! (1 ∷ []) $ use1 𝓛 (raw (fact 𝓤 (r24 ≡ root_of x4 v9.0))) (said-4 x4 v9.0 r24) $ heard ! (r24 ≡ root_of x4 v9.0) (λ e25. split ! $
                   drop ! $
                   facts ! row-Root.the_row (Is row-Root.the_row) (shows 𝓛 row-Root.the_row) r24 (val23 ∷ []) (λ is26. land ! (from ! (stop !)) (init ! 12 refl ((LL.lawful row-Root.the_type law-Root.the_laws 𝓛).typed r24 _ is26).0) $
                   rewrite ! 12 (λ (u : Val). ‵ (fat full_share law-Root.mir l12 0 u)) (ap only (LL.tells row-Root.the_type law-Root.the_laws r24 _ is26)) refl $ move ! (38 ∷ []) $
@@ -335,7 +335,7 @@ module _ {M : Type 1} {𝓤 : Ura M} (𝓛 : Logic 𝓤) (mem : Memory → SProp
                   split ! $ move ! (40 ∷ 41 ∷ 2 ∷ 0 ∷ []) $ group ! 4 $
                   use1 𝓛 (raw ((C5 𝓛 mem run).pre (to-5 x1 (slice_val x1.ref_ptr (length x1.now)) x2 (vint w32 x2) x3 (slice_val x3.ref_ptr (length x3.now)) r20 (vint w32 r20) r24 (LL.val row-Root.the_type law-Root.the_laws r24) r12 (vint w32 r12) v9.0 (vint w32 v9.0) r16 (vint w32 r16)))) (goes-5 x1 (slice_val x1.ref_ptr (length x1.now)) x2 (vint w32 x2) x3 (slice_val x3.ref_ptr (length x3.now)) r20 (vint w32 r20) r24 (LL.val row-Root.the_type law-Root.the_laws r24) r12 (vint w32 r12) v9.0 (vint w32 v9.0) r16 (vint w32 r16) i2 (subst (Is u32 r20) (uint_Tells w32 r20 _ is22) is22) (subst (Is row-Root.the_row r24) (LL.tells row-Root.the_type law-Root.the_laws r24 _ is26) is26) (subst (Is u32 r12) (uint_Tells w32 r12 _ is14) is14) (EL.owed row-Plan.the_type law-Plan.the_laws (variant-at row-Plan.enum 1 v9) (EL.val row-Plan.the_type law-Plan.the_laws (variant-at row-Plan.enum 1 v9) ∷ []) (subst (λ (u : Plan). Is row-Plan.the_row u (EL.val row-Plan.the_type law-Plan.the_laws u ∷ [])) e10 i6)).0 (subst (Is u32 r16) (uint_Tells w32 r16 _ is18) is18)) $
                   calls_at ! fm (C5 𝓛 mem run) known-5 (to-5 x1 (slice_val x1.ref_ptr (length x1.now)) x2 (vint w32 x2) x3 (slice_val x3.ref_ptr (length x3.now)) r20 (vint w32 r20) r24 (LL.val row-Root.the_type law-Root.the_laws r24) r12 (vint w32 r12) v9.0 (vint w32 v9.0) r16 (vint w32 r16)) (and_then ! (load ! (from ! (stop !)) (look ! 4 refl)) (and_then ! (load ! (from ! (stop !)) (look ! 5 refl)) (and_then ! (load ! (from ! (stop !)) (look ! 6 refl)) (and_then ! (load ! (from ! (stop !)) (look ! 14 refl)) (and_then ! (load ! (from ! (stop !)) (look ! 15 refl)) (and_then ! (load ! (from ! (stop !)) (look ! 12 refl)) (and_then ! (load ! (from ! (stop !)) (look ! 11 refl)) (and_then ! (load ! (from ! (stop !)) (look ! 13 refl)) (no_more !))))))))) (λ val27.
-                  use1 𝓛 (later (some (λ (r : Walked). ((‵ (flft κ0 q0) ⊛ ‵ (flft κ1 q1) ⊛ ‵ ftrue) ⊛ ‵ ((row-Walked.the_row).own_val r (val27 ∷ []))) ⊛ raw (ensured 𝓛 c5.ended (c5.clauses 𝓛 mem run) (κ0, (κ1, tt)) (x1, (x2, (x3, (r20, (r24, (r12, (v9.0, (r16, tt)))))))) tt r)))) (id⊢ 𝓤 _) $ await ! tt $ choose ! (λ r28. split ! $ move ! (1 ∷ []) $ use1 𝓛 (raw (fact 𝓤 (r28 ≡ shown (outcomeOf (memory x1.now x2 x3.now) r20 r24 r12 v9.0 r16)))) (said-5 x1 x2 x3 r20 r24 r12 v9.0 r16 r28) $ heard ! (r28 ≡ shown (outcomeOf (memory x1.now x2 x3.now) r20 r24 r12 v9.0 r16)) (λ e29. split ! $
+                  use1 𝓛 (later (some (λ (r : Walked). ((‵ (flft κ0 q0) ⊛ ‵ (flft κ1 q1) ⊛ ‵ ftrue) ⊛ ‵ ((row-Walked.the_row).own_val r (val27 ∷ []))) ⊛ raw (ensured 𝓛 c5.ended (c5.clauses 𝓛 mem run) (κ0, (κ1, tt)) (x1, (x2, (x3, (r20, (r24, (r12, (v9.0, (r16, tt)))))))) tt r)))) (id⊢ 𝓤 _) $ await ! tt $ choose ! (λ r28. split ! $ move ! (1 ∷ []) $ use1 𝓛 (raw (fact 𝓤 (r28 ≡ shown (outcome_of (memory x1.now x2 x3.now) r20 r24 r12 v9.0 r16)))) (said-5 x1 x2 x3 r20 r24 r12 v9.0 r16 r28) $ heard ! (r28 ≡ shown (outcome_of (memory x1.now x2 x3.now) r20 r24 r12 v9.0 r16)) (λ e29. split ! $
                   split ! $ move ! (1 ∷ []) $ split ! $ move ! (1 ∷ []) $ drop ! $ move ! (2 ∷ []) $
                   facts ! row-Walked.the_row (Is row-Walked.the_row) (shows 𝓛 row-Walked.the_row) r28 (val27 ∷ []) (λ is30. land ! (from ! (stop !)) (init ! 17 refl ((LL.lawful row-Walked.the_type law-Walked.the_laws 𝓛).typed r28 _ is30).0) $
                   rewrite ! 17 (λ (u : Val). ‵ (fat full_share law-Walked.mir l13 0 u)) (ap only (LL.tells row-Walked.the_type law-Walked.the_laws r28 _ is30)) refl $
@@ -349,7 +349,7 @@ module _ {M : Type 1} {𝓤 : Ura M} (𝓛 : Logic 𝓤) (mem : Memory → SProp
                   rewrite ! 10 (λ (u : Plan). ‵ (fat full_share law-Plan.mir l6 0 (EL.val row-Plan.the_type law-Plan.the_laws u))) (sym e10) refl $ forget ! 12 refl $ forget ! 13 refl $
                   forget ! 14 refl $ forget ! 15 refl $ forget ! 16 refl $ forget ! 17 refl $
                   keep ! (4 ∷ 5 ∷ 6 ∷ 7 ∷ 8 ∷ 9 ∷ 10 ∷ 11 ∷ 12 ∷ 13 ∷ 14 ∷ 15 ∷ 16 ∷ 17 ∷ 18 ∷ 19 ∷ 20 ∷ 21 ∷ 22 ∷ 23 ∷ 24 ∷ 25 ∷ 26 ∷ 27 ∷ 28 ∷ 29 ∷ 30 ∷ 31 ∷ 32 ∷ 33 ∷ 34 ∷ 35 ∷ 36 ∷ 37 ∷ 38 ∷ 39 ∷ 1 ∷ 0 ∷ 3 ∷ 2 ∷ []) $
-                  concludes r32 (subst (Is row-Found.the_row r32) (EL.tells row-Found.the_type law-Found.the_laws r32 _ is34) is34) (law.walks-030 (memory x1.now x2 x3.now) x4 x5 x6 e10 e13 e17 e21 e25 e29 e33))))))))))))))))))))))))))),
+                  concludes r32 (subst (Is row-Found.the_row r32) (EL.tells row-Found.the_type law-Found.the_laws r32 _ is34) is34) (law.walks_030 (memory x1.now x2 x3.now) x4 x5 x6 e10 e13 e17 e21 e25 e29 e33))))))))))))))))))))))))))),
               (
                 (λ tag35. as_variant (lives_at row-Plan.enum x6 2 tag35) (λ v36 e37.
                     rewrite ! 6 (λ (u : Plan). ‵ (fat full_share law-Plan.mir l6 0 (EL.val row-Plan.the_type law-Plan.the_laws u))) e37 refl $
@@ -379,7 +379,7 @@ module _ {M : Type 1} {𝓤 : Ura M} (𝓛 : Logic 𝓤) (mem : Memory → SProp
                     rewrite ! 10 (λ (u : Plan). ‵ (fat full_share law-Plan.mir l6 0 (EL.val row-Plan.the_type law-Plan.the_laws u))) (sym e37) refl $ forget ! 18 refl $ forget ! 19 refl $
                     forget ! 20 refl $
                     keep ! (4 ∷ 5 ∷ 6 ∷ 7 ∷ 8 ∷ 9 ∷ 10 ∷ 11 ∷ 12 ∷ 13 ∷ 14 ∷ 15 ∷ 16 ∷ 17 ∷ 18 ∷ 19 ∷ 20 ∷ 21 ∷ 22 ∷ 23 ∷ 24 ∷ 25 ∷ 26 ∷ 27 ∷ 28 ∷ 29 ∷ 30 ∷ 31 ∷ 32 ∷ 33 ∷ 34 ∷ 35 ∷ 36 ∷ 37 ∷ 38 ∷ 39 ∷ 1 ∷ 0 ∷ 3 ∷ 2 ∷ []) $
-                    concludes r47 (subst (Is row-Found.the_row r47) (EL.tells row-Found.the_type law-Found.the_laws r47 _ is49) is49) (law.walks-040 (memory x1.now x2 x3.now) x4 x5 x6 e37 e40 e44 e48))))))))))))))),
+                    concludes r47 (subst (Is row-Found.the_row r47) (EL.tells row-Found.the_type law-Found.the_laws r47 _ is49) is49) (law.walks_040 (memory x1.now x2 x3.now) x4 x5 x6 e37 e40 e44 e48))))))))))))))),
                 tt,
               ),
             ),
@@ -398,11 +398,11 @@ module _ {M : Type 1} {𝓤 : Ura M} (𝓛 : Logic 𝓤) (mem : Memory → SProp
 module _ {M : Type 1} {𝓤 : Ura M} (𝓛 : Logic 𝓤) (mem : Memory → SProp 𝓤) (run : Routine → Fun 𝓤) (𝓣 : Tables 𝓤 𝓛.H) where
   open 𝓛 use {H}
 
-  self-walks : Triple 𝓤 (𝓣.C #translate·settled) (C0 𝓛 mem run) → Triple 𝓤 (𝓣.C #checks·address-of) (C1 𝓛 mem run) → Triple 𝓤 (𝓣.C #walk030·every-level) (C2 𝓛 mem run) → Triple 𝓤 (𝓣.C #memory·registers·tc-of) (C3 𝓛 mem run) → Triple 𝓤 (𝓣.C #walk030·root-of) (C4 𝓛 mem run) → Triple 𝓤 (𝓣.C #walk030·walk-030) (C5 𝓛 mem run) → Triple 𝓤 (𝓣.C #translate·by-030) (C6 𝓛 mem run) → Triple 𝓤 (𝓣.C #walk040·walk) (C7 𝓛 mem run) → Triple 𝓤 (𝓣.C #translate·by-040) (C8 𝓛 mem run) → AllWalks 𝓛 self.ended stayed (WpFn 𝓤 H 𝓣.C 𝓣.Λ code.function) (self.clauses 𝓛 mem run)
+  self-walks : Triple 𝓤 (𝓣.C #translate·settled) (C0 𝓛 mem run) → Triple 𝓤 (𝓣.C #checks·address-of) (C1 𝓛 mem run) → Triple 𝓤 (𝓣.C #walk030·every-level) (C2 𝓛 mem run) → Triple 𝓤 (𝓣.C #memory·registers·tc-of) (C3 𝓛 mem run) → Triple 𝓤 (𝓣.C #walk030·root-of) (C4 𝓛 mem run) → Triple 𝓤 (𝓣.C #walk030·walk-030) (C5 𝓛 mem run) → Triple 𝓤 (𝓣.C #translate·by_030) (C6 𝓛 mem run) → Triple 𝓤 (𝓣.C #walk040·walk) (C7 𝓛 mem run) → Triple 𝓤 (𝓣.C #translate·by_040) (C8 𝓛 mem run) → AllWalks 𝓛 self.ended stayed (WpFn 𝓤 H 𝓣.C 𝓣.Λ code.function) (self.clauses 𝓛 mem run)
   self-walks known-0 known-1 known-2 known-3 known-4 known-5 known-6 known-7 known-8 = walked 𝓛 self.ended stayed (self.clauses 𝓛 mem run) (WpFn 𝓤 H 𝓣.C 𝓣.Λ code.function) (λ κs. (shr_slice_vals, (uint_vals w32, (shr_slice_vals, (LL.vals row-Registers.the_type law-Registers.the_laws, (LL.vals row-Access.the_type law-Access.the_laws, (EL.vals row-Plan.the_type law-Plan.the_laws, tt))))))) (λ κs. (shr_slice_Tells (named 0) κs.0 u32, (uint_Tells w32, (shr_slice_Tells (named 1) κs.1.0 row-Range.the_row, (LL.tells row-Registers.the_type law-Registers.the_laws, (LL.tells row-Access.the_type law-Access.the_laws, (EL.tells row-Plan.the_type law-Plan.the_laws, tt)))))))
       (λ κs qs bounds a g are. via 𝓤 _ (fst∗ 𝓤 _ (emp 𝓤)) (walk 𝓛 mem run κs.0 κs.1.0 qs.0 qs.1.0 a.0 a.1.0 a.1.1.0 a.1.1.1.0 a.1.1.1.1.0 a.1.1.1.1.1.0 are.0 are.1.0 are.1.1.0 are.1.1.1.0 are.1.1.1.1.0 are.1.1.1.1.1.0 𝓣 known-0 known-1 known-2 known-3 known-4 known-5 known-6 known-7 known-8))
 
-  self-meets : Triple 𝓤 (𝓣.C #translate·settled) (C0 𝓛 mem run) → Triple 𝓤 (𝓣.C #checks·address-of) (C1 𝓛 mem run) → Triple 𝓤 (𝓣.C #walk030·every-level) (C2 𝓛 mem run) → Triple 𝓤 (𝓣.C #memory·registers·tc-of) (C3 𝓛 mem run) → Triple 𝓤 (𝓣.C #walk030·root-of) (C4 𝓛 mem run) → Triple 𝓤 (𝓣.C #walk030·walk-030) (C5 𝓛 mem run) → Triple 𝓤 (𝓣.C #translate·by-030) (C6 𝓛 mem run) → Triple 𝓤 (𝓣.C #walk040·walk) (C7 𝓛 mem run) → Triple 𝓤 (𝓣.C #translate·by-040) (C8 𝓛 mem run) → Meets 𝓛 self.signature (WpFn 𝓤 H 𝓣.C 𝓣.Λ code.function) (self.spec 𝓛 mem run)
+  self-meets : Triple 𝓤 (𝓣.C #translate·settled) (C0 𝓛 mem run) → Triple 𝓤 (𝓣.C #checks·address-of) (C1 𝓛 mem run) → Triple 𝓤 (𝓣.C #walk030·every-level) (C2 𝓛 mem run) → Triple 𝓤 (𝓣.C #memory·registers·tc-of) (C3 𝓛 mem run) → Triple 𝓤 (𝓣.C #walk030·root-of) (C4 𝓛 mem run) → Triple 𝓤 (𝓣.C #walk030·walk-030) (C5 𝓛 mem run) → Triple 𝓤 (𝓣.C #translate·by_030) (C6 𝓛 mem run) → Triple 𝓤 (𝓣.C #walk040·walk) (C7 𝓛 mem run) → Triple 𝓤 (𝓣.C #translate·by_040) (C8 𝓛 mem run) → Meets 𝓛 self.signature (WpFn 𝓤 H 𝓣.C 𝓣.Λ code.function) (self.spec 𝓛 mem run)
   self-meets known-0 known-1 known-2 known-3 known-4 known-5 known-6 known-7 known-8 = walk_Meets 𝓛 self.ended stayed (Goes-none_slice 𝓛 2 (0 ∷ []) tt (plain (λ _. u32)) yes, (Goes-none 𝓛 2 (λ _. u32) yes (λ κs x f. refl), (Goes-none_slice 𝓛 2 (1 ∷ []) tt (plain (λ _. row-Range.the_row)) yes, (Goes-none 𝓛 2 (λ _. row-Registers.the_row) yes (λ κs x f. refl), (Goes-none 𝓛 2 (λ _. row-Access.the_row) yes (λ κs x f. refl), (Goes-none 𝓛 2 (λ _. row-Plan.the_row) yes (λ κs x f. refl), tt)))))) (self.clauses 𝓛 mem run) (WpFn 𝓤 H 𝓣.C 𝓣.Λ code.function) (WpFn-mono 𝓤 H 𝓛.laws 𝓣 code.function) (self-walks known-0 known-1 known-2 known-3 known-4 known-5 known-6 known-7 known-8)
 
 pub walked-spec : {M : Type 1} → stated.statement M
@@ -417,6 +417,6 @@ walked-spec 𝓤 𝓛 𝓜 𝓡 =
     (cited 𝓤 𝓛.H (C3 𝓛 𝓜.mem 𝓡.run) 𝓜 𝓡 code.env #memory·registers·tc-of c3-def.routine code.calls-memory::registers::tc-of (c3-thm.met 𝓤 𝓛 𝓜 𝓡))
     (cited 𝓤 𝓛.H (C4 𝓛 𝓜.mem 𝓡.run) 𝓜 𝓡 code.env #walk030·root-of c4-def.routine code.calls-walk030::root-of (c4-thm.met 𝓤 𝓛 𝓜 𝓡))
     (cited 𝓤 𝓛.H (C5 𝓛 𝓜.mem 𝓡.run) 𝓜 𝓡 code.env #walk030·walk-030 c5-def.routine code.calls-walk030::walk-030 (c5-thm.met 𝓤 𝓛 𝓜 𝓡))
-    (cited 𝓤 𝓛.H (C6 𝓛 𝓜.mem 𝓡.run) 𝓜 𝓡 code.env #translate·by-030 c6-def.routine code.calls-translate·by-030 (c6-thm.met 𝓤 𝓛 𝓜 𝓡))
+    (cited 𝓤 𝓛.H (C6 𝓛 𝓜.mem 𝓡.run) 𝓜 𝓡 code.env #translate·by_030 c6-def.routine code.calls-translate·by_030 (c6-thm.met 𝓤 𝓛 𝓜 𝓡))
     (cited 𝓤 𝓛.H (C7 𝓛 𝓜.mem 𝓡.run) 𝓜 𝓡 code.env #walk040·walk c7-def.routine code.calls-walk040::walk (c7-thm.met 𝓤 𝓛 𝓜 𝓡))
-    (cited 𝓤 𝓛.H (C8 𝓛 𝓜.mem 𝓡.run) 𝓜 𝓡 code.env #translate·by-040 c8-def.routine code.calls-translate·by-040 (c8-thm.met 𝓤 𝓛 𝓜 𝓡)))
+    (cited 𝓤 𝓛.H (C8 𝓛 𝓜.mem 𝓡.run) 𝓜 𝓡 code.env #translate·by_040 c8-def.routine code.calls-translate·by_040 (c8-thm.met 𝓤 𝓛 𝓜 𝓡)))

@@ -1,4 +1,4 @@
-use Rattle.transparent.proofs.Choosing.{compared, none-enabled}
+use Rattle.transparent.proofs.Choosing.{compared, none_enabled}
 use borrow.Author.Rules.{rules}
 use Rattle.transparent.proofs.is_transparent.Statement.{statement}
 use Rattle.transparent.proofs.is_transparent.Tie as tie
@@ -24,7 +24,7 @@ returns c =
 
 returns-2 : tie.Need-returns-2
 returns-2 c =
-    none-enabled _ _ _ _ _ c.before.before.before.before.first_of.ensures c.before.before.before.second-of.ensures c.before.before.is-enabled.ensures c.before.is-enabled2.ensures c.if1.false
+    none_enabled _ _ _ _ _ c.before.before.before.before.first_of.ensures c.before.before.before.second-of.ensures c.before.before.is-enabled.ensures c.before.is-enabled2.ensures c.if1.false
 
 pub is-transparent-spec : {M : Type 1} → statement M
 is-transparent-spec =

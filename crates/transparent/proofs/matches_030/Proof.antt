@@ -1,4 +1,4 @@
-use Rattle.transparent.proofs.Choices.{and_then, and-not}
+use Rattle.transparent.proofs.Choices.{and_then, and_not}
 use borrow.Author.Rules.{rules}
 use Rattle.transparent.proofs.matches_030.Statement.{statement}
 use Rattle.transparent.proofs.matches_030.Tie as tie
@@ -23,10 +23,10 @@ returns c =
 returns-2 : tie.Need-returns-2
 returns-2 c =
     and_then c.before.before.if1.true c.before.before.before.covers-address.ensures
-    (and-not _ c.if2.false c.before.takes-direction.ensures)
+    (and_not _ c.if2.false c.before.takes-direction.ensures)
 
 returns-3 : tie.Need-returns-3
-returns-3 c = and-not _ c.if1.false c.before.covers-address.ensures
+returns-3 c = and_not _ c.if1.false c.before.covers-address.ensures
 
 pub matches-030-spec : {M : Type 1} → statement M
 matches-030-spec =

@@ -2,7 +2,7 @@ use borrow.Author.Rules.{rules}
 use Prim.Native.Nat.{◌-◌, ◌≤◌}
 use mathlib.Core.Path.{◌≡◌}
 use native.Mathlib.Omega.{arith}
-use Rattle.vectors.proofs.Laws.{Moving, none-moved, one-moved}
+use Rattle.vectors.proofs.Laws.{Moving, none_moved, one_moved}
 use Rattle.vectors.proofs.move_to_front.Statement.{statement}
 use Rattle.vectors.proofs.move_to_front.Tie as tie
 
@@ -13,7 +13,7 @@ abbrev decreases-loop : tie.decreases-loop
 decreases-loop buf₀ from n i₀ buf i = n - i
 
 loop-holds : tie.Need-loop-init invariant-loop decreases-loop
-loop-holds c = (omega arith, none-moved _ _)
+loop-holds c = (omega arith, none_moved _ _)
 
 add-buf : tie.Need-overflow-add-buf invariant-loop decreases-loop
 add-buf c = search rules
@@ -31,7 +31,7 @@ loop-less : tie.Need-loop-smaller invariant-loop decreases-loop
 loop-less c = search rules
 
 loop-again : tie.Need-loop-preserved invariant-loop decreases-loop
-loop-again c = (omega arith, one-moved c.before.before.loop.invariant.1 (omega (arith, c.before.before.loop.invariant.1.kept)))
+loop-again c = (omega arith, one_moved c.before.before.loop.invariant.1 (omega (arith, c.before.before.loop.invariant.1.kept)))
 
 same_length : tie.Need-same-length invariant-loop decreases-loop
 same_length c = c.before.loop.invariant.1.kept

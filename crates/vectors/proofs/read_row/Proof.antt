@@ -3,7 +3,7 @@ use Prim.Native.Nat.{◌-◌}
 use mathlib.Core.Path.{sym, ◌∙◌}
 use native.Mathlib.Omega.{arith}
 use lib.ListN.{length, length-set}
-use Rattle.vectors.proofs.Laws.{Filling, none-put, no_room, cut, bad, last-put, more-put, ended-within, bad-within}
+use Rattle.vectors.proofs.Laws.{Filling, none_put, no_room, cut, bad, last_put, more_put, ended_within, bad_within}
 use Rattle.vectors.proofs.read_row.Statement.{statement}
 use Rattle.vectors.proofs.read_row.Tie as tie
 
@@ -14,7 +14,7 @@ abbrev decreases-loop : tie.decreases-loop
 decreases-loop text numbers₀ at₀ count₀ numbers at count = length numbers - count
 
 loop-holds : tie.Need-loop-init invariant-loop decreases-loop
-loop-holds c = none-put _ _ _
+loop-holds c = none_put _ _ _
 
 read-number-requires : tie.Need-read-number-requires invariant-loop decreases-loop
 read-number-requires c κs = search rules
@@ -35,13 +35,13 @@ same_length : tie.Need-same-length invariant-loop decreases-loop
 same_length c = simp length-set c.before.before.before.before.before.before.loop.invariant.kept
 
 returns : tie.Need-returns invariant-loop decreases-loop
-returns c = last-put c.before.before.before.before.before.before.loop.invariant c.before.before.before.before.before.loop-test.true c.before.before.before.before.read_number.ensures.0 c.before.before.before.before.read_number.ensures.1 c.before.before.value.given.1 c.if1.true
+returns c = last_put c.before.before.before.before.before.before.loop.invariant c.before.before.before.before.before.loop-test.true c.before.before.before.before.read_number.ensures.0 c.before.before.before.before.read_number.ensures.1 c.before.before.value.given.1 c.if1.true
 
 loop-less : tie.Need-loop-smaller invariant-loop decreases-loop
 loop-less c = simp length-set (omega arith)
 
 loop-again : tie.Need-loop-preserved invariant-loop decreases-loop
-loop-again c = more-put c.before.before.before.before.before.before.loop.invariant c.before.before.before.before.before.loop-test.true c.before.before.before.before.read_number.ensures.0 c.before.before.before.before.read_number.ensures.1 c.before.before.value.given.1 c.if1.false
+loop-again c = more_put c.before.before.before.before.before.before.loop.invariant c.before.before.before.before.before.loop-test.true c.before.before.before.before.read_number.ensures.0 c.before.before.before.before.read_number.ensures.1 c.before.before.value.given.1 c.if1.false
 
 enum_told : tie.Need-enum-told invariant-loop decreases-loop
 enum_told c = search rules
@@ -50,7 +50,7 @@ same-length-2 : tie.Need-same-length-2 invariant-loop decreases-loop
 same-length-2 c = c.before.before.before.before.loop.invariant.kept
 
 returns-2 : tie.Need-returns-2 invariant-loop decreases-loop
-returns-2 c = (cut c.before.before.before.before.loop.invariant c.before.before.before.loop-test.true (sym c.before.before.read_number.ensures.0 ∙ c.enum_told.given.1), ended-within _ _ _)
+returns-2 c = (cut c.before.before.before.before.loop.invariant c.before.before.before.loop-test.true (sym c.before.before.read_number.ensures.0 ∙ c.enum_told.given.1), ended_within _ _ _)
 
 enum-told-2 : tie.Need-enum-told-2 invariant-loop decreases-loop
 enum-told-2 c = search rules
@@ -59,13 +59,13 @@ same-length-3 : tie.Need-same-length-3 invariant-loop decreases-loop
 same-length-3 c = c.before.before.before.before.loop.invariant.kept
 
 returns-3 : tie.Need-returns-3 invariant-loop decreases-loop
-returns-3 c = (bad c.before.before.before.before.loop.invariant c.before.before.before.loop-test.true (sym c.before.before.read_number.ensures.0 ∙ c.enum-told2.given.1), bad-within _ _ _)
+returns-3 c = (bad c.before.before.before.before.loop.invariant c.before.before.before.loop-test.true (sym c.before.before.read_number.ensures.0 ∙ c.enum-told2.given.1), bad_within _ _ _)
 
 same-length-4 : tie.Need-same-length-4 invariant-loop decreases-loop
 same-length-4 c = c.before.loop.invariant.kept
 
 returns-4 : tie.Need-returns-4 invariant-loop decreases-loop
-returns-4 c = (no_room c.before.loop.invariant c.loop-test.false, bad-within _ _ _)
+returns-4 c = (no_room c.before.loop.invariant c.loop-test.false, bad_within _ _ _)
 
 pub read-row-spec : {M : Type 1} → statement M
 read-row-spec =

@@ -37,8 +37,8 @@ use denote.Triple.Clauses.{ensured, lasts}
 use denote.Exit.{yes}
 use Rattle.walk030.proofs.Driving as law
 use Rattle.definition.specs.Memory.{memory}
-use Rattle.definition.specs.Registers.{rootOf}
-use Rattle.definition.specs.Walk030.{outcomeOf, walk030}
+use Rattle.definition.specs.Registers.{root_of}
+use Rattle.definition.specs.Walk030.{outcome_of, walk030}
 use Rattle.walk030.specs.Walked.{shown}
 use Rattle.definition.specs.declared.Range.{Range}
 use Rattle.definition.specs.contracts.Range as row-Range
@@ -115,8 +115,8 @@ module _ {M : Type 1} {𝓤 : Ura M} (𝓛 : Logic 𝓤) (mem : Memory → SProp
   goes-1 a0 v0 a1 v1 i0 i1 =
       qed 𝓛 ([]) ∵ nothing ! $ owned ! u32 (Is u32) (uint_Makes 𝓛 w32) a1 _ i1 $ fjoin ! $ owned ! row-Registers.the_row (Is row-Registers.the_row) (LL.makes row-Registers.the_type law-Registers.the_plain 𝓛) a0 _ i0 $ fjoin ! $ nothing ! $ join ! $ frame ! $ done !
 
-  said-1 : (a0 : Registers) (a1 : ℕ) (r : Root) → ent 𝓤 (ensured 𝓛 c1.ended (c1.clauses 𝓛 mem run) tt (a0, (a1, tt)) tt r) (fact 𝓤 (r ≡ rootOf a0 a1))
-  said-1 a0 a1 r = ex_e 𝓤 _ (λ ws. snd∗ 𝓤 (sem 𝓛 (lasts c1.ended tt (a0, (a1, tt)) ws)) (fact 𝓤 (r ≡ rootOf a0 a1)))
+  said-1 : (a0 : Registers) (a1 : ℕ) (r : Root) → ent 𝓤 (ensured 𝓛 c1.ended (c1.clauses 𝓛 mem run) tt (a0, (a1, tt)) tt r) (fact 𝓤 (r ≡ root_of a0 a1))
+  said-1 a0 a1 r = ex_e 𝓤 _ (λ ws. snd∗ 𝓤 (sem 𝓛 (lasts c1.ended tt (a0, (a1, tt)) ws)) (fact 𝓤 (r ≡ root_of a0 a1)))
 
   -- the call of `walk_030`: what it is passed, what it asks, and what is known of its result
   abbrev to-2 : (a0 : Bor (List ℕ)) (v0 : Val) (a1 : ℕ) (v1 : Val) (a2 : Bor (List Range)) (v2 : Val) (a3 : ℕ) (v3 : Val) (a4 : Root) (v4 : Val) (a5 : ℕ) (v5 : Val) (a6 : ℕ) (v6 : Val) (a7 : ℕ) (v7 : Val) → (C2 𝓛 mem run).Ghost
@@ -126,8 +126,8 @@ module _ {M : Type 1} {𝓤 : Ura M} (𝓛 : Logic 𝓤) (mem : Memory → SProp
   goes-2 a0 v0 a1 v1 a2 v2 a3 v3 a4 v4 a5 v5 a6 v6 a7 v7 i1 i3 i4 i5 i6 i7 =
       qed 𝓛 (‵ (flft κ0 q0) ∷ ‵ (flft κ1 q1) ∷ ‵ ((ShrSlice (named 0) κ0 u32).own_val a0 (v0 ∷ [])) ∷ ‵ ((ShrSlice (named 1) κ1 row-Range.the_row).own_val a2 (v2 ∷ [])) ∷ []) ∵ nothing ! $ owned ! u32 (Is u32) (uint_Makes 𝓛 w32) a7 _ i7 $ fjoin ! $ owned ! u32 (Is u32) (uint_Makes 𝓛 w32) a6 _ i6 $ fjoin ! $ owned ! u32 (Is u32) (uint_Makes 𝓛 w32) a5 _ i5 $ fjoin ! $ owned ! row-Root.the_row (Is row-Root.the_row) (LL.makes row-Root.the_type law-Root.the_plain 𝓛) a4 _ i4 $ fjoin ! $ owned ! u32 (Is u32) (uint_Makes 𝓛 w32) a3 _ i3 $ fjoin ! $ move ! (4 ∷ 0 ∷ []) $ fjoin ! $ owned ! u32 (Is u32) (uint_Makes 𝓛 w32) a1 _ i1 $ fjoin ! $ move ! (3 ∷ 0 ∷ []) $ fjoin ! $ nothing ! $ move ! (3 ∷ 0 ∷ []) $ join ! $ move ! (2 ∷ 0 ∷ []) $ join ! $ join ! $ frame ! $ done !
 
-  said-2 : (a0 : Bor (List ℕ)) (a1 : ℕ) (a2 : Bor (List Range)) (a3 : ℕ) (a4 : Root) (a5 : ℕ) (a6 : ℕ) (a7 : ℕ) (r : Walked) → ent 𝓤 (ensured 𝓛 c2.ended (c2.clauses 𝓛 mem run) (κ0, (κ1, tt)) (a0, (a1, (a2, (a3, (a4, (a5, (a6, (a7, tt)))))))) tt r) (fact 𝓤 (r ≡ shown (outcomeOf (memory a0.now a1 a2.now) a3 a4 a5 a6 a7)))
-  said-2 a0 a1 a2 a3 a4 a5 a6 a7 r = ex_e 𝓤 _ (λ ws. snd∗ 𝓤 (sem 𝓛 (lasts c2.ended (κ0, (κ1, tt)) (a0, (a1, (a2, (a3, (a4, (a5, (a6, (a7, tt)))))))) ws)) (fact 𝓤 (r ≡ shown (outcomeOf (memory a0.now a1 a2.now) a3 a4 a5 a6 a7))))
+  said-2 : (a0 : Bor (List ℕ)) (a1 : ℕ) (a2 : Bor (List Range)) (a3 : ℕ) (a4 : Root) (a5 : ℕ) (a6 : ℕ) (a7 : ℕ) (r : Walked) → ent 𝓤 (ensured 𝓛 c2.ended (c2.clauses 𝓛 mem run) (κ0, (κ1, tt)) (a0, (a1, (a2, (a3, (a4, (a5, (a6, (a7, tt)))))))) tt r) (fact 𝓤 (r ≡ shown (outcome_of (memory a0.now a1 a2.now) a3 a4 a5 a6 a7)))
+  said-2 a0 a1 a2 a3 a4 a5 a6 a7 r = ex_e 𝓤 _ (λ ws. snd∗ 𝓤 (sem 𝓛 (lasts c2.ended (κ0, (κ1, tt)) (a0, (a1, (a2, (a3, (a4, (a5, (a6, (a7, tt)))))))) ws)) (fact 𝓤 (r ≡ shown (outcome_of (memory a0.now a1 a2.now) a3 a4 a5 a6 a7))))
 
   module _ (𝓣 : Tables 𝓤 H) (known-0 : Triple 𝓤 (𝓣.C #memory·registers·tc-of) (C0 𝓛 mem run)) (known-1 : Triple 𝓤 (𝓣.C #walk030·root-of) (C1 𝓛 mem run)) (known-2 : Triple 𝓤 (𝓣.C #walk030·walk-030) (C2 𝓛 mem run)) where
     abbrev C : Calls 𝓤 H
@@ -153,7 +153,7 @@ module _ {M : Type 1} {𝓤 : Ura M} (𝓛 : Logic 𝓤) (mem : Memory → SProp
         rewrite ! 6 (λ (u : Val). ‵ (fat full_share (ty_int w32) l8 0 u)) (ap only (uint_Tells w32 r2 _ is4)) refl $
         use0 𝓛 (raw ((C1 𝓛 mem run).pre (to-1 x4 (LL.val row-Registers.the_type law-Registers.the_laws x4) x6 (vint w32 x6)))) (goes-1 x4 (LL.val row-Registers.the_type law-Registers.the_laws x4) x6 (vint w32 x6) i4 i6) $
         calls_at ! fm (C1 𝓛 mem run) known-1 (to-1 x4 (LL.val row-Registers.the_type law-Registers.the_laws x4) x6 (vint w32 x6)) (and_then ! (load ! (from ! (stop !)) (look ! 15 refl)) (and_then ! (load ! (from ! (stop !)) (look ! 11 refl)) (no_more !))) (λ u5.
-        use1 𝓛 (later (some (λ (r : Root). (‵ ftrue ⊛ ‵ ((row-Root.the_row).own_val r (u5 ∷ []))) ⊛ raw (ensured 𝓛 c1.ended (c1.clauses 𝓛 mem run) tt (x4, (x6, tt)) tt r)))) (id⊢ 𝓤 _) $ await ! tt $ choose ! (λ r6. split ! $ move ! (1 ∷ []) $ use1 𝓛 (raw (fact 𝓤 (r6 ≡ rootOf x4 x6))) (said-1 x4 x6 r6) $ heard ! (r6 ≡ rootOf x4 x6) (λ e7. split ! $
+        use1 𝓛 (later (some (λ (r : Root). (‵ ftrue ⊛ ‵ ((row-Root.the_row).own_val r (u5 ∷ []))) ⊛ raw (ensured 𝓛 c1.ended (c1.clauses 𝓛 mem run) tt (x4, (x6, tt)) tt r)))) (id⊢ 𝓤 _) $ await ! tt $ choose ! (λ r6. split ! $ move ! (1 ∷ []) $ use1 𝓛 (raw (fact 𝓤 (r6 ≡ root_of x4 x6))) (said-1 x4 x6 r6) $ heard ! (r6 ≡ root_of x4 x6) (λ e7. split ! $
         drop ! $
         facts ! row-Root.the_row (Is row-Root.the_row) (shows 𝓛 row-Root.the_row) r6 (u5 ∷ []) (λ is8. land ! (from ! (stop !)) (init ! 4 refl ((LL.lawful row-Root.the_type law-Root.the_laws 𝓛).typed r6 _ is8).0) $
         rewrite ! 4 (λ (u : Val). ‵ (fat full_share law-Root.mir l9 0 u)) (ap only (LL.tells row-Root.the_type law-Root.the_laws r6 _ is8)) refl $ move ! (3 ∷ []) $
@@ -163,7 +163,7 @@ module _ {M : Type 1} {𝓤 : Ura M} (𝓛 : Logic 𝓤) (mem : Memory → SProp
         split ! $ move ! (5 ∷ 4 ∷ 2 ∷ 0 ∷ []) $ group ! 4 $
         use1 𝓛 (raw ((C2 𝓛 mem run).pre (to-2 x1 (slice_val x1.ref_ptr (length x1.now)) x2 (vint w32 x2) x3 (slice_val x3.ref_ptr (length x3.now)) r2 (vint w32 r2) r6 (LL.val row-Root.the_type law-Root.the_laws r6) x5 (vint w32 x5) x6 (vint w32 x6) x7 (vint w32 x7)))) (goes-2 x1 (slice_val x1.ref_ptr (length x1.now)) x2 (vint w32 x2) x3 (slice_val x3.ref_ptr (length x3.now)) r2 (vint w32 r2) r6 (LL.val row-Root.the_type law-Root.the_laws r6) x5 (vint w32 x5) x6 (vint w32 x6) x7 (vint w32 x7) i2 (subst (Is u32 r2) (uint_Tells w32 r2 _ is4) is4) (subst (Is row-Root.the_row r6) (LL.tells row-Root.the_type law-Root.the_laws r6 _ is8) is8) i5 i6 i7) $
         calls_at ! fm (C2 𝓛 mem run) known-2 (to-2 x1 (slice_val x1.ref_ptr (length x1.now)) x2 (vint w32 x2) x3 (slice_val x3.ref_ptr (length x3.now)) r2 (vint w32 r2) r6 (LL.val row-Root.the_type law-Root.the_laws r6) x5 (vint w32 x5) x6 (vint w32 x6) x7 (vint w32 x7)) (and_then ! (load ! (from ! (stop !)) (look ! 19 refl)) (and_then ! (load ! (from ! (stop !)) (look ! 17 refl)) (and_then ! (load ! (from ! (stop !)) (look ! 15 refl)) (and_then ! (load ! (from ! (stop !)) (look ! 5 refl)) (and_then ! (load ! (from ! (stop !)) (look ! 3 refl)) (and_then ! (load ! (from ! (stop !)) (look ! 11 refl)) (and_then ! (load ! (from ! (stop !)) (look ! 9 refl)) (and_then ! (load ! (from ! (stop !)) (look ! 7 refl)) (no_more !))))))))) (λ u9.
-        use1 𝓛 (later (some (λ (r : Walked). ((‵ (flft κ0 q0) ⊛ ‵ (flft κ1 q1) ⊛ ‵ ftrue) ⊛ ‵ ((row-Walked.the_row).own_val r (u9 ∷ []))) ⊛ raw (ensured 𝓛 c2.ended (c2.clauses 𝓛 mem run) (κ0, (κ1, tt)) (x1, (x2, (x3, (r2, (r6, (x5, (x6, (x7, tt)))))))) tt r)))) (id⊢ 𝓤 _) $ await ! tt $ choose ! (λ r10. split ! $ move ! (1 ∷ []) $ use1 𝓛 (raw (fact 𝓤 (r10 ≡ shown (outcomeOf (memory x1.now x2 x3.now) r2 r6 x5 x6 x7)))) (said-2 x1 x2 x3 r2 r6 x5 x6 x7 r10) $ heard ! (r10 ≡ shown (outcomeOf (memory x1.now x2 x3.now) r2 r6 x5 x6 x7)) (λ e11. split ! $
+        use1 𝓛 (later (some (λ (r : Walked). ((‵ (flft κ0 q0) ⊛ ‵ (flft κ1 q1) ⊛ ‵ ftrue) ⊛ ‵ ((row-Walked.the_row).own_val r (u9 ∷ []))) ⊛ raw (ensured 𝓛 c2.ended (c2.clauses 𝓛 mem run) (κ0, (κ1, tt)) (x1, (x2, (x3, (r2, (r6, (x5, (x6, (x7, tt)))))))) tt r)))) (id⊢ 𝓤 _) $ await ! tt $ choose ! (λ r10. split ! $ move ! (1 ∷ []) $ use1 𝓛 (raw (fact 𝓤 (r10 ≡ shown (outcome_of (memory x1.now x2 x3.now) r2 r6 x5 x6 x7)))) (said-2 x1 x2 x3 r2 r6 x5 x6 x7 r10) $ heard ! (r10 ≡ shown (outcome_of (memory x1.now x2 x3.now) r2 r6 x5 x6 x7)) (λ e11. split ! $
         split ! $ move ! (1 ∷ []) $ split ! $ move ! (1 ∷ []) $ drop ! $ move ! (2 ∷ []) $
         facts ! row-Walked.the_row (Is row-Walked.the_row) (shows 𝓛 row-Walked.the_row) r10 (u9 ∷ []) (λ is12. land ! (from ! (stop !)) (init ! 22 refl ((LL.lawful row-Walked.the_type law-Walked.the_laws 𝓛).typed r10 _ is12).0) $
         rewrite ! 22 (λ (u : Val). ‵ (fat full_share law-Walked.mir l0 0 u)) (ap only (LL.tells row-Walked.the_type law-Walked.the_laws r10 _ is12)) refl $
@@ -171,7 +171,7 @@ module _ {M : Type 1} {𝓤 : Ura M} (𝓛 : Logic 𝓤) (mem : Memory → SProp
         forget ! 8 refl $ forget ! 6 refl $ forget ! 4 refl $ move ! (22 ∷ 23 ∷ []) $ free1 ! $ move ! (20 ∷ 21 ∷ []) $ free1 ! $ move ! (18 ∷ 19 ∷ []) $ free1 ! $
         move ! (16 ∷ 17 ∷ []) $ free1 ! $ move ! (14 ∷ 15 ∷ []) $ free1 ! $ move ! (12 ∷ 13 ∷ []) $ free1 ! $ move ! (10 ∷ 11 ∷ []) $ free1 ! $ move ! (8 ∷ 9 ∷ []) $ free1 ! $
         move ! (6 ∷ 7 ∷ []) $ free1 ! $ move ! (4 ∷ 5 ∷ []) $ free1 ! $ free0 ! $ keep ! (1 ∷ 0 ∷ 3 ∷ 2 ∷ []) $
-        by ! (exits r10 (LL.val row-Walked.the_type law-Walked.the_laws r10) (subst (Is row-Walked.the_row r10) (LL.tells row-Walked.the_type law-Walked.the_laws r10 _ is12) is12) (law.from-root (memory x1.now x2 x3.now) x4 x5 x6 x7 e3 e7 e11))))))))))))))))))))))))
+        by ! (exits r10 (LL.val row-Walked.the_type law-Walked.the_laws r10) (subst (Is row-Walked.the_row r10) (LL.tells row-Walked.the_type law-Walked.the_laws r10 _ is12) is12) (law.from_root (memory x1.now x2 x3.now) x4 x5 x6 x7 e3 e7 e11))))))))))))))))))))))))
 
 module _ {M : Type 1} {𝓤 : Ura M} (𝓛 : Logic 𝓤) (mem : Memory → SProp 𝓤) (run : Routine → Fun 𝓤) (𝓣 : Tables 𝓤 𝓛.H) where
   open 𝓛 use {H}

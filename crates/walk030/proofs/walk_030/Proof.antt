@@ -48,17 +48,17 @@ use mir.Syntax.{ty_array}
 use types.Part.{agg}
 use types.Match.{vrt, in_variant, look_tag, by_variants}
 use borrow.Enum.Known.{at as variant-at, lives_at}
-use Rattle.memory.proofs.Branching.{leaves-if, as_variant}
+use Rattle.memory.proofs.Branching.{leaves_if, as_variant}
 use Rattle.walk030.proofs.Driving as law
 use Rattle.definition.specs.Memory.{memory}
-use Rattle.definition.specs.Walk030.{outcomeOf}
+use Rattle.definition.specs.Walk030.{outcome_of}
 use Rattle.walk030.specs.Walked.{shown}
-use Rattle.definition.specs.Walk030.{widthsOf, used}
+use Rattle.definition.specs.Walk030.{widths_of, used}
 use Rattle.definition.specs.Walk030.{by_kind}
 use Rattle.definition.specs.Words.{bit_of}
-use Rattle.walk030.specs.Machine.{aim_of, answered, asked_of, atLimit, beginOf, misconfiguredOf, noWalk, onwardOf, seenOf}
+use Rattle.walk030.specs.Machine.{aim_of, answered, asked_of, at_limit, begin_of, misconfigured_of, no_walk, onward_of, seen_of}
 use Rattle.definition.specs.Walk030.{read_of}
-use Rattle.memory.specs.Descriptors.{shownRead}
+use Rattle.memory.specs.Descriptors.{shown_read}
 use Rattle.memory.specs.declared.descriptor.Descriptor.{Descriptor}
 use Rattle.memory.specs.contracts.descriptor.Descriptor as row-Descriptor
 use Rattle.memory.proofs.descriptor.Descriptor.TheLaws as law-Descriptor
@@ -214,7 +214,7 @@ module _ {M : Type 1} {𝓤 : Ura M} (𝓛 : Logic 𝓤) (mem : Memory → SProp
   abbrev Post : Val → SProp 𝓤
   Post = (walk_of 𝓛 self.ended stayed (self.clauses 𝓛 mem run)).post (((κ0, (κ1, tt)), (q0, (q1, tt)), tt, (x1, (x2, (x3, (x4, (x5, (x6, (x7, (x8, tt)))))))), at_entry), tt)
 
-  exits : (r : Walked) (u : Val) → Is row-Walked.the_row r (u ∷ []) → (r ≡ shown (outcomeOf (memory x1.now x2 x3.now) x4 x5 x6 x7 x8)) → ent 𝓤 (⋆ 𝓛 (‵ (flft κ0 q0) ∷ ‵ (flft κ1 q1) ∷ ‵ ((ShrSlice (named 0) κ0 u32).own_val x1 (slice_val x1.ref_ptr (length x1.now) ∷ [])) ∷ ‵ ((ShrSlice (named 1) κ1 row-Range.the_row).own_val x3 (slice_val x3.ref_ptr (length x3.now) ∷ [])) ∷ [])) (Post u)
+  exits : (r : Walked) (u : Val) → Is row-Walked.the_row r (u ∷ []) → (r ≡ shown (outcome_of (memory x1.now x2 x3.now) x4 x5 x6 x7 x8)) → ent 𝓤 (⋆ 𝓛 (‵ (flft κ0 q0) ∷ ‵ (flft κ1 q1) ∷ ‵ ((ShrSlice (named 0) κ0 u32).own_val x1 (slice_val x1.ref_ptr (length x1.now) ∷ [])) ∷ ‵ ((ShrSlice (named 1) κ1 row-Range.the_row).own_val x3 (slice_val x3.ref_ptr (length x3.now) ∷ [])) ∷ [])) (Post u)
   exits r u is e =
       qed 𝓛 (‵ (flft κ0 q0) ∷ ‵ (flft κ1 q1) ∷ ‵ ((ShrSlice (named 0) κ0 u32).own_val x1 (slice_val x1.ref_ptr (length x1.now) ∷ [])) ∷ ‵ ((ShrSlice (named 1) κ1 row-Range.the_row).own_val x3 (slice_val x3.ref_ptr (length x3.now) ∷ [])) ∷ []) ∵
       suffices ! _ (ends_at 𝓛 self.ended stayed (self.clauses 𝓛 mem run) (((κ0, (κ1, tt)), (q0, (q1, tt)), tt, (x1, (x2, (x3, (x4, (x5, (x6, (x7, (x8, tt)))))))), at_entry), tt) u r (tt, (tt, (tt, (tt, (tt, (tt, (tt, (tt, tt)))))))) (tt, (tt, (tt, (tt, (tt, (tt, (tt, (tt, tt))))))))) $ says ! e $
@@ -228,8 +228,8 @@ module _ {M : Type 1} {𝓤 : Ura M} (𝓛 : Logic 𝓤) (mem : Memory → SProp
   goes-0 a0 v0 i0 =
       qed 𝓛 ([]) ∵ nothing ! $ owned ! u32 (Is u32) (uint_Makes 𝓛 w32) a0 _ i0 $ fjoin ! $ nothing ! $ join ! $ frame ! $ done !
 
-  said-0 : (a0 : ℕ) (r : List ℕ) → ent 𝓤 (ensured 𝓛 c0.ended (c0.clauses 𝓛 mem run) tt (a0, tt) tt r) (fact 𝓤 (r ≡ widthsOf a0))
-  said-0 a0 r = ex_e 𝓤 _ (λ ws. snd∗ 𝓤 (sem 𝓛 (lasts c0.ended tt (a0, tt) ws)) (fact 𝓤 (r ≡ widthsOf a0)))
+  said-0 : (a0 : ℕ) (r : List ℕ) → ent 𝓤 (ensured 𝓛 c0.ended (c0.clauses 𝓛 mem run) tt (a0, tt) tt r) (fact 𝓤 (r ≡ widths_of a0))
+  said-0 a0 r = ex_e 𝓤 _ (λ ws. snd∗ 𝓤 (sem 𝓛 (lasts c0.ended tt (a0, tt) ws)) (fact 𝓤 (r ≡ widths_of a0)))
 
   -- the call of `machine.level_count`: what it is passed, what it asks, and what is known of its result
   abbrev to-1 : (a0 : List ℕ) (v0 : Val) → (C1 𝓛 mem run).Ghost
@@ -250,8 +250,8 @@ module _ {M : Type 1} {𝓤 : Ura M} (𝓛 : Logic 𝓤) (mem : Memory → SProp
   goes-2 a0 v0 a1 v1 a2 v2 i0 i1 i2 =
       qed 𝓛 ([]) ∵ nothing ! $ owned ! u64 (Is u64) (uint_Makes 𝓛 w64) a2 _ i2 $ fjoin ! $ owned ! row-Root.the_row (Is row-Root.the_row) (LL.makes row-Root.the_type law-Root.the_plain 𝓛) a1 _ i1 $ fjoin ! $ owned ! u32 (Is u32) (uint_Makes 𝓛 w32) a0 _ i0 $ fjoin ! $ nothing ! $ join ! $ frame ! $ done !
 
-  said-2 : (a0 : ℕ) (a1 : Root) (a2 : ℕ) (r : Bool) → ent 𝓤 (ensured 𝓛 c2.ended (c2.clauses 𝓛 mem run) tt (a0, (a1, (a2, tt))) tt r) (fact 𝓤 (r ≡ noWalk (a1.limit % 4) a2 (bit_of a0 24)))
-  said-2 a0 a1 a2 r = ex_e 𝓤 _ (λ ws. snd∗ 𝓤 (sem 𝓛 (lasts c2.ended tt (a0, (a1, (a2, tt))) ws)) (fact 𝓤 (r ≡ noWalk (a1.limit % 4) a2 (bit_of a0 24))))
+  said-2 : (a0 : ℕ) (a1 : Root) (a2 : ℕ) (r : Bool) → ent 𝓤 (ensured 𝓛 c2.ended (c2.clauses 𝓛 mem run) tt (a0, (a1, (a2, tt))) tt r) (fact 𝓤 (r ≡ no_walk (a1.limit % 4) a2 (bit_of a0 24)))
+  said-2 a0 a1 a2 r = ex_e 𝓤 _ (λ ws. snd∗ 𝓤 (sem 𝓛 (lasts c2.ended tt (a0, (a1, (a2, tt))) ws)) (fact 𝓤 (r ≡ no_walk (a1.limit % 4) a2 (bit_of a0 24))))
 
   -- the call of `machine.misconfigured`: what it is passed, what it asks, and what is known of its result
   abbrev to-3 : (a0 : Root) (v0 : Val) → (C3 𝓛 mem run).Ghost
@@ -261,8 +261,8 @@ module _ {M : Type 1} {𝓤 : Ura M} (𝓛 : Logic 𝓤) (mem : Memory → SProp
   goes-3 a0 v0 i0 =
       qed 𝓛 ([]) ∵ nothing ! $ owned ! row-Root.the_row (Is row-Root.the_row) (LL.makes row-Root.the_type law-Root.the_plain 𝓛) a0 _ i0 $ fjoin ! $ nothing ! $ join ! $ frame ! $ done !
 
-  said-3 : (a0 : Root) (r : Walked) → ent 𝓤 (ensured 𝓛 c3.ended (c3.clauses 𝓛 mem run) tt (a0, tt) tt r) (fact 𝓤 (r ≡ misconfiguredOf a0))
-  said-3 a0 r = ex_e 𝓤 _ (λ ws. snd∗ 𝓤 (sem 𝓛 (lasts c3.ended tt (a0, tt) ws)) (fact 𝓤 (r ≡ misconfiguredOf a0)))
+  said-3 : (a0 : Root) (r : Walked) → ent 𝓤 (ensured 𝓛 c3.ended (c3.clauses 𝓛 mem run) tt (a0, tt) tt r) (fact 𝓤 (r ≡ misconfigured_of a0))
+  said-3 a0 r = ex_e 𝓤 _ (λ ws. snd∗ 𝓤 (sem 𝓛 (lasts c3.ended tt (a0, tt) ws)) (fact 𝓤 (r ≡ misconfigured_of a0)))
 
   -- the call of `machine.begin`: what it is passed, what it asks, and what is known of its result
   abbrev to-4 : (a0 : ℕ) (v0 : Val) (a1 : Root) (v1 : Val) → (C4 𝓛 mem run).Ghost
@@ -272,8 +272,8 @@ module _ {M : Type 1} {𝓤 : Ura M} (𝓛 : Logic 𝓤) (mem : Memory → SProp
   goes-4 a0 v0 a1 v1 i0 i1 =
       qed 𝓛 ([]) ∵ nothing ! $ owned ! row-Root.the_row (Is row-Root.the_row) (LL.makes row-Root.the_type law-Root.the_plain 𝓛) a1 _ i1 $ fjoin ! $ owned ! u32 (Is u32) (uint_Makes 𝓛 w32) a0 _ i0 $ fjoin ! $ nothing ! $ join ! $ frame ! $ done !
 
-  said-4 : (a0 : ℕ) (a1 : Root) (r : Walking030) → ent 𝓤 (ensured 𝓛 c4.ended (c4.clauses 𝓛 mem run) tt (a0, (a1, tt)) tt r) (fact 𝓤 (r ≡ beginOf a0 a1))
-  said-4 a0 a1 r = ex_e 𝓤 _ (λ ws. snd∗ 𝓤 (sem 𝓛 (lasts c4.ended tt (a0, (a1, tt)) ws)) (fact 𝓤 (r ≡ beginOf a0 a1)))
+  said-4 : (a0 : ℕ) (a1 : Root) (r : Walking030) → ent 𝓤 (ensured 𝓛 c4.ended (c4.clauses 𝓛 mem run) tt (a0, (a1, tt)) tt r) (fact 𝓤 (r ≡ begin_of a0 a1))
+  said-4 a0 a1 r = ex_e 𝓤 _ (λ ws. snd∗ 𝓤 (sem 𝓛 (lasts c4.ended tt (a0, (a1, tt)) ws)) (fact 𝓤 (r ≡ begin_of a0 a1)))
 
   -- the call of `machine.is_at_limit`: what it is passed, what it asks, and what is known of its result
   abbrev to-5 : (a0 : Walking030) (v0 : Val) (a1 : ℕ) (v1 : Val) → (C5 𝓛 mem run).Ghost
@@ -283,8 +283,8 @@ module _ {M : Type 1} {𝓤 : Ura M} (𝓛 : Logic 𝓤) (mem : Memory → SProp
   goes-5 a0 v0 a1 v1 i0 i1 =
       qed 𝓛 ([]) ∵ nothing ! $ owned ! u32 (Is u32) (uint_Makes 𝓛 w32) a1 _ i1 $ fjoin ! $ owned ! row-Walking030.the_row (Is row-Walking030.the_row) (LL.makes row-Walking030.the_type law-Walking030.the_plain 𝓛) a0 _ i0 $ fjoin ! $ nothing ! $ join ! $ frame ! $ done !
 
-  said-5 : (a0 : Walking030) (a1 : ℕ) (r : Bool) → ent 𝓤 (ensured 𝓛 c5.ended (c5.clauses 𝓛 mem run) tt (a0, (a1, tt)) tt r) (fact 𝓤 (r ≡ atLimit a1 a0))
-  said-5 a0 a1 r = ex_e 𝓤 _ (λ ws. snd∗ 𝓤 (sem 𝓛 (lasts c5.ended tt (a0, (a1, tt)) ws)) (fact 𝓤 (r ≡ atLimit a1 a0)))
+  said-5 : (a0 : Walking030) (a1 : ℕ) (r : Bool) → ent 𝓤 (ensured 𝓛 c5.ended (c5.clauses 𝓛 mem run) tt (a0, (a1, tt)) tt r) (fact 𝓤 (r ≡ at_limit a1 a0))
+  said-5 a0 a1 r = ex_e 𝓤 _ (λ ws. snd∗ 𝓤 (sem 𝓛 (lasts c5.ended tt (a0, (a1, tt)) ws)) (fact 𝓤 (r ≡ at_limit a1 a0)))
 
   -- the call of `machine.answer`: what it is passed, what it asks, and what is known of its result
   abbrev to-6 : (a0 : Walking030) (v0 : Val) (a1 : End) (v1 : Val) → (C6 𝓛 mem run).Ghost
@@ -338,8 +338,8 @@ module _ {M : Type 1} {𝓤 : Ura M} (𝓛 : Logic 𝓤) (mem : Memory → SProp
   goes-10 a0 v0 a1 v1 a2 v2 a3 v3 a4 v4 i1 i3 i4 =
       qed 𝓛 (‵ (flft κ0 q0) ∷ ‵ (flft κ1 q1) ∷ ‵ ((ShrSlice (named 0) κ0 u32).own_val a0 (v0 ∷ [])) ∷ ‵ ((ShrSlice (named 1) κ1 row-Range.the_row).own_val a2 (v2 ∷ [])) ∷ []) ∵ nothing ! $ owned ! Boolean (Is Boolean) (bool_Makes 𝓛) a4 _ i4 $ fjoin ! $ owned ! u32 (Is u32) (uint_Makes 𝓛 w32) a3 _ i3 $ fjoin ! $ move ! (4 ∷ 0 ∷ []) $ fjoin ! $ owned ! u32 (Is u32) (uint_Makes 𝓛 w32) a1 _ i1 $ fjoin ! $ move ! (3 ∷ 0 ∷ []) $ fjoin ! $ nothing ! $ move ! (3 ∷ 0 ∷ []) $ join ! $ move ! (2 ∷ 0 ∷ []) $ join ! $ join ! $ frame ! $ done !
 
-  said-10 : (a0 : Bor (List ℕ)) (a1 : ℕ) (a2 : Bor (List Range)) (a3 : ℕ) (a4 : Bool) (r : Descriptor) → ent 𝓤 (ensured 𝓛 c10.ended (c10.clauses 𝓛 mem run) (κ0, (κ1, tt)) (a0, (a1, (a2, (a3, (a4, tt))))) tt r) (fact 𝓤 (r ≡ shownRead (read_of (memory a0.now a1 a2.now) a3 a4)))
-  said-10 a0 a1 a2 a3 a4 r = ex_e 𝓤 _ (λ ws. snd∗ 𝓤 (sem 𝓛 (lasts c10.ended (κ0, (κ1, tt)) (a0, (a1, (a2, (a3, (a4, tt))))) ws)) (fact 𝓤 (r ≡ shownRead (read_of (memory a0.now a1 a2.now) a3 a4))))
+  said-10 : (a0 : Bor (List ℕ)) (a1 : ℕ) (a2 : Bor (List Range)) (a3 : ℕ) (a4 : Bool) (r : Descriptor) → ent 𝓤 (ensured 𝓛 c10.ended (c10.clauses 𝓛 mem run) (κ0, (κ1, tt)) (a0, (a1, (a2, (a3, (a4, tt))))) tt r) (fact 𝓤 (r ≡ shown_read (read_of (memory a0.now a1 a2.now) a3 a4)))
+  said-10 a0 a1 a2 a3 a4 r = ex_e 𝓤 _ (λ ws. snd∗ 𝓤 (sem 𝓛 (lasts c10.ended (κ0, (κ1, tt)) (a0, (a1, (a2, (a3, (a4, tt))))) ws)) (fact 𝓤 (r ≡ shown_read (read_of (memory a0.now a1 a2.now) a3 a4))))
 
   -- the call of `machine.seen`: what it is passed, what it asks, and what is known of its result
   abbrev to-11 : (a0 : Walking030) (v0 : Val) (a1 : ℕ) (v1 : Val) (a2 : Descriptor) (v2 : Val) → (C11 𝓛 mem run).Ghost
@@ -349,8 +349,8 @@ module _ {M : Type 1} {𝓤 : Ura M} (𝓛 : Logic 𝓤) (mem : Memory → SProp
   goes-11 a0 v0 a1 v1 a2 v2 i0 i1 i2 pre =
       qed 𝓛 ([]) ∵ says ! pre $ nothing ! $ owned ! row-Descriptor.the_row (Is row-Descriptor.the_row) (EL.makes row-Descriptor.the_type law-Descriptor.the_plain 𝓛) a2 _ i2 $ fjoin ! $ owned ! u64 (Is u64) (uint_Makes 𝓛 w64) a1 _ i1 $ fjoin ! $ owned ! row-Walking030.the_row (Is row-Walking030.the_row) (LL.makes row-Walking030.the_type law-Walking030.the_plain 𝓛) a0 _ i0 $ fjoin ! $ nothing ! $ join ! $ done !
 
-  said-11 : (a0 : Walking030) (a1 : ℕ) (a2 : Descriptor) (r : Walking030) → ent 𝓤 (ensured 𝓛 c11.ended (c11.clauses 𝓛 mem run) tt (a0, (a1, (a2, tt))) tt r) (fact 𝓤 (r ≡ seenOf a1 a0 a2))
-  said-11 a0 a1 a2 r = ex_e 𝓤 _ (λ ws. snd∗ 𝓤 (sem 𝓛 (lasts c11.ended tt (a0, (a1, (a2, tt))) ws)) (fact 𝓤 (r ≡ seenOf a1 a0 a2)))
+  said-11 : (a0 : Walking030) (a1 : ℕ) (a2 : Descriptor) (r : Walking030) → ent 𝓤 (ensured 𝓛 c11.ended (c11.clauses 𝓛 mem run) tt (a0, (a1, (a2, tt))) tt r) (fact 𝓤 (r ≡ seen_of a1 a0 a2))
+  said-11 a0 a1 a2 r = ex_e 𝓤 _ (λ ws. snd∗ 𝓤 (sem 𝓛 (lasts c11.ended tt (a0, (a1, (a2, tt))) ws)) (fact 𝓤 (r ≡ seen_of a1 a0 a2)))
 
   -- the call of `machine.is_page`: what it is passed, what it asks, and what is known of its result
   abbrev to-12 : (a0 : ℕ) (v0 : Val) → (C12 𝓛 mem run).Ghost
@@ -404,8 +404,8 @@ module _ {M : Type 1} {𝓤 : Ura M} (𝓛 : Logic 𝓤) (mem : Memory → SProp
   goes-16 a0 v0 a1 v1 a2 v2 a3 v3 i0 i1 i2 i3 =
       qed 𝓛 ([]) ∵ nothing ! $ owned ! u32 (Is u32) (uint_Makes 𝓛 w32) a3 _ i3 $ fjoin ! $ owned ! u32 (Is u32) (uint_Makes 𝓛 w32) a2 _ i2 $ fjoin ! $ owned ! u64 (Is u64) (uint_Makes 𝓛 w64) a1 _ i1 $ fjoin ! $ owned ! row-Walking030.the_row (Is row-Walking030.the_row) (LL.makes row-Walking030.the_type law-Walking030.the_plain 𝓛) a0 _ i0 $ fjoin ! $ nothing ! $ join ! $ frame ! $ done !
 
-  said-16 : (a0 : Walking030) (a1 : ℕ) (a2 : ℕ) (a3 : ℕ) (r : Walking030) → ent 𝓤 (ensured 𝓛 c16.ended (c16.clauses 𝓛 mem run) tt (a0, (a1, (a2, (a3, tt)))) tt r) (fact 𝓤 (r ≡ onwardOf a1 a0 a2 a3))
-  said-16 a0 a1 a2 a3 r = ex_e 𝓤 _ (λ ws. snd∗ 𝓤 (sem 𝓛 (lasts c16.ended tt (a0, (a1, (a2, (a3, tt)))) ws)) (fact 𝓤 (r ≡ onwardOf a1 a0 a2 a3)))
+  said-16 : (a0 : Walking030) (a1 : ℕ) (a2 : ℕ) (a3 : ℕ) (r : Walking030) → ent 𝓤 (ensured 𝓛 c16.ended (c16.clauses 𝓛 mem run) tt (a0, (a1, (a2, (a3, tt)))) tt r) (fact 𝓤 (r ≡ onward_of a1 a0 a2 a3))
+  said-16 a0 a1 a2 a3 r = ex_e 𝓤 _ (λ ws. snd∗ 𝓤 (sem 𝓛 (lasts c16.ended tt (a0, (a1, (a2, (a3, tt)))) ws)) (fact 𝓤 (r ≡ onward_of a1 a0 a2 a3)))
 
   -- the loop's variant: what is known at its head, of the locals that change, ordered by what is left
   abbrev Turn : Type 0
@@ -445,10 +445,10 @@ module _ {M : Type 1} {𝓤 : Ura M} (𝓛 : Logic 𝓤) (mem : Memory → SProp
       turns t =
           use0 𝓛 (raw ((C5 𝓛 mem run).pre (to-5 t.0.s (LL.val row-Walking030.the_type law-Walking030.the_laws t.0.s) x8 (vint w32 x8)))) (goes-5 t.0.s (LL.val row-Walking030.the_type law-Walking030.the_laws t.0.s) x8 (vint w32 x8) t.1.1.1.0 i8) $
           calls_at ! fm (C5 𝓛 mem run) known-5 (to-5 t.0.s (LL.val row-Walking030.the_type law-Walking030.the_laws t.0.s) x8 (vint w32 x8)) (and_then ! (load ! (from ! (stop !)) (look ! 12 refl)) (and_then ! (load ! (from ! (stop !)) (look ! 9 refl)) (no_more !))) (λ u22.
-          use1 𝓛 (later (some (λ (r : Bool). (‵ ftrue ⊛ ‵ (Boolean.own r (u22 ∷ []))) ⊛ raw (ensured 𝓛 c5.ended (c5.clauses 𝓛 mem run) tt (t.0.s, (x8, tt)) tt r)))) (id⊢ 𝓤 _) $ await ! tt $ choose ! (λ r23. split ! $ move ! (1 ∷ []) $ use1 𝓛 (raw (fact 𝓤 (r23 ≡ atLimit x8 t.0.s))) (said-5 t.0.s x8 r23) $ heard ! (r23 ≡ atLimit x8 t.0.s) (λ e24. split ! $
+          use1 𝓛 (later (some (λ (r : Bool). (‵ ftrue ⊛ ‵ (Boolean.own r (u22 ∷ []))) ⊛ raw (ensured 𝓛 c5.ended (c5.clauses 𝓛 mem run) tt (t.0.s, (x8, tt)) tt r)))) (id⊢ 𝓤 _) $ await ! tt $ choose ! (λ r23. split ! $ move ! (1 ∷ []) $ use1 𝓛 (raw (fact 𝓤 (r23 ≡ at_limit x8 t.0.s))) (said-5 t.0.s x8 r23) $ heard ! (r23 ≡ at_limit x8 t.0.s) (λ e24. split ! $
           drop ! $ facts ! Boolean (Is Boolean) (shows 𝓛 Boolean) r23 (u22 ∷ []) (λ is25. land ! (from ! (stop !)) (init ! 23 refl ((bool_Lawful 𝓛).typed r23 _ is25).0) $
           rewrite ! 23 (λ (u : Val). ‵ (fat full_share ty_bool l23 0 u)) (ap only (bool_Tells r23 _ is25)) refl $
-          leaves-if ! (load ! (from ! (stop !)) (look ! 23 refl))
+          leaves_if ! (load ! (from ! (stop !)) (look ! 23 refl))
           (λ h26. assigns ! (agg ! (and_then ! (lit ! tt) (no_more !))) (from ! (stop !)) (init ! 22 refl ((EL.lawful row-End.the_type law-End.the_laws 𝓛 tt).typed (variant-at row-End.enum 2 tt) _ (EL.owes row-End.the_type law-End.the_laws (variant-at row-End.enum 2 tt) tt)).0) $
           jumps ! $ exec ! C Λ En Rest (at_ret En Post) $
           assigns ! (of_opd ! (load ! (from ! (stop !)) (look ! 22 refl))) (from ! (stop !)) (init ! 12 refl ((EL.lawful row-End.the_type law-End.the_laws 𝓛 tt).typed (variant-at row-End.enum 2 tt) _ (EL.owes row-End.the_type law-End.the_laws (variant-at row-End.enum 2 tt) tt)).0) $
@@ -465,8 +465,8 @@ module _ {M : Type 1} {𝓤 : Ura M} (𝓛 : Logic 𝓤) (mem : Memory → SProp
           move ! (0 ∷ 14 ∷ []) $ free1 ! $ move ! (0 ∷ 13 ∷ []) $ free1 ! $ move ! (0 ∷ 12 ∷ []) $ free1 ! $ move ! (0 ∷ 11 ∷ []) $ free1 ! $ move ! (0 ∷ 10 ∷ []) $ free1 ! $
           move ! (0 ∷ 9 ∷ []) $ free1 ! $ move ! (0 ∷ 8 ∷ []) $ free1 ! $ move ! (0 ∷ 7 ∷ []) $ free1 ! $ move ! (0 ∷ 6 ∷ []) $ free1 ! $ move ! (0 ∷ 5 ∷ []) $ free1 ! $
           move ! (0 ∷ 4 ∷ []) $ free1 ! $ move ! (0 ∷ 3 ∷ []) $ free1 ! $ move ! (0 ∷ 2 ∷ []) $ free1 ! $ free1 ! $ free0 ! $ keep ! (0 ∷ 1 ∷ 2 ∷ 3 ∷ []) $
-          by ! (exits r28 (LL.val row-Walked.the_type law-Walked.the_laws r28) (subst (Is row-Walked.the_row r28) (LL.tells row-Walked.the_type law-Walked.the_laws r28 _ is30) is30) (law.ends-stop (memory x1.now x2 x3.now) x4 x5 x6 x7 x8 t.0 e24 h26 e29)))))))
-          (λ h26. use0 𝓛 (raw ((C7 𝓛 mem run).pre (to-7 t.0.s (LL.val row-Walking030.the_type law-Walking030.the_laws t.0.s) t.0.ws (only (array_vals (uint_vals w32) t.0.ws)) x6 (vint w32 x6) x7 (vint w32 x7)))) (goes-7 t.0.s (LL.val row-Walking030.the_type law-Walking030.the_laws t.0.s) t.0.ws (only (array_vals (uint_vals w32) t.0.ws)) x6 (vint w32 x6) x7 (vint w32 x7) t.1.1.1.0 t.1.0 i6 i7 (law.aim-asks (memory x1.now x2 x3.now) x4 x5 x6 x7 x8 t.0)) $
+          by ! (exits r28 (LL.val row-Walked.the_type law-Walked.the_laws r28) (subst (Is row-Walked.the_row r28) (LL.tells row-Walked.the_type law-Walked.the_laws r28 _ is30) is30) (law.ends_stop (memory x1.now x2 x3.now) x4 x5 x6 x7 x8 t.0 e24 h26 e29)))))))
+          (λ h26. use0 𝓛 (raw ((C7 𝓛 mem run).pre (to-7 t.0.s (LL.val row-Walking030.the_type law-Walking030.the_laws t.0.s) t.0.ws (only (array_vals (uint_vals w32) t.0.ws)) x6 (vint w32 x6) x7 (vint w32 x7)))) (goes-7 t.0.s (LL.val row-Walking030.the_type law-Walking030.the_laws t.0.s) t.0.ws (only (array_vals (uint_vals w32) t.0.ws)) x6 (vint w32 x6) x7 (vint w32 x7) t.1.1.1.0 t.1.0 i6 i7 (law.aim_asks (memory x1.now x2 x3.now) x4 x5 x6 x7 x8 t.0)) $
           calls_at ! fm (C7 𝓛 mem run) known-7 (to-7 t.0.s (LL.val row-Walking030.the_type law-Walking030.the_laws t.0.s) t.0.ws (only (array_vals (uint_vals w32) t.0.ws)) x6 (vint w32 x6) x7 (vint w32 x7)) (and_then ! (load ! (from ! (stop !)) (look ! 12 refl)) (and_then ! (load ! (from ! (stop !)) (look ! 10 refl)) (and_then ! (load ! (from ! (stop !)) (look ! 7 refl)) (and_then ! (load ! (from ! (stop !)) (look ! 8 refl)) (no_more !))))) (λ u31.
           use1 𝓛 (later (some (λ (r : Walking030). (‵ ftrue ⊛ ‵ ((row-Walking030.the_row).own_val r (u31 ∷ []))) ⊛ raw (ensured 𝓛 c7.ended (c7.clauses 𝓛 mem run) tt (t.0.s, (t.0.ws, (x6, (x7, tt)))) tt r)))) (id⊢ 𝓤 _) $ await ! tt $ choose ! (λ r32. split ! $ move ! (1 ∷ []) $ use1 𝓛 (raw (fact 𝓤 (r32 ≡ aim_of t.0.ws x6 x7 t.0.s))) (said-7 t.0.s t.0.ws x6 x7 r32) $ heard ! (r32 ≡ aim_of t.0.ws x6 x7 t.0.s) (λ e33. split ! $
           drop ! $
@@ -488,13 +488,13 @@ module _ {M : Type 1} {𝓤 : Ura M} (𝓛 : Logic 𝓤) (mem : Memory → SProp
           split ! $ move ! (56 ∷ 57 ∷ 2 ∷ 0 ∷ []) $ group ! 4 $
           use1 𝓛 (raw ((C10 𝓛 mem run).pre (to-10 x1 (slice_val x1.ref_ptr (length x1.now)) x2 (vint w32 x2) x3 (slice_val x3.ref_ptr (length x3.now)) r36 (vint w32 r36) r40 (vbool r40)))) (goes-10 x1 (slice_val x1.ref_ptr (length x1.now)) x2 (vint w32 x2) x3 (slice_val x3.ref_ptr (length x3.now)) r36 (vint w32 r36) r40 (vbool r40) i2 (subst (Is u32 r36) (uint_Tells w32 r36 _ is38) is38) (subst (Is Boolean r40) (bool_Tells r40 _ is42) is42)) $
           calls_at ! fm (C10 𝓛 mem run) known-10 (to-10 x1 (slice_val x1.ref_ptr (length x1.now)) x2 (vint w32 x2) x3 (slice_val x3.ref_ptr (length x3.now)) r36 (vint w32 r36) r40 (vbool r40)) (and_then ! (load ! (from ! (stop !)) (look ! 4 refl)) (and_then ! (load ! (from ! (stop !)) (look ! 5 refl)) (and_then ! (load ! (from ! (stop !)) (look ! 6 refl)) (and_then ! (load ! (from ! (stop !)) (look ! 16 refl)) (and_then ! (load ! (from ! (stop !)) (look ! 17 refl)) (no_more !)))))) (λ u43.
-          use1 𝓛 (later (some (λ (r : Descriptor). ((‵ (flft κ0 q0) ⊛ ‵ (flft κ1 q1) ⊛ ‵ ftrue) ⊛ ‵ ((row-Descriptor.the_row).own_val r (u43 ∷ []))) ⊛ raw (ensured 𝓛 c10.ended (c10.clauses 𝓛 mem run) (κ0, (κ1, tt)) (x1, (x2, (x3, (r36, (r40, tt))))) tt r)))) (id⊢ 𝓤 _) $ await ! tt $ choose ! (λ r44. split ! $ move ! (1 ∷ []) $ use1 𝓛 (raw (fact 𝓤 (r44 ≡ shownRead (read_of (memory x1.now x2 x3.now) r36 r40)))) (said-10 x1 x2 x3 r36 r40 r44) $ heard ! (r44 ≡ shownRead (read_of (memory x1.now x2 x3.now) r36 r40)) (λ e45. split ! $
+          use1 𝓛 (later (some (λ (r : Descriptor). ((‵ (flft κ0 q0) ⊛ ‵ (flft κ1 q1) ⊛ ‵ ftrue) ⊛ ‵ ((row-Descriptor.the_row).own_val r (u43 ∷ []))) ⊛ raw (ensured 𝓛 c10.ended (c10.clauses 𝓛 mem run) (κ0, (κ1, tt)) (x1, (x2, (x3, (r36, (r40, tt))))) tt r)))) (id⊢ 𝓤 _) $ await ! tt $ choose ! (λ r44. split ! $ move ! (1 ∷ []) $ use1 𝓛 (raw (fact 𝓤 (r44 ≡ shown_read (read_of (memory x1.now x2 x3.now) r36 r40)))) (said-10 x1 x2 x3 r36 r40 r44) $ heard ! (r44 ≡ shown_read (read_of (memory x1.now x2 x3.now) r36 r40)) (λ e45. split ! $
           split ! $ move ! (1 ∷ []) $ split ! $ move ! (1 ∷ []) $ drop ! $ move ! (2 ∷ []) $
           facts ! row-Descriptor.the_row (Is row-Descriptor.the_row) (shows 𝓛 row-Descriptor.the_row) r44 (u43 ∷ []) (λ is46. land ! (from ! (stop !)) (init ! 19 refl ((EL.lawful row-Descriptor.the_type law-Descriptor.the_laws 𝓛 tt).typed r44 _ is46).0) $
           rewrite ! 19 (λ (u : Val). ‵ (fat full_share law-Descriptor.mir l15 0 u)) (ap only (EL.tells row-Descriptor.the_type law-Descriptor.the_laws r44 _ is46)) refl $
-          use0 𝓛 (raw ((C11 𝓛 mem run).pre (to-11 r32 (LL.val row-Walking030.the_type law-Walking030.the_laws r32) t.0.n (vint w64 t.0.n) r44 (EL.val row-Descriptor.the_type law-Descriptor.the_laws r44)))) (goes-11 r32 (LL.val row-Walking030.the_type law-Walking030.the_laws r32) t.0.n (vint w64 t.0.n) r44 (EL.val row-Descriptor.the_type law-Descriptor.the_laws r44) (subst (Is row-Walking030.the_row r32) (LL.tells row-Walking030.the_type law-Walking030.the_laws r32 _ is34) is34) t.1.1.0 (subst (Is row-Descriptor.the_row r44) (EL.tells row-Descriptor.the_type law-Descriptor.the_laws r44 _ is46) is46) (law.seen-asks (memory x1.now x2 x3.now) x4 x5 x6 x7 x8 t.0 e24 h26 e33 e37 e41 e45)) $
+          use0 𝓛 (raw ((C11 𝓛 mem run).pre (to-11 r32 (LL.val row-Walking030.the_type law-Walking030.the_laws r32) t.0.n (vint w64 t.0.n) r44 (EL.val row-Descriptor.the_type law-Descriptor.the_laws r44)))) (goes-11 r32 (LL.val row-Walking030.the_type law-Walking030.the_laws r32) t.0.n (vint w64 t.0.n) r44 (EL.val row-Descriptor.the_type law-Descriptor.the_laws r44) (subst (Is row-Walking030.the_row r32) (LL.tells row-Walking030.the_type law-Walking030.the_laws r32 _ is34) is34) t.1.1.0 (subst (Is row-Descriptor.the_row r44) (EL.tells row-Descriptor.the_type law-Descriptor.the_laws r44 _ is46) is46) (law.seen_asks (memory x1.now x2 x3.now) x4 x5 x6 x7 x8 t.0 e24 h26 e33 e37 e41 e45)) $
           calls_at ! fm (C11 𝓛 mem run) known-11 (to-11 r32 (LL.val row-Walking030.the_type law-Walking030.the_laws r32) t.0.n (vint w64 t.0.n) r44 (EL.val row-Descriptor.the_type law-Descriptor.the_laws r44)) (and_then ! (load ! (from ! (stop !)) (look ! 16 refl)) (and_then ! (load ! (from ! (stop !)) (look ! 15 refl)) (and_then ! (load ! (from ! (stop !)) (look ! 20 refl)) (no_more !)))) (λ u47.
-          use1 𝓛 (later (some (λ (r : Walking030). (‵ ftrue ⊛ ‵ ((row-Walking030.the_row).own_val r (u47 ∷ []))) ⊛ raw (ensured 𝓛 c11.ended (c11.clauses 𝓛 mem run) tt (r32, (t.0.n, (r44, tt))) tt r)))) (id⊢ 𝓤 _) $ await ! tt $ choose ! (λ r48. split ! $ move ! (1 ∷ []) $ use1 𝓛 (raw (fact 𝓤 (r48 ≡ seenOf t.0.n r32 r44))) (said-11 r32 t.0.n r44 r48) $ heard ! (r48 ≡ seenOf t.0.n r32 r44) (λ e49. split ! $
+          use1 𝓛 (later (some (λ (r : Walking030). (‵ ftrue ⊛ ‵ ((row-Walking030.the_row).own_val r (u47 ∷ []))) ⊛ raw (ensured 𝓛 c11.ended (c11.clauses 𝓛 mem run) tt (r32, (t.0.n, (r44, tt))) tt r)))) (id⊢ 𝓤 _) $ await ! tt $ choose ! (λ r48. split ! $ move ! (1 ∷ []) $ use1 𝓛 (raw (fact 𝓤 (r48 ≡ seen_of t.0.n r32 r44))) (said-11 r32 t.0.n r44 r48) $ heard ! (r48 ≡ seen_of t.0.n r32 r44) (λ e49. split ! $
           drop ! $
           facts ! row-Walking030.the_row (Is row-Walking030.the_row) (shows 𝓛 row-Walking030.the_row) r48 (u47 ∷ []) (λ is50. land ! (from ! (stop !)) (store ! 15 refl ((LL.lawful row-Walking030.the_type law-Walking030.the_laws 𝓛).typed r48 _ is50).0) $
           rewrite ! 15 (λ (u : Val). ‵ (fat full_share law-Walking030.mir l11 0 u)) (ap only (LL.tells row-Walking030.the_type law-Walking030.the_laws r48 _ is50)) refl $
@@ -519,7 +519,7 @@ module _ {M : Type 1} {𝓤 : Ura M} (𝓛 : Logic 𝓤) (mem : Memory → SProp
                 move ! (4 ∷ 15 ∷ []) $ free1 ! $ move ! (4 ∷ 14 ∷ []) $ free1 ! $ move ! (4 ∷ 13 ∷ []) $ free1 ! $ move ! (4 ∷ 12 ∷ []) $ free1 ! $ move ! (4 ∷ 11 ∷ []) $ free1 ! $
                 move ! (4 ∷ 10 ∷ []) $ free1 ! $ move ! (4 ∷ 9 ∷ []) $ free1 ! $ move ! (4 ∷ 8 ∷ []) $ free1 ! $ move ! (4 ∷ 7 ∷ []) $ free1 ! $ move ! (4 ∷ 6 ∷ []) $ free1 ! $
                 move ! (4 ∷ 5 ∷ []) $ free1 ! $ free0 ! $ keep ! (1 ∷ 0 ∷ 3 ∷ 2 ∷ []) $
-                by ! (exits r55 (LL.val row-Walked.the_type law-Walked.the_laws r55) (subst (Is row-Walked.the_row r55) (LL.tells row-Walked.the_type law-Walked.the_laws r55 _ is57) is57) (law.ends-lost (memory x1.now x2 x3.now) x4 x5 x6 x7 x8 t.0 e24 h26 e33 e37 e41 e45 e49 e53 e56)))))))),
+                by ! (exits r55 (LL.val row-Walked.the_type law-Walked.the_laws r55) (subst (Is row-Walked.the_row r55) (LL.tells row-Walked.the_type law-Walked.the_laws r55 _ is57) is57) (law.ends_lost (memory x1.now x2 x3.now) x4 x5 x6 x7 x8 t.0 e24 h26 e33 e37 e41 e45 e49 e53 e56)))))))),
             (
               (λ tag58. as_variant (lives_at row-Descriptor.enum r44 0 tag58) (λ v59 e60.
                   rewrite ! 19 (λ (u : Descriptor). ‵ (fat full_share law-Descriptor.mir l15 0 (EL.val row-Descriptor.the_type law-Descriptor.the_laws u))) e60 refl $
@@ -530,7 +530,7 @@ module _ {M : Type 1} {𝓤 : Ura M} (𝓛 : Logic 𝓤) (mem : Memory → SProp
                   use1 𝓛 (later (some (λ (r : Bool). (‵ ftrue ⊛ ‵ (Boolean.own r (u61 ∷ []))) ⊛ raw (ensured 𝓛 c12.ended (c12.clauses 𝓛 mem run) tt (v59.0, tt) tt r)))) (id⊢ 𝓤 _) $ await ! tt $ choose ! (λ r62. split ! $ move ! (1 ∷ []) $ use1 𝓛 (raw (fact 𝓤 (r62 ≡ eqb v59.0 1))) (said-12 v59.0 r62) $ heard ! (r62 ≡ eqb v59.0 1) (λ e63. split ! $
                   drop ! $ facts ! Boolean (Is Boolean) (shows 𝓛 Boolean) r62 (u61 ∷ []) (λ is64. land ! (from ! (stop !)) (init ! 28 refl ((bool_Lawful 𝓛).typed r62 _ is64).0) $
                   rewrite ! 28 (λ (u : Val). ‵ (fat full_share ty_bool l24 0 u)) (ap only (bool_Tells r62 _ is64)) refl $
-                  leaves-if ! (load ! (from ! (stop !)) (look ! 28 refl))
+                  leaves_if ! (load ! (from ! (stop !)) (look ! 28 refl))
                   (λ h65. use0 𝓛 (raw ((C13 𝓛 mem run).pre (to-13 r48 (LL.val row-Walking030.the_type law-Walking030.the_laws r48)))) (goes-13 r48 (LL.val row-Walking030.the_type law-Walking030.the_laws r48) (subst (Is row-Walking030.the_row r48) (LL.tells row-Walking030.the_type law-Walking030.the_laws r48 _ is50) is50)) $
                   calls_at ! fm (C13 𝓛 mem run) known-13 (to-13 r48 (LL.val row-Walking030.the_type law-Walking030.the_laws r48)) (and_then ! (load ! (from ! (stop !)) (look ! 16 refl)) (no_more !)) (λ u66.
                   use1 𝓛 (later (some (λ (r : ℕ). (‵ ftrue ⊛ ‵ (u32.own_val r (u66 ∷ []))) ⊛ raw (ensured 𝓛 c13.ended (c13.clauses 𝓛 mem run) tt (r48, tt) tt r)))) (id⊢ 𝓤 _) $ await ! tt $ choose ! (λ r67. split ! $ move ! (1 ∷ []) $ use1 𝓛 (raw (fact 𝓤 (r67 ≡ r48.consumed))) (said-13 r48 r67) $ heard ! (r67 ≡ r48.consumed) (λ e68. split ! $
@@ -553,13 +553,13 @@ module _ {M : Type 1} {𝓤 : Ura M} (𝓛 : Logic 𝓤) (mem : Memory → SProp
                   move ! (4 ∷ 17 ∷ []) $ free1 ! $ move ! (4 ∷ 16 ∷ []) $ free1 ! $ move ! (4 ∷ 15 ∷ []) $ free1 ! $ move ! (4 ∷ 14 ∷ []) $ free1 ! $ move ! (4 ∷ 13 ∷ []) $ free1 ! $
                   move ! (4 ∷ 12 ∷ []) $ free1 ! $ move ! (4 ∷ 11 ∷ []) $ free1 ! $ move ! (4 ∷ 10 ∷ []) $ free1 ! $ move ! (4 ∷ 9 ∷ []) $ free1 ! $ move ! (4 ∷ 8 ∷ []) $ free1 ! $
                   move ! (4 ∷ 7 ∷ []) $ free1 ! $ move ! (4 ∷ 6 ∷ []) $ free1 ! $ move ! (4 ∷ 5 ∷ []) $ free1 ! $ free0 ! $ keep ! (1 ∷ 0 ∷ 3 ∷ 2 ∷ []) $
-                  by ! (exits r71 (LL.val row-Walked.the_type law-Walked.the_laws r71) (subst (Is row-Walked.the_row r71) (LL.tells row-Walked.the_type law-Walked.the_laws r71 _ is73) is73) (law.ends-page (memory x1.now x2 x3.now) x4 x5 x6 x7 x8 t.0 e24 h26 e33 e37 e41 e45 e49 e60 e63 h65 e68 e72)))))))))))
+                  by ! (exits r71 (LL.val row-Walked.the_type law-Walked.the_laws r71) (subst (Is row-Walked.the_row r71) (LL.tells row-Walked.the_type law-Walked.the_laws r71 _ is73) is73) (law.ends_page (memory x1.now x2 x3.now) x4 x5 x6 x7 x8 t.0 e24 h26 e33 e37 e41 e45 e49 e60 e63 h65 e68 e72)))))))))))
                   (λ h65. use0 𝓛 (raw ((C14 𝓛 mem run).pre (to-14 r48 (LL.val row-Walking030.the_type law-Walking030.the_laws r48) v59.0 (vint w32 v59.0)))) (goes-14 r48 (LL.val row-Walking030.the_type law-Walking030.the_laws r48) v59.0 (vint w32 v59.0) (subst (Is row-Walking030.the_row r48) (LL.tells row-Walking030.the_type law-Walking030.the_laws r48 _ is50) is50) (EL.owed row-Descriptor.the_type law-Descriptor.the_laws (variant-at row-Descriptor.enum 0 v59) (EL.val row-Descriptor.the_type law-Descriptor.the_laws (variant-at row-Descriptor.enum 0 v59) ∷ []) (subst (λ (u : Descriptor). Is row-Descriptor.the_row u (EL.val row-Descriptor.the_type law-Descriptor.the_laws u ∷ [])) e60 (subst (Is row-Descriptor.the_row r44) (EL.tells row-Descriptor.the_type law-Descriptor.the_laws r44 _ is46) is46))).0) $
                   calls_at ! fm (C14 𝓛 mem run) known-14 (to-14 r48 (LL.val row-Walking030.the_type law-Walking030.the_laws r48) v59.0 (vint w32 v59.0)) (and_then ! (load ! (from ! (stop !)) (look ! 16 refl)) (and_then ! (load ! (from ! (stop !)) (look ! 22 refl)) (no_more !))) (λ u74.
                   use1 𝓛 (later (some (λ (r : Bool). (‵ ftrue ⊛ ‵ (Boolean.own r (u74 ∷ []))) ⊛ raw (ensured 𝓛 c14.ended (c14.clauses 𝓛 mem run) tt (r48, (v59.0, tt)) tt r)))) (id⊢ 𝓤 _) $ await ! tt $ choose ! (λ r75. split ! $ move ! (1 ∷ []) $ use1 𝓛 (raw (fact 𝓤 (r75 ≡ by_kind v59.0 true false r48.target))) (said-14 r48 v59.0 r75) $ heard ! (r75 ≡ by_kind v59.0 true false r48.target) (λ e76. split ! $
                   drop ! $ facts ! Boolean (Is Boolean) (shows 𝓛 Boolean) r75 (u74 ∷ []) (λ is77. land ! (from ! (stop !)) (init ! 29 refl ((bool_Lawful 𝓛).typed r75 _ is77).0) $
                   rewrite ! 29 (λ (u : Val). ‵ (fat full_share ty_bool l25 0 u)) (ap only (bool_Tells r75 _ is77)) refl $
-                  leaves-if ! (load ! (from ! (stop !)) (look ! 29 refl))
+                  leaves_if ! (load ! (from ! (stop !)) (look ! 29 refl))
                   (λ h78. use0 𝓛 (raw ((C15 𝓛 mem run).pre (to-15 r48 (LL.val row-Walking030.the_type law-Walking030.the_laws r48)))) (goes-15 r48 (LL.val row-Walking030.the_type law-Walking030.the_laws r48) (subst (Is row-Walking030.the_row r48) (LL.tells row-Walking030.the_type law-Walking030.the_laws r48 _ is50) is50)) $
                   calls_at ! fm (C15 𝓛 mem run) known-15 (to-15 r48 (LL.val row-Walking030.the_type law-Walking030.the_laws r48)) (and_then ! (load ! (from ! (stop !)) (look ! 16 refl)) (no_more !)) (λ u79.
                   use1 𝓛 (later (some (λ (r : Bool). (‵ ftrue ⊛ ‵ (Boolean.own r (u79 ∷ []))) ⊛ raw (ensured 𝓛 c15.ended (c15.clauses 𝓛 mem run) tt (r48, tt) tt r)))) (id⊢ 𝓤 _) $ await ! tt $ choose ! (λ r80. split ! $ move ! (1 ∷ []) $ use1 𝓛 (raw (fact 𝓤 (r80 ≡ r48.target))) (said-15 r48 r80) $ heard ! (r80 ≡ r48.target) (λ e81. split ! $
@@ -582,10 +582,10 @@ module _ {M : Type 1} {𝓤 : Ura M} (𝓛 : Logic 𝓤) (mem : Memory → SProp
                   move ! (4 ∷ 18 ∷ []) $ free1 ! $ move ! (4 ∷ 17 ∷ []) $ free1 ! $ move ! (4 ∷ 16 ∷ []) $ free1 ! $ move ! (4 ∷ 15 ∷ []) $ free1 ! $ move ! (4 ∷ 14 ∷ []) $ free1 ! $
                   move ! (4 ∷ 13 ∷ []) $ free1 ! $ move ! (4 ∷ 12 ∷ []) $ free1 ! $ move ! (4 ∷ 11 ∷ []) $ free1 ! $ move ! (4 ∷ 10 ∷ []) $ free1 ! $ move ! (4 ∷ 9 ∷ []) $ free1 ! $
                   move ! (4 ∷ 8 ∷ []) $ free1 ! $ move ! (4 ∷ 7 ∷ []) $ free1 ! $ move ! (4 ∷ 6 ∷ []) $ free1 ! $ move ! (4 ∷ 5 ∷ []) $ free1 ! $ free0 ! $ keep ! (1 ∷ 0 ∷ 3 ∷ 2 ∷ []) $
-                  by ! (exits r84 (LL.val row-Walked.the_type law-Walked.the_laws r84) (subst (Is row-Walked.the_row r84) (LL.tells row-Walked.the_type law-Walked.the_laws r84 _ is86) is86) (law.ends-invalid (memory x1.now x2 x3.now) x4 x5 x6 x7 x8 t.0 e24 h26 e33 e37 e41 e45 e49 e60 e63 h65 e76 h78 e81 e85)))))))))))
+                  by ! (exits r84 (LL.val row-Walked.the_type law-Walked.the_laws r84) (subst (Is row-Walked.the_row r84) (LL.tells row-Walked.the_type law-Walked.the_laws r84 _ is86) is86) (law.ends_invalid (memory x1.now x2 x3.now) x4 x5 x6 x7 x8 t.0 e24 h26 e33 e37 e41 e45 e49 e60 e63 h65 e76 h78 e81 e85)))))))))))
                   (λ h78. use0 𝓛 (raw ((C16 𝓛 mem run).pre (to-16 r48 (LL.val row-Walking030.the_type law-Walking030.the_laws r48) t.0.n (vint w64 t.0.n) v59.0 (vint w32 v59.0) v59.1.0 (vint w32 v59.1.0)))) (goes-16 r48 (LL.val row-Walking030.the_type law-Walking030.the_laws r48) t.0.n (vint w64 t.0.n) v59.0 (vint w32 v59.0) v59.1.0 (vint w32 v59.1.0) (subst (Is row-Walking030.the_row r48) (LL.tells row-Walking030.the_type law-Walking030.the_laws r48 _ is50) is50) t.1.1.0 (EL.owed row-Descriptor.the_type law-Descriptor.the_laws (variant-at row-Descriptor.enum 0 v59) (EL.val row-Descriptor.the_type law-Descriptor.the_laws (variant-at row-Descriptor.enum 0 v59) ∷ []) (subst (λ (u : Descriptor). Is row-Descriptor.the_row u (EL.val row-Descriptor.the_type law-Descriptor.the_laws u ∷ [])) e60 (subst (Is row-Descriptor.the_row r44) (EL.tells row-Descriptor.the_type law-Descriptor.the_laws r44 _ is46) is46))).0 (EL.owed row-Descriptor.the_type law-Descriptor.the_laws (variant-at row-Descriptor.enum 0 v59) (EL.val row-Descriptor.the_type law-Descriptor.the_laws (variant-at row-Descriptor.enum 0 v59) ∷ []) (subst (λ (u : Descriptor). Is row-Descriptor.the_row u (EL.val row-Descriptor.the_type law-Descriptor.the_laws u ∷ [])) e60 (subst (Is row-Descriptor.the_row r44) (EL.tells row-Descriptor.the_type law-Descriptor.the_laws r44 _ is46) is46))).1.0) $
                   calls_at_last ! fm (C16 𝓛 mem run) known-16 (to-16 r48 (LL.val row-Walking030.the_type law-Walking030.the_laws r48) t.0.n (vint w64 t.0.n) v59.0 (vint w32 v59.0) v59.1.0 (vint w32 v59.1.0)) (and_then ! (load ! (from ! (stop !)) (look ! 16 refl)) (and_then ! (load ! (from ! (stop !)) (look ! 15 refl)) (and_then ! (load ! (from ! (stop !)) (look ! 22 refl)) (and_then ! (load ! (from ! (stop !)) (look ! 23 refl)) (no_more !))))) (λ u87.
-                  use1 𝓛 (later (some (λ (r : Walking030). (‵ ftrue ⊛ ‵ ((row-Walking030.the_row).own_val r (u87 ∷ []))) ⊛ raw (ensured 𝓛 c16.ended (c16.clauses 𝓛 mem run) tt (r48, (t.0.n, (v59.0, (v59.1.0, tt)))) tt r)))) (id⊢ 𝓤 _) $ await ! tt $ choose ! (λ r88. split ! $ move ! (1 ∷ []) $ use1 𝓛 (raw (fact 𝓤 (r88 ≡ onwardOf t.0.n r48 v59.0 v59.1.0))) (said-16 r48 t.0.n v59.0 v59.1.0 r88) $ heard ! (r88 ≡ onwardOf t.0.n r48 v59.0 v59.1.0) (λ e89. split ! $
+                  use1 𝓛 (later (some (λ (r : Walking030). (‵ ftrue ⊛ ‵ ((row-Walking030.the_row).own_val r (u87 ∷ []))) ⊛ raw (ensured 𝓛 c16.ended (c16.clauses 𝓛 mem run) tt (r48, (t.0.n, (v59.0, (v59.1.0, tt)))) tt r)))) (id⊢ 𝓤 _) $ await ! tt $ choose ! (λ r88. split ! $ move ! (1 ∷ []) $ use1 𝓛 (raw (fact 𝓤 (r88 ≡ onward_of t.0.n r48 v59.0 v59.1.0))) (said-16 r48 t.0.n v59.0 v59.1.0 r88) $ heard ! (r88 ≡ onward_of t.0.n r48 v59.0 v59.1.0) (λ e89. split ! $
                   drop ! $
                   facts ! row-Walking030.the_row (Is row-Walking030.the_row) (shows 𝓛 row-Walking030.the_row) r88 (u87 ∷ []) (λ is90. land_last ! (from ! (stop !)) (store ! 15 refl ((LL.lawful row-Walking030.the_type law-Walking030.the_laws 𝓛).typed r88 _ is90).0) $
                   rewrite ! 15 (λ (u : Val). ‵ (fat full_share law-Walking030.mir l11 0 u)) (ap only (LL.tells row-Walking030.the_type law-Walking030.the_laws r88 _ is90)) refl $
@@ -608,7 +608,7 @@ module _ {M : Type 1} {𝓤 : Ura M} (𝓛 : Logic 𝓤) (mem : Memory → SProp
         drop ! $ fsplit ! $ drop ! $ drop ! $ move ! (54 ∷ []) $ split ! $ move ! (1 ∷ []) $ split ! $ move ! (1 ∷ []) $ drop ! $
         use0 𝓛 (raw ((C0 𝓛 mem run).pre (to-0 x4 (vint w32 x4)))) (goes-0 x4 (vint w32 x4) i4) $
         calls_at ! fm (C0 𝓛 mem run) known-0 (to-0 x4 (vint w32 x4)) (and_then ! (load ! (from ! (stop !)) (look ! 47 refl)) (no_more !)) (λ u1.
-        use1 𝓛 (later (some (λ (r : List ℕ). (‵ ftrue ⊛ ‵ ((Array u32 4).own_val r (u1 ∷ []))) ⊛ raw (ensured 𝓛 c0.ended (c0.clauses 𝓛 mem run) tt (x4, tt) tt r)))) (id⊢ 𝓤 _) $ await ! tt $ choose ! (λ r2. split ! $ move ! (1 ∷ []) $ use1 𝓛 (raw (fact 𝓤 (r2 ≡ widthsOf x4))) (said-0 x4 r2) $ heard ! (r2 ≡ widthsOf x4) (λ e3. split ! $
+        use1 𝓛 (later (some (λ (r : List ℕ). (‵ ftrue ⊛ ‵ ((Array u32 4).own_val r (u1 ∷ []))) ⊛ raw (ensured 𝓛 c0.ended (c0.clauses 𝓛 mem run) tt (x4, tt) tt r)))) (id⊢ 𝓤 _) $ await ! tt $ choose ! (λ r2. split ! $ move ! (1 ∷ []) $ use1 𝓛 (raw (fact 𝓤 (r2 ≡ widths_of x4))) (said-0 x4 r2) $ heard ! (r2 ≡ widths_of x4) (λ e3. split ! $
         drop ! $
         facts ! (Array u32 4) (Is (Array u32 4)) (shows 𝓛 (Array u32 4)) r2 (u1 ∷ []) (λ is4. land ! (from ! (stop !)) (init ! 36 refl ((Array-Lawful 𝓛 u32 (uint_Lawful 𝓛 w32) 4).typed r2 _ is4).0) $
         rewrite ! 36 (λ (u : Val). ‵ (fat full_share (ty_array (ty_int w32) 4) l9 0 u)) (ap only (Array-Tells u32 (uint_vals w32) (uint_Tells w32) 4 r2 _ is4)) refl $
@@ -619,13 +619,13 @@ module _ {M : Type 1} {𝓤 : Ura M} (𝓛 : Logic 𝓤) (mem : Memory → SProp
         rewrite ! 34 (λ (u : Val). ‵ (fat full_share (ty_int w64) l10 0 u)) (ap only (uint_Tells w64 r6 _ is8)) refl $
         use0 𝓛 (raw ((C2 𝓛 mem run).pre (to-2 x4 (vint w32 x4) x5 (LL.val row-Root.the_type law-Root.the_laws x5) r6 (vint w64 r6)))) (goes-2 x4 (vint w32 x4) x5 (LL.val row-Root.the_type law-Root.the_laws x5) r6 (vint w64 r6) i4 i5 (subst (Is u64 r6) (uint_Tells w64 r6 _ is8) is8)) $
         calls_at ! fm (C2 𝓛 mem run) known-2 (to-2 x4 (vint w32 x4) x5 (LL.val row-Root.the_type law-Root.the_laws x5) r6 (vint w64 r6)) (and_then ! (load ! (from ! (stop !)) (look ! 47 refl)) (and_then ! (load ! (from ! (stop !)) (look ! 45 refl)) (and_then ! (load ! (from ! (stop !)) (look ! 35 refl)) (no_more !)))) (λ u9.
-        use1 𝓛 (later (some (λ (r : Bool). (‵ ftrue ⊛ ‵ (Boolean.own r (u9 ∷ []))) ⊛ raw (ensured 𝓛 c2.ended (c2.clauses 𝓛 mem run) tt (x4, (x5, (r6, tt))) tt r)))) (id⊢ 𝓤 _) $ await ! tt $ choose ! (λ r10. split ! $ move ! (1 ∷ []) $ use1 𝓛 (raw (fact 𝓤 (r10 ≡ noWalk (x5.limit % 4) r6 (bit_of x4 24)))) (said-2 x4 x5 r6 r10) $ heard ! (r10 ≡ noWalk (x5.limit % 4) r6 (bit_of x4 24)) (λ e11. split ! $
+        use1 𝓛 (later (some (λ (r : Bool). (‵ ftrue ⊛ ‵ (Boolean.own r (u9 ∷ []))) ⊛ raw (ensured 𝓛 c2.ended (c2.clauses 𝓛 mem run) tt (x4, (x5, (r6, tt))) tt r)))) (id⊢ 𝓤 _) $ await ! tt $ choose ! (λ r10. split ! $ move ! (1 ∷ []) $ use1 𝓛 (raw (fact 𝓤 (r10 ≡ no_walk (x5.limit % 4) r6 (bit_of x4 24)))) (said-2 x4 x5 r6 r10) $ heard ! (r10 ≡ no_walk (x5.limit % 4) r6 (bit_of x4 24)) (λ e11. split ! $
         drop ! $ facts ! Boolean (Is Boolean) (shows 𝓛 Boolean) r10 (u9 ∷ []) (λ is12. land ! (from ! (stop !)) (init ! 12 refl ((bool_Lawful 𝓛).typed r10 _ is12).0) $
         rewrite ! 12 (λ (u : Val). ‵ (fat full_share ty_bool l21 0 u)) (ap only (bool_Tells r10 _ is12)) refl $
-        leaves-if ! (load ! (from ! (stop !)) (look ! 12 refl))
+        leaves_if ! (load ! (from ! (stop !)) (look ! 12 refl))
         (λ h13. use0 𝓛 (raw ((C3 𝓛 mem run).pre (to-3 x5 (LL.val row-Root.the_type law-Root.the_laws x5)))) (goes-3 x5 (LL.val row-Root.the_type law-Root.the_laws x5) i5) $
         calls_at ! fm (C3 𝓛 mem run) known-3 (to-3 x5 (LL.val row-Root.the_type law-Root.the_laws x5)) (and_then ! (load ! (from ! (stop !)) (look ! 45 refl)) (no_more !)) (λ u14.
-        use1 𝓛 (later (some (λ (r : Walked). (‵ ftrue ⊛ ‵ ((row-Walked.the_row).own_val r (u14 ∷ []))) ⊛ raw (ensured 𝓛 c3.ended (c3.clauses 𝓛 mem run) tt (x5, tt) tt r)))) (id⊢ 𝓤 _) $ await ! tt $ choose ! (λ r15. split ! $ move ! (1 ∷ []) $ use1 𝓛 (raw (fact 𝓤 (r15 ≡ misconfiguredOf x5))) (said-3 x5 r15) $ heard ! (r15 ≡ misconfiguredOf x5) (λ e16. split ! $
+        use1 𝓛 (later (some (λ (r : Walked). (‵ ftrue ⊛ ‵ ((row-Walked.the_row).own_val r (u14 ∷ []))) ⊛ raw (ensured 𝓛 c3.ended (c3.clauses 𝓛 mem run) tt (x5, tt) tt r)))) (id⊢ 𝓤 _) $ await ! tt $ choose ! (λ r15. split ! $ move ! (1 ∷ []) $ use1 𝓛 (raw (fact 𝓤 (r15 ≡ misconfigured_of x5))) (said-3 x5 r15) $ heard ! (r15 ≡ misconfigured_of x5) (λ e16. split ! $
         drop ! $
         facts ! row-Walked.the_row (Is row-Walked.the_row) (shows 𝓛 row-Walked.the_row) r15 (u14 ∷ []) (λ is17. land ! (from ! (stop !)) (init ! 54 refl ((LL.lawful row-Walked.the_type law-Walked.the_laws 𝓛).typed r15 _ is17).0) $
         rewrite ! 54 (λ (u : Val). ‵ (fat full_share law-Walked.mir l0 0 u)) (ap only (LL.tells row-Walked.the_type law-Walked.the_laws r15 _ is17)) refl $
@@ -637,11 +637,11 @@ module _ {M : Type 1} {𝓤 : Ura M} (𝓛 : Logic 𝓤) (mem : Memory → SProp
         free1 ! $ move ! (20 ∷ 21 ∷ []) $ free1 ! $ move ! (18 ∷ 19 ∷ []) $ free1 ! $ move ! (16 ∷ 17 ∷ []) $ free1 ! $ move ! (14 ∷ 15 ∷ []) $ free1 ! $ move ! (12 ∷ 13 ∷ []) $
         free1 ! $ move ! (10 ∷ 11 ∷ []) $ free1 ! $ move ! (8 ∷ 9 ∷ []) $ free1 ! $ move ! (6 ∷ 7 ∷ []) $ free1 ! $ move ! (4 ∷ 5 ∷ []) $ free1 ! $ free0 ! $
         keep ! (1 ∷ 0 ∷ 3 ∷ 2 ∷ []) $
-        by ! (exits r15 (LL.val row-Walked.the_type law-Walked.the_laws r15) (subst (Is row-Walked.the_row r15) (LL.tells row-Walked.the_type law-Walked.the_laws r15 _ is17) is17) (law.ends-config (memory x1.now x2 x3.now) x4 x5 x6 x7 x8 e3 e7 e11 h13 e16)))))))
+        by ! (exits r15 (LL.val row-Walked.the_type law-Walked.the_laws r15) (subst (Is row-Walked.the_row r15) (LL.tells row-Walked.the_type law-Walked.the_laws r15 _ is17) is17) (law.ends_config (memory x1.now x2 x3.now) x4 x5 x6 x7 x8 e3 e7 e11 h13 e16)))))))
         (λ h13.
         use0 𝓛 (raw ((C4 𝓛 mem run).pre (to-4 x4 (vint w32 x4) x5 (LL.val row-Root.the_type law-Root.the_laws x5)))) (goes-4 x4 (vint w32 x4) x5 (LL.val row-Root.the_type law-Root.the_laws x5) i4 i5) $
         calls_at ! fm (C4 𝓛 mem run) known-4 (to-4 x4 (vint w32 x4) x5 (LL.val row-Root.the_type law-Root.the_laws x5)) (and_then ! (load ! (from ! (stop !)) (look ! 47 refl)) (and_then ! (load ! (from ! (stop !)) (look ! 45 refl)) (no_more !))) (λ u18.
-        use1 𝓛 (later (some (λ (r : Walking030). (‵ ftrue ⊛ ‵ ((row-Walking030.the_row).own_val r (u18 ∷ []))) ⊛ raw (ensured 𝓛 c4.ended (c4.clauses 𝓛 mem run) tt (x4, (x5, tt)) tt r)))) (id⊢ 𝓤 _) $ await ! tt $ choose ! (λ r19. split ! $ move ! (1 ∷ []) $ use1 𝓛 (raw (fact 𝓤 (r19 ≡ beginOf x4 x5))) (said-4 x4 x5 r19) $ heard ! (r19 ≡ beginOf x4 x5) (λ e20. split ! $
+        use1 𝓛 (later (some (λ (r : Walking030). (‵ ftrue ⊛ ‵ ((row-Walking030.the_row).own_val r (u18 ∷ []))) ⊛ raw (ensured 𝓛 c4.ended (c4.clauses 𝓛 mem run) tt (x4, (x5, tt)) tt r)))) (id⊢ 𝓤 _) $ await ! tt $ choose ! (λ r19. split ! $ move ! (1 ∷ []) $ use1 𝓛 (raw (fact 𝓤 (r19 ≡ begin_of x4 x5))) (said-4 x4 x5 r19) $ heard ! (r19 ≡ begin_of x4 x5) (λ e20. split ! $
         drop ! $
         facts ! row-Walking030.the_row (Is row-Walking030.the_row) (shows 𝓛 row-Walking030.the_row) r19 (u18 ∷ []) (λ is21. land ! (from ! (stop !)) (init ! 32 refl ((LL.lawful row-Walking030.the_type law-Walking030.the_laws 𝓛).typed r19 _ is21).0) $
         rewrite ! 32 (λ (u : Val). ‵ (fat full_share law-Walking030.mir l11 0 u)) (ap only (LL.tells row-Walking030.the_type law-Walking030.the_laws r19 _ is21)) refl $

@@ -38,9 +38,9 @@ use denote.Triple.Clauses.{ensured, lasts}
 use denote.Exit.{yes}
 use Rattle.walk040.proofs.Driving as law
 use Rattle.definition.specs.Memory.{memory}
-use Rattle.definition.specs.Walk040.{rootAt, walk040}
+use Rattle.definition.specs.Walk040.{root_at, walk040}
 use Rattle.walk040.specs.Walked.{shown040}
-use Rattle.definition.specs.Walk040.{walk040From}
+use Rattle.definition.specs.Walk040.{walk040_from}
 use Rattle.definition.specs.declared.Range.{Range}
 use Rattle.definition.specs.contracts.Range as row-Range
 use Rattle.definition.specs.declared.Registers.{Registers}
@@ -113,8 +113,8 @@ module _ {M : Type 1} {𝓤 : Ura M} (𝓛 : Logic 𝓤) (mem : Memory → SProp
   goes-1 a0 v0 a1 v1 a2 v2 i0 i1 i2 =
       qed 𝓛 ([]) ∵ nothing ! $ owned ! u32 (Is u32) (uint_Makes 𝓛 w32) a2 _ i2 $ fjoin ! $ owned ! Boolean (Is Boolean) (bool_Makes 𝓛) a1 _ i1 $ fjoin ! $ owned ! row-Registers.the_row (Is row-Registers.the_row) (LL.makes row-Registers.the_type law-Registers.the_plain 𝓛) a0 _ i0 $ fjoin ! $ nothing ! $ join ! $ frame ! $ done !
 
-  said-1 : (a0 : Registers) (a1 : Bool) (a2 : ℕ) (r : ℕ) → ent 𝓤 (ensured 𝓛 c1.ended (c1.clauses 𝓛 mem run) tt (a0, (a1, (a2, tt))) tt r) (fact 𝓤 (r ≡ rootAt a0 a1 a2))
-  said-1 a0 a1 a2 r = ex_e 𝓤 _ (λ ws. snd∗ 𝓤 (sem 𝓛 (lasts c1.ended tt (a0, (a1, (a2, tt))) ws)) (fact 𝓤 (r ≡ rootAt a0 a1 a2)))
+  said-1 : (a0 : Registers) (a1 : Bool) (a2 : ℕ) (r : ℕ) → ent 𝓤 (ensured 𝓛 c1.ended (c1.clauses 𝓛 mem run) tt (a0, (a1, (a2, tt))) tt r) (fact 𝓤 (r ≡ root_at a0 a1 a2))
+  said-1 a0 a1 a2 r = ex_e 𝓤 _ (λ ws. snd∗ 𝓤 (sem 𝓛 (lasts c1.ended tt (a0, (a1, (a2, tt))) ws)) (fact 𝓤 (r ≡ root_at a0 a1 a2)))
 
   -- the call of `walk_040`: what it is passed, what it asks, and what is known of its result
   abbrev to-2 : (a0 : Bor (List ℕ)) (v0 : Val) (a1 : ℕ) (v1 : Val) (a2 : Bor (List Range)) (v2 : Val) (a3 : ℕ) (v3 : Val) (a4 : ℕ) (v4 : Val) (a5 : ℕ) (v5 : Val) → (C2 𝓛 mem run).Ghost
@@ -124,8 +124,8 @@ module _ {M : Type 1} {𝓤 : Ura M} (𝓛 : Logic 𝓤) (mem : Memory → SProp
   goes-2 a0 v0 a1 v1 a2 v2 a3 v3 a4 v4 a5 v5 i1 i3 i4 i5 =
       qed 𝓛 (‵ (flft κ0 q0) ∷ ‵ (flft κ1 q1) ∷ ‵ ((ShrSlice (named 0) κ0 u32).own_val a0 (v0 ∷ [])) ∷ ‵ ((ShrSlice (named 1) κ1 row-Range.the_row).own_val a2 (v2 ∷ [])) ∷ []) ∵ nothing ! $ owned ! u32 (Is u32) (uint_Makes 𝓛 w32) a5 _ i5 $ fjoin ! $ owned ! u32 (Is u32) (uint_Makes 𝓛 w32) a4 _ i4 $ fjoin ! $ owned ! u32 (Is u32) (uint_Makes 𝓛 w32) a3 _ i3 $ fjoin ! $ move ! (4 ∷ 0 ∷ []) $ fjoin ! $ owned ! u32 (Is u32) (uint_Makes 𝓛 w32) a1 _ i1 $ fjoin ! $ move ! (3 ∷ 0 ∷ []) $ fjoin ! $ nothing ! $ move ! (3 ∷ 0 ∷ []) $ join ! $ move ! (2 ∷ 0 ∷ []) $ join ! $ join ! $ frame ! $ done !
 
-  said-2 : (a0 : Bor (List ℕ)) (a1 : ℕ) (a2 : Bor (List Range)) (a3 : ℕ) (a4 : ℕ) (a5 : ℕ) (r : Walked040) → ent 𝓤 (ensured 𝓛 c2.ended (c2.clauses 𝓛 mem run) (κ0, (κ1, tt)) (a0, (a1, (a2, (a3, (a4, (a5, tt)))))) tt r) (fact 𝓤 (r ≡ shown040 (walk040From (memory a0.now a1 a2.now) a3 a4 a5)))
-  said-2 a0 a1 a2 a3 a4 a5 r = ex_e 𝓤 _ (λ ws. snd∗ 𝓤 (sem 𝓛 (lasts c2.ended (κ0, (κ1, tt)) (a0, (a1, (a2, (a3, (a4, (a5, tt)))))) ws)) (fact 𝓤 (r ≡ shown040 (walk040From (memory a0.now a1 a2.now) a3 a4 a5))))
+  said-2 : (a0 : Bor (List ℕ)) (a1 : ℕ) (a2 : Bor (List Range)) (a3 : ℕ) (a4 : ℕ) (a5 : ℕ) (r : Walked040) → ent 𝓤 (ensured 𝓛 c2.ended (c2.clauses 𝓛 mem run) (κ0, (κ1, tt)) (a0, (a1, (a2, (a3, (a4, (a5, tt)))))) tt r) (fact 𝓤 (r ≡ shown040 (walk040_from (memory a0.now a1 a2.now) a3 a4 a5)))
+  said-2 a0 a1 a2 a3 a4 a5 r = ex_e 𝓤 _ (λ ws. snd∗ 𝓤 (sem 𝓛 (lasts c2.ended (κ0, (κ1, tt)) (a0, (a1, (a2, (a3, (a4, (a5, tt)))))) ws)) (fact 𝓤 (r ≡ shown040 (walk040_from (memory a0.now a1 a2.now) a3 a4 a5))))
 
   module _ (𝓣 : Tables 𝓤 H) (known-0 : Triple 𝓤 (𝓣.C #memory·registers·tc-of) (C0 𝓛 mem run)) (known-1 : Triple 𝓤 (𝓣.C #walk040·root-at) (C1 𝓛 mem run)) (known-2 : Triple 𝓤 (𝓣.C #walk040·walk-040) (C2 𝓛 mem run)) where
     abbrev C : Calls 𝓤 H
@@ -151,7 +151,7 @@ module _ {M : Type 1} {𝓤 : Ura M} (𝓛 : Logic 𝓤) (mem : Memory → SProp
         rewrite ! 6 (λ (u : Val). ‵ (fat full_share (ty_int w32) l7 0 u)) (ap only (uint_Tells w32 r2 _ is4)) refl $
         use0 𝓛 (raw ((C1 𝓛 mem run).pre (to-1 x4 (LL.val row-Registers.the_type law-Registers.the_laws x4) x6 (vbool x6) x5 (vint w32 x5)))) (goes-1 x4 (LL.val row-Registers.the_type law-Registers.the_laws x4) x6 (vbool x6) x5 (vint w32 x5) i4 i6 i5) $
         calls_at ! fm (C1 𝓛 mem run) known-1 (to-1 x4 (LL.val row-Registers.the_type law-Registers.the_laws x4) x6 (vbool x6) x5 (vint w32 x5)) (and_then ! (load ! (from ! (stop !)) (look ! 13 refl)) (and_then ! (load ! (from ! (stop !)) (look ! 9 refl)) (and_then ! (load ! (from ! (stop !)) (look ! 11 refl)) (no_more !)))) (λ u5.
-        use1 𝓛 (later (some (λ (r : ℕ). (‵ ftrue ⊛ ‵ (u32.own_val r (u5 ∷ []))) ⊛ raw (ensured 𝓛 c1.ended (c1.clauses 𝓛 mem run) tt (x4, (x6, (x5, tt))) tt r)))) (id⊢ 𝓤 _) $ await ! tt $ choose ! (λ r6. split ! $ move ! (1 ∷ []) $ use1 𝓛 (raw (fact 𝓤 (r6 ≡ rootAt x4 x6 x5))) (said-1 x4 x6 x5 r6) $ heard ! (r6 ≡ rootAt x4 x6 x5) (λ e7. split ! $
+        use1 𝓛 (later (some (λ (r : ℕ). (‵ ftrue ⊛ ‵ (u32.own_val r (u5 ∷ []))) ⊛ raw (ensured 𝓛 c1.ended (c1.clauses 𝓛 mem run) tt (x4, (x6, (x5, tt))) tt r)))) (id⊢ 𝓤 _) $ await ! tt $ choose ! (λ r6. split ! $ move ! (1 ∷ []) $ use1 𝓛 (raw (fact 𝓤 (r6 ≡ root_at x4 x6 x5))) (said-1 x4 x6 x5 r6) $ heard ! (r6 ≡ root_at x4 x6 x5) (λ e7. split ! $
         drop ! $ facts ! u32 (Is u32) (shows 𝓛 u32) r6 (u5 ∷ []) (λ is8. land ! (from ! (stop !)) (init ! 4 refl ((uint_Lawful 𝓛 w32).typed r6 _ is8).0) $
         rewrite ! 4 (λ (u : Val). ‵ (fat full_share (ty_int w32) l8 0 u)) (ap only (uint_Tells w32 r6 _ is8)) refl $ move ! (3 ∷ []) $
         use1 𝓛 (‵ ((ShrSlice (named 0) κ0 u32).own_val x1 (slice_val x1.ref_ptr (length x1.now) ∷ [])) ⊛ ‵ ((ShrSlice (named 0) κ0 u32).own_val x1 (slice_val x1.ref_ptr (length x1.now) ∷ []))) ((shr_slice_copy 𝓛 (named 0) κ0 u32).twice x1 _) $
@@ -160,7 +160,7 @@ module _ {M : Type 1} {𝓤 : Ura M} (𝓛 : Logic 𝓤) (mem : Memory → SProp
         split ! $ move ! (5 ∷ 4 ∷ 2 ∷ 0 ∷ []) $ group ! 4 $
         use1 𝓛 (raw ((C2 𝓛 mem run).pre (to-2 x1 (slice_val x1.ref_ptr (length x1.now)) x2 (vint w32 x2) x3 (slice_val x3.ref_ptr (length x3.now)) r2 (vint w32 r2) r6 (vint w32 r6) x5 (vint w32 x5)))) (goes-2 x1 (slice_val x1.ref_ptr (length x1.now)) x2 (vint w32 x2) x3 (slice_val x3.ref_ptr (length x3.now)) r2 (vint w32 r2) r6 (vint w32 r6) x5 (vint w32 x5) i2 (subst (Is u32 r2) (uint_Tells w32 r2 _ is4) is4) (subst (Is u32 r6) (uint_Tells w32 r6 _ is8) is8) i5) $
         calls_at ! fm (C2 𝓛 mem run) known-2 (to-2 x1 (slice_val x1.ref_ptr (length x1.now)) x2 (vint w32 x2) x3 (slice_val x3.ref_ptr (length x3.now)) r2 (vint w32 r2) r6 (vint w32 r6) x5 (vint w32 x5)) (and_then ! (load ! (from ! (stop !)) (look ! 17 refl)) (and_then ! (load ! (from ! (stop !)) (look ! 15 refl)) (and_then ! (load ! (from ! (stop !)) (look ! 13 refl)) (and_then ! (load ! (from ! (stop !)) (look ! 5 refl)) (and_then ! (load ! (from ! (stop !)) (look ! 3 refl)) (and_then ! (load ! (from ! (stop !)) (look ! 9 refl)) (no_more !))))))) (λ u9.
-        use1 𝓛 (later (some (λ (r : Walked040). ((‵ (flft κ0 q0) ⊛ ‵ (flft κ1 q1) ⊛ ‵ ftrue) ⊛ ‵ ((row-Walked040.the_row).own_val r (u9 ∷ []))) ⊛ raw (ensured 𝓛 c2.ended (c2.clauses 𝓛 mem run) (κ0, (κ1, tt)) (x1, (x2, (x3, (r2, (r6, (x5, tt)))))) tt r)))) (id⊢ 𝓤 _) $ await ! tt $ choose ! (λ r10. split ! $ move ! (1 ∷ []) $ use1 𝓛 (raw (fact 𝓤 (r10 ≡ shown040 (walk040From (memory x1.now x2 x3.now) r2 r6 x5)))) (said-2 x1 x2 x3 r2 r6 x5 r10) $ heard ! (r10 ≡ shown040 (walk040From (memory x1.now x2 x3.now) r2 r6 x5)) (λ e11. split ! $
+        use1 𝓛 (later (some (λ (r : Walked040). ((‵ (flft κ0 q0) ⊛ ‵ (flft κ1 q1) ⊛ ‵ ftrue) ⊛ ‵ ((row-Walked040.the_row).own_val r (u9 ∷ []))) ⊛ raw (ensured 𝓛 c2.ended (c2.clauses 𝓛 mem run) (κ0, (κ1, tt)) (x1, (x2, (x3, (r2, (r6, (x5, tt)))))) tt r)))) (id⊢ 𝓤 _) $ await ! tt $ choose ! (λ r10. split ! $ move ! (1 ∷ []) $ use1 𝓛 (raw (fact 𝓤 (r10 ≡ shown040 (walk040_from (memory x1.now x2 x3.now) r2 r6 x5)))) (said-2 x1 x2 x3 r2 r6 x5 r10) $ heard ! (r10 ≡ shown040 (walk040_from (memory x1.now x2 x3.now) r2 r6 x5)) (λ e11. split ! $
         split ! $ move ! (1 ∷ []) $ split ! $ move ! (1 ∷ []) $ drop ! $ move ! (2 ∷ []) $
         facts ! row-Walked040.the_row (Is row-Walked040.the_row) (shows 𝓛 row-Walked040.the_row) r10 (u9 ∷ []) (λ is12. land ! (from ! (stop !)) (init ! 20 refl ((LL.lawful row-Walked040.the_type law-Walked040.the_laws 𝓛).typed r10 _ is12).0) $
         rewrite ! 20 (λ (u : Val). ‵ (fat full_share law-Walked040.mir l0 0 u)) (ap only (LL.tells row-Walked040.the_type law-Walked040.the_laws r10 _ is12)) refl $
@@ -168,7 +168,7 @@ module _ {M : Type 1} {𝓤 : Ura M} (𝓛 : Logic 𝓤) (mem : Memory → SProp
         forget ! 6 refl $ forget ! 4 refl $ move ! (20 ∷ 21 ∷ []) $ free1 ! $ move ! (18 ∷ 19 ∷ []) $ free1 ! $ move ! (16 ∷ 17 ∷ []) $ free1 ! $ move ! (14 ∷ 15 ∷ []) $ free1 ! $
         move ! (12 ∷ 13 ∷ []) $ free1 ! $ move ! (10 ∷ 11 ∷ []) $ free1 ! $ move ! (8 ∷ 9 ∷ []) $ free1 ! $ move ! (6 ∷ 7 ∷ []) $ free1 ! $ move ! (4 ∷ 5 ∷ []) $ free1 ! $ free0 ! $
         keep ! (1 ∷ 0 ∷ 3 ∷ 2 ∷ []) $
-        by ! (exits r10 (LL.val row-Walked040.the_type law-Walked040.the_laws r10) (subst (Is row-Walked040.the_row r10) (LL.tells row-Walked040.the_type law-Walked040.the_laws r10 _ is12) is12) (law.from-root (memory x1.now x2 x3.now) x4 x5 x6 e3 e7 e11)))))))))))))))))))))))
+        by ! (exits r10 (LL.val row-Walked040.the_type law-Walked040.the_laws r10) (subst (Is row-Walked040.the_row r10) (LL.tells row-Walked040.the_type law-Walked040.the_laws r10 _ is12) is12) (law.from_root (memory x1.now x2 x3.now) x4 x5 x6 e3 e7 e11)))))))))))))))))))))))
 
 module _ {M : Type 1} {𝓤 : Ura M} (𝓛 : Logic 𝓤) (mem : Memory → SProp 𝓤) (run : Routine → Fun 𝓤) (𝓣 : Tables 𝓤 𝓛.H) where
   open 𝓛 use {H}

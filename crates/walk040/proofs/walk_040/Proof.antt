@@ -45,14 +45,14 @@ use denote.Exit.{yes}
 use types.Part.{agg}
 use types.Match.{vrt, in_variant, look_tag, by_variants}
 use borrow.Enum.Known.{at as variant-at, lives_at}
-use Rattle.memory.proofs.Branching.{leaves-if, as_variant}
-use Rattle.definition.specs.Walk040.{walk040From}
+use Rattle.memory.proofs.Branching.{leaves_if, as_variant}
+use Rattle.definition.specs.Walk040.{walk040_from}
 use Rattle.walk040.proofs.Driving as law
 use Rattle.definition.specs.Memory.{memory}
 use Rattle.walk040.specs.Walked.{shown040}
 use Rattle.definition.specs.Words.{bit_of}
 use Rattle.walk040.specs.Machine.{answered040, begin040, invalid040, missing040, next040, page040}
-use Rattle.definition.specs.Memory.{fetchOf}
+use Rattle.definition.specs.Memory.{fetch_of}
 use Rattle.definition.specs.declared.End040.{End040}
 use Rattle.definition.specs.contracts.End040 as row-End040
 use Rattle.definition.proofs.End040.TheLaws as law-End040
@@ -159,7 +159,7 @@ module _ {M : Type 1} {𝓤 : Ura M} (𝓛 : Logic 𝓤) (mem : Memory → SProp
   abbrev Post : Val → SProp 𝓤
   Post = (walk_of 𝓛 self.ended stayed (self.clauses 𝓛 mem run)).post (((κ0, (κ1, tt)), (q0, (q1, tt)), tt, (x1, (x2, (x3, (x4, (x5, (x6, tt)))))), at_entry), tt)
 
-  exits : (r : Walked040) (u : Val) → Is row-Walked040.the_row r (u ∷ []) → (r ≡ shown040 (walk040From (memory x1.now x2 x3.now) x4 x5 x6)) → ent 𝓤 (⋆ 𝓛 (‵ (flft κ0 q0) ∷ ‵ (flft κ1 q1) ∷ ‵ ((ShrSlice (named 0) κ0 u32).own_val x1 (slice_val x1.ref_ptr (length x1.now) ∷ [])) ∷ ‵ ((ShrSlice (named 1) κ1 row-Range.the_row).own_val x3 (slice_val x3.ref_ptr (length x3.now) ∷ [])) ∷ [])) (Post u)
+  exits : (r : Walked040) (u : Val) → Is row-Walked040.the_row r (u ∷ []) → (r ≡ shown040 (walk040_from (memory x1.now x2 x3.now) x4 x5 x6)) → ent 𝓤 (⋆ 𝓛 (‵ (flft κ0 q0) ∷ ‵ (flft κ1 q1) ∷ ‵ ((ShrSlice (named 0) κ0 u32).own_val x1 (slice_val x1.ref_ptr (length x1.now) ∷ [])) ∷ ‵ ((ShrSlice (named 1) κ1 row-Range.the_row).own_val x3 (slice_val x3.ref_ptr (length x3.now) ∷ [])) ∷ [])) (Post u)
   exits r u is e =
       qed 𝓛 (‵ (flft κ0 q0) ∷ ‵ (flft κ1 q1) ∷ ‵ ((ShrSlice (named 0) κ0 u32).own_val x1 (slice_val x1.ref_ptr (length x1.now) ∷ [])) ∷ ‵ ((ShrSlice (named 1) κ1 row-Range.the_row).own_val x3 (slice_val x3.ref_ptr (length x3.now) ∷ [])) ∷ []) ∵
       suffices ! _ (ends_at 𝓛 self.ended stayed (self.clauses 𝓛 mem run) (((κ0, (κ1, tt)), (q0, (q1, tt)), tt, (x1, (x2, (x3, (x4, (x5, (x6, tt)))))), at_entry), tt) u r (tt, (tt, (tt, (tt, (tt, (tt, tt)))))) (tt, (tt, (tt, (tt, (tt, (tt, tt))))))) $ says ! e $
@@ -195,8 +195,8 @@ module _ {M : Type 1} {𝓤 : Ura M} (𝓛 : Logic 𝓤) (mem : Memory → SProp
   goes-2 a0 v0 a1 v1 a2 v2 a3 v3 i1 i3 =
       qed 𝓛 (‵ (flft κ0 q0) ∷ ‵ (flft κ1 q1) ∷ ‵ ((ShrSlice (named 0) κ0 u32).own_val a0 (v0 ∷ [])) ∷ ‵ ((ShrSlice (named 1) κ1 row-Range.the_row).own_val a2 (v2 ∷ [])) ∷ []) ∵ nothing ! $ owned ! u32 (Is u32) (uint_Makes 𝓛 w32) a3 _ i3 $ fjoin ! $ move ! (4 ∷ 0 ∷ []) $ fjoin ! $ owned ! u32 (Is u32) (uint_Makes 𝓛 w32) a1 _ i1 $ fjoin ! $ move ! (3 ∷ 0 ∷ []) $ fjoin ! $ nothing ! $ move ! (3 ∷ 0 ∷ []) $ join ! $ move ! (2 ∷ 0 ∷ []) $ join ! $ join ! $ frame ! $ done !
 
-  said-2 : (a0 : Bor (List ℕ)) (a1 : ℕ) (a2 : Bor (List Range)) (a3 : ℕ) (r : Fetched) → ent 𝓤 (ensured 𝓛 c2.ended (c2.clauses 𝓛 mem run) (κ0, (κ1, tt)) (a0, (a1, (a2, (a3, tt)))) tt r) (fact 𝓤 (r ≡ fetchOf (memory a0.now a1 a2.now) a3))
-  said-2 a0 a1 a2 a3 r = ex_e 𝓤 _ (λ ws. snd∗ 𝓤 (sem 𝓛 (lasts c2.ended (κ0, (κ1, tt)) (a0, (a1, (a2, (a3, tt)))) ws)) (fact 𝓤 (r ≡ fetchOf (memory a0.now a1 a2.now) a3)))
+  said-2 : (a0 : Bor (List ℕ)) (a1 : ℕ) (a2 : Bor (List Range)) (a3 : ℕ) (r : Fetched) → ent 𝓤 (ensured 𝓛 c2.ended (c2.clauses 𝓛 mem run) (κ0, (κ1, tt)) (a0, (a1, (a2, (a3, tt)))) tt r) (fact 𝓤 (r ≡ fetch_of (memory a0.now a1 a2.now) a3))
+  said-2 a0 a1 a2 a3 r = ex_e 𝓤 _ (λ ws. snd∗ 𝓤 (sem 𝓛 (lasts c2.ended (κ0, (κ1, tt)) (a0, (a1, (a2, (a3, tt)))) ws)) (fact 𝓤 (r ≡ fetch_of (memory a0.now a1 a2.now) a3)))
 
   -- the call of `machine.answer`: what it is passed, what it asks, and what is known of its result
   abbrev to-3 : (a0 : Walking040) (v0 : Val) (a1 : End040) (v1 : Val) → (C3 𝓛 mem run).Ghost
@@ -322,7 +322,7 @@ module _ {M : Type 1} {𝓤 : Ura M} (𝓛 : Logic 𝓤) (mem : Memory → SProp
           split ! $ move ! (40 ∷ 41 ∷ 2 ∷ 0 ∷ []) $ group ! 4 $
           use1 𝓛 (raw ((C2 𝓛 mem run).pre (to-2 x1 (slice_val x1.ref_ptr (length x1.now)) x2 (vint w32 x2) x3 (slice_val x3.ref_ptr (length x3.now)) r6 (vint w32 r6)))) (goes-2 x1 (slice_val x1.ref_ptr (length x1.now)) x2 (vint w32 x2) x3 (slice_val x3.ref_ptr (length x3.now)) r6 (vint w32 r6) i2 (subst (Is u32 r6) (uint_Tells w32 r6 _ is8) is8)) $
           calls_at ! fm (C2 𝓛 mem run) known-2 (to-2 x1 (slice_val x1.ref_ptr (length x1.now)) x2 (vint w32 x2) x3 (slice_val x3.ref_ptr (length x3.now)) r6 (vint w32 r6)) (and_then ! (load ! (from ! (stop !)) (look ! 4 refl)) (and_then ! (load ! (from ! (stop !)) (look ! 5 refl)) (and_then ! (load ! (from ! (stop !)) (look ! 6 refl)) (and_then ! (load ! (from ! (stop !)) (look ! 12 refl)) (no_more !))))) (λ u9.
-          use1 𝓛 (later (some (λ (r : Fetched). ((‵ (flft κ0 q0) ⊛ ‵ (flft κ1 q1) ⊛ ‵ ftrue) ⊛ ‵ ((row-Fetched.the_row).own_val r (u9 ∷ []))) ⊛ raw (ensured 𝓛 c2.ended (c2.clauses 𝓛 mem run) (κ0, (κ1, tt)) (x1, (x2, (x3, (r6, tt)))) tt r)))) (id⊢ 𝓤 _) $ await ! tt $ choose ! (λ r10. split ! $ move ! (1 ∷ []) $ use1 𝓛 (raw (fact 𝓤 (r10 ≡ fetchOf (memory x1.now x2 x3.now) r6))) (said-2 x1 x2 x3 r6 r10) $ heard ! (r10 ≡ fetchOf (memory x1.now x2 x3.now) r6) (λ e11. split ! $
+          use1 𝓛 (later (some (λ (r : Fetched). ((‵ (flft κ0 q0) ⊛ ‵ (flft κ1 q1) ⊛ ‵ ftrue) ⊛ ‵ ((row-Fetched.the_row).own_val r (u9 ∷ []))) ⊛ raw (ensured 𝓛 c2.ended (c2.clauses 𝓛 mem run) (κ0, (κ1, tt)) (x1, (x2, (x3, (r6, tt)))) tt r)))) (id⊢ 𝓤 _) $ await ! tt $ choose ! (λ r10. split ! $ move ! (1 ∷ []) $ use1 𝓛 (raw (fact 𝓤 (r10 ≡ fetch_of (memory x1.now x2 x3.now) r6))) (said-2 x1 x2 x3 r6 r10) $ heard ! (r10 ≡ fetch_of (memory x1.now x2 x3.now) r6) (λ e11. split ! $
           split ! $ move ! (1 ∷ []) $ split ! $ move ! (1 ∷ []) $ drop ! $ move ! (2 ∷ []) $
           facts ! row-Fetched.the_row (Is row-Fetched.the_row) (shows 𝓛 row-Fetched.the_row) r10 (u9 ∷ []) (λ is12. land ! (from ! (stop !)) (init ! 19 refl ((EL.lawful row-Fetched.the_type law-Fetched.the_laws 𝓛 tt).typed r10 _ is12).0) $
           rewrite ! 19 (λ (u : Val). ‵ (fat full_share law-Fetched.mir l15 0 u)) (ap only (EL.tells row-Fetched.the_type law-Fetched.the_laws r10 _ is12)) refl $
@@ -344,7 +344,7 @@ module _ {M : Type 1} {𝓤 : Ura M} (𝓛 : Logic 𝓤) (mem : Memory → SProp
                 move ! (4 ∷ 14 ∷ []) $ free1 ! $ move ! (4 ∷ 13 ∷ []) $ free1 ! $ move ! (4 ∷ 12 ∷ []) $ free1 ! $ move ! (4 ∷ 11 ∷ []) $ free1 ! $ move ! (4 ∷ 10 ∷ []) $ free1 ! $
                 move ! (4 ∷ 9 ∷ []) $ free1 ! $ move ! (4 ∷ 8 ∷ []) $ free1 ! $ move ! (4 ∷ 7 ∷ []) $ free1 ! $ move ! (4 ∷ 6 ∷ []) $ free1 ! $ move ! (4 ∷ 5 ∷ []) $ free1 ! $ free0 ! $
                 keep ! (1 ∷ 0 ∷ 3 ∷ 2 ∷ []) $
-                by ! (exits r17 (LL.val row-Walked040.the_type law-Walked040.the_laws r17) (subst (Is row-Walked040.the_row r17) (LL.tells row-Walked040.the_type law-Walked040.the_laws r17 _ is19) is19) (law.ends-lost (memory x1.now x2 x3.now) x4 x5 x6 t.0 e7 e11 e15 e18)))))))),
+                by ! (exits r17 (LL.val row-Walked040.the_type law-Walked040.the_laws r17) (subst (Is row-Walked040.the_row r17) (LL.tells row-Walked040.the_type law-Walked040.the_laws r17 _ is19) is19) (law.ends_lost (memory x1.now x2 x3.now) x4 x5 x6 t.0 e7 e11 e15 e18)))))))),
             (
               (λ tag20. as_variant (lives_at row-Fetched.enum r10 0 tag20) (λ v21 e22.
                   rewrite ! 19 (λ (u : Fetched). ‵ (fat full_share law-Fetched.mir l15 0 (EL.val row-Fetched.the_type law-Fetched.the_laws u))) e22 refl $
@@ -354,7 +354,7 @@ module _ {M : Type 1} {𝓤 : Ura M} (𝓛 : Logic 𝓤) (mem : Memory → SProp
                   use1 𝓛 (later (some (λ (r : Bool). (‵ ftrue ⊛ ‵ (Boolean.own r (u23 ∷ []))) ⊛ raw (ensured 𝓛 c4.ended (c4.clauses 𝓛 mem run) tt (t.0.s, (v21.0, tt)) tt r)))) (id⊢ 𝓤 _) $ await ! tt $ choose ! (λ r24. split ! $ move ! (1 ∷ []) $ use1 𝓛 (raw (fact 𝓤 (r24 ≡ invalid040 t.0.s.level v21.0))) (said-4 t.0.s v21.0 r24) $ heard ! (r24 ≡ invalid040 t.0.s.level v21.0) (λ e25. split ! $
                   drop ! $ facts ! Boolean (Is Boolean) (shows 𝓛 Boolean) r24 (u23 ∷ []) (λ is26. land ! (from ! (stop !)) (init ! 20 refl ((bool_Lawful 𝓛).typed r24 _ is26).0) $
                   rewrite ! 20 (λ (u : Val). ‵ (fat full_share ty_bool l16 0 u)) (ap only (bool_Tells r24 _ is26)) refl $
-                  leaves-if ! (load ! (from ! (stop !)) (look ! 20 refl))
+                  leaves_if ! (load ! (from ! (stop !)) (look ! 20 refl))
                   (λ h27. use0 𝓛 (raw ((C5 𝓛 mem run).pre (to-5 t.0.s (LL.val row-Walking040.the_type law-Walking040.the_laws t.0.s)))) (goes-5 t.0.s (LL.val row-Walking040.the_type law-Walking040.the_laws t.0.s) t.1.0) $
                   calls_at ! fm (C5 𝓛 mem run) known-5 (to-5 t.0.s (LL.val row-Walking040.the_type law-Walking040.the_laws t.0.s)) (and_then ! (load ! (from ! (stop !)) (look ! 12 refl)) (no_more !)) (λ u28.
                   use1 𝓛 (later (some (λ (r : FaultCause). (‵ ftrue ⊛ ‵ ((row-FaultCause.the_row).own_val r (u28 ∷ []))) ⊛ raw (ensured 𝓛 c5.ended (c5.clauses 𝓛 mem run) tt (t.0.s, tt) tt r)))) (id⊢ 𝓤 _) $ await ! tt $ choose ! (λ r29. split ! $ move ! (1 ∷ []) $ use1 𝓛 (raw (fact 𝓤 (r29 ≡ missing040 t.0.s.level))) (said-5 t.0.s r29) $ heard ! (r29 ≡ missing040 t.0.s.level) (λ e30. split ! $
@@ -376,13 +376,13 @@ module _ {M : Type 1} {𝓤 : Ura M} (𝓛 : Logic 𝓤) (mem : Memory → SProp
                   move ! (4 ∷ 16 ∷ []) $ free1 ! $ move ! (4 ∷ 15 ∷ []) $ free1 ! $ move ! (4 ∷ 14 ∷ []) $ free1 ! $ move ! (4 ∷ 13 ∷ []) $ free1 ! $ move ! (4 ∷ 12 ∷ []) $ free1 ! $
                   move ! (4 ∷ 11 ∷ []) $ free1 ! $ move ! (4 ∷ 10 ∷ []) $ free1 ! $ move ! (4 ∷ 9 ∷ []) $ free1 ! $ move ! (4 ∷ 8 ∷ []) $ free1 ! $ move ! (4 ∷ 7 ∷ []) $ free1 ! $
                   move ! (4 ∷ 6 ∷ []) $ free1 ! $ move ! (4 ∷ 5 ∷ []) $ free1 ! $ free0 ! $ keep ! (1 ∷ 0 ∷ 3 ∷ 2 ∷ []) $
-                  by ! (exits r33 (LL.val row-Walked040.the_type law-Walked040.the_laws r33) (subst (Is row-Walked040.the_row r33) (LL.tells row-Walked040.the_type law-Walked040.the_laws r33 _ is35) is35) (law.ends-absent (memory x1.now x2 x3.now) x4 x5 x6 t.0 e7 e11 e22 e25 h27 e30 e34)))))))))))
+                  by ! (exits r33 (LL.val row-Walked040.the_type law-Walked040.the_laws r33) (subst (Is row-Walked040.the_row r33) (LL.tells row-Walked040.the_type law-Walked040.the_laws r33 _ is35) is35) (law.ends_absent (memory x1.now x2 x3.now) x4 x5 x6 t.0 e7 e11 e22 e25 h27 e30 e34)))))))))))
                   (λ h27. use0 𝓛 (raw ((C6 𝓛 mem run).pre (to-6 t.0.s (LL.val row-Walking040.the_type law-Walking040.the_laws t.0.s) v21.0 (vint w32 v21.0)))) (goes-6 t.0.s (LL.val row-Walking040.the_type law-Walking040.the_laws t.0.s) v21.0 (vint w32 v21.0) t.1.0 (EL.owed row-Fetched.the_type law-Fetched.the_laws (variant-at row-Fetched.enum 0 v21) (EL.val row-Fetched.the_type law-Fetched.the_laws (variant-at row-Fetched.enum 0 v21) ∷ []) (subst (λ (u : Fetched). Is row-Fetched.the_row u (EL.val row-Fetched.the_type law-Fetched.the_laws u ∷ [])) e22 (subst (Is row-Fetched.the_row r10) (EL.tells row-Fetched.the_type law-Fetched.the_laws r10 _ is12) is12))).0) $
                   calls_at ! fm (C6 𝓛 mem run) known-6 (to-6 t.0.s (LL.val row-Walking040.the_type law-Walking040.the_laws t.0.s) v21.0 (vint w32 v21.0)) (and_then ! (load ! (from ! (stop !)) (look ! 12 refl)) (and_then ! (load ! (from ! (stop !)) (look ! 15 refl)) (no_more !))) (λ u36.
                   use1 𝓛 (later (some (λ (r : Bool). (‵ ftrue ⊛ ‵ (Boolean.own r (u36 ∷ []))) ⊛ raw (ensured 𝓛 c6.ended (c6.clauses 𝓛 mem run) tt (t.0.s, (v21.0, tt)) tt r)))) (id⊢ 𝓤 _) $ await ! tt $ choose ! (λ r37. split ! $ move ! (1 ∷ []) $ use1 𝓛 (raw (fact 𝓤 (r37 ≡ page040 t.0.s.level v21.0))) (said-6 t.0.s v21.0 r37) $ heard ! (r37 ≡ page040 t.0.s.level v21.0) (λ e38. split ! $
                   drop ! $ facts ! Boolean (Is Boolean) (shows 𝓛 Boolean) r37 (u36 ∷ []) (λ is39. land ! (from ! (stop !)) (init ! 21 refl ((bool_Lawful 𝓛).typed r37 _ is39).0) $
                   rewrite ! 21 (λ (u : Val). ‵ (fat full_share ty_bool l17 0 u)) (ap only (bool_Tells r37 _ is39)) refl $
-                  leaves-if ! (load ! (from ! (stop !)) (look ! 21 refl))
+                  leaves_if ! (load ! (from ! (stop !)) (look ! 21 refl))
                   (λ h40. use0 𝓛 (raw ((C7 𝓛 mem run).pre (to-7 t.0.s (LL.val row-Walking040.the_type law-Walking040.the_laws t.0.s) v21.0 (vint w32 v21.0)))) (goes-7 t.0.s (LL.val row-Walking040.the_type law-Walking040.the_laws t.0.s) v21.0 (vint w32 v21.0) t.1.0 (EL.owed row-Fetched.the_type law-Fetched.the_laws (variant-at row-Fetched.enum 0 v21) (EL.val row-Fetched.the_type law-Fetched.the_laws (variant-at row-Fetched.enum 0 v21) ∷ []) (subst (λ (u : Fetched). Is row-Fetched.the_row u (EL.val row-Fetched.the_type law-Fetched.the_laws u ∷ [])) e22 (subst (Is row-Fetched.the_row r10) (EL.tells row-Fetched.the_type law-Fetched.the_laws r10 _ is12) is12))).0) $
                   calls_at ! fm (C7 𝓛 mem run) known-7 (to-7 t.0.s (LL.val row-Walking040.the_type law-Walking040.the_laws t.0.s) v21.0 (vint w32 v21.0)) (and_then ! (load ! (from ! (stop !)) (look ! 12 refl)) (and_then ! (load ! (from ! (stop !)) (look ! 15 refl)) (no_more !))) (λ u41.
                   use1 𝓛 (later (some (λ (r : Bool). (‵ ftrue ⊛ ‵ (Boolean.own r (u41 ∷ []))) ⊛ raw (ensured 𝓛 c7.ended (c7.clauses 𝓛 mem run) tt (t.0.s, (v21.0, tt)) tt r)))) (id⊢ 𝓤 _) $ await ! tt $ choose ! (λ r42. split ! $ move ! (1 ∷ []) $ use1 𝓛 (raw (fact 𝓤 (r42 ≡ (t.0.s.wp || bit_of v21.0 2)))) (said-7 t.0.s v21.0 r42) $ heard ! (r42 ≡ (t.0.s.wp || bit_of v21.0 2)) (λ e43. split ! $
@@ -408,7 +408,7 @@ module _ {M : Type 1} {𝓤 : Ura M} (𝓛 : Logic 𝓤) (mem : Memory → SProp
                   move ! (4 ∷ 17 ∷ []) $ free1 ! $ move ! (4 ∷ 16 ∷ []) $ free1 ! $ move ! (4 ∷ 15 ∷ []) $ free1 ! $ move ! (4 ∷ 14 ∷ []) $ free1 ! $ move ! (4 ∷ 13 ∷ []) $ free1 ! $
                   move ! (4 ∷ 12 ∷ []) $ free1 ! $ move ! (4 ∷ 11 ∷ []) $ free1 ! $ move ! (4 ∷ 10 ∷ []) $ free1 ! $ move ! (4 ∷ 9 ∷ []) $ free1 ! $ move ! (4 ∷ 8 ∷ []) $ free1 ! $
                   move ! (4 ∷ 7 ∷ []) $ free1 ! $ move ! (4 ∷ 6 ∷ []) $ free1 ! $ move ! (4 ∷ 5 ∷ []) $ free1 ! $ free0 ! $ keep ! (1 ∷ 0 ∷ 3 ∷ 2 ∷ []) $
-                  by ! (exits r50 (LL.val row-Walked040.the_type law-Walked040.the_laws r50) (subst (Is row-Walked040.the_row r50) (LL.tells row-Walked040.the_type law-Walked040.the_laws r50 _ is52) is52) (law.ends-page (memory x1.now x2 x3.now) x4 x5 x6 t.0 e7 e11 e22 e25 h27 e38 h40 e43 e47 e51)))))))))))))))
+                  by ! (exits r50 (LL.val row-Walked040.the_type law-Walked040.the_laws r50) (subst (Is row-Walked040.the_row r50) (LL.tells row-Walked040.the_type law-Walked040.the_laws r50 _ is52) is52) (law.ends_page (memory x1.now x2 x3.now) x4 x5 x6 t.0 e7 e11 e22 e25 h27 e38 h40 e43 e47 e51)))))))))))))))
                   (λ h40. use0 𝓛 (raw ((C9 𝓛 mem run).pre (to-9 t.0.s (LL.val row-Walking040.the_type law-Walking040.the_laws t.0.s) x4 (vint w32 x4) x6 (vint w32 x6) v21.0 (vint w32 v21.0)))) (goes-9 t.0.s (LL.val row-Walking040.the_type law-Walking040.the_laws t.0.s) x4 (vint w32 x4) x6 (vint w32 x6) v21.0 (vint w32 v21.0) t.1.0 i4 i6 (EL.owed row-Fetched.the_type law-Fetched.the_laws (variant-at row-Fetched.enum 0 v21) (EL.val row-Fetched.the_type law-Fetched.the_laws (variant-at row-Fetched.enum 0 v21) ∷ []) (subst (λ (u : Fetched). Is row-Fetched.the_row u (EL.val row-Fetched.the_type law-Fetched.the_laws u ∷ [])) e22 (subst (Is row-Fetched.the_row r10) (EL.tells row-Fetched.the_type law-Fetched.the_laws r10 _ is12) is12))).0 (law.few (memory x1.now x2 x3.now) x4 x5 x6 t.0)) $
                   calls_at_last ! fm (C9 𝓛 mem run) known-9 (to-9 t.0.s (LL.val row-Walking040.the_type law-Walking040.the_laws t.0.s) x4 (vint w32 x4) x6 (vint w32 x6) v21.0 (vint w32 v21.0)) (and_then ! (load ! (from ! (stop !)) (look ! 12 refl)) (and_then ! (load ! (from ! (stop !)) (look ! 9 refl)) (and_then ! (load ! (from ! (stop !)) (look ! 11 refl)) (and_then ! (load ! (from ! (stop !)) (look ! 15 refl)) (no_more !))))) (λ u53.
                   use1 𝓛 (later (some (λ (r : Walking040). (‵ ftrue ⊛ ‵ ((row-Walking040.the_row).own_val r (u53 ∷ []))) ⊛ raw (ensured 𝓛 c9.ended (c9.clauses 𝓛 mem run) tt (t.0.s, (x4, (x6, (v21.0, tt)))) tt r)))) (id⊢ 𝓤 _) $ await ! tt $ choose ! (λ r54. split ! $ move ! (1 ∷ []) $ use1 𝓛 (raw (fact 𝓤 (r54 ≡ next040 x4 x6 t.0.s.level t.0.s.wp v21.0 (t.0.s.asked + 1)))) (said-9 t.0.s x4 x6 v21.0 r54) $ heard ! (r54 ≡ next040 x4 x6 t.0.s.level t.0.s.wp v21.0 (t.0.s.asked + 1)) (λ e55. split ! $

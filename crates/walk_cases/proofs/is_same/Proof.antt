@@ -11,7 +11,7 @@ enum-known-pairs : tie.Need-enum-known-pairs
 enum-known-pairs c = search rules
 
 same-case-requires : tie.Need-same-case-requires
-same-case-requires c κs = subst Room c.before.pairs.given.1 c.before.before.before.parts-of.ensures
+same-case-requires c κs = subst Room c.before.pairs.given.1 c.before.before.before.parts_of.ensures
 
 enum_told : tie.Need-enum-told
 enum_told c = search rules

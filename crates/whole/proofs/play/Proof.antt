@@ -3,7 +3,7 @@ use native.Mathlib.Omega.{arith}
 use native.Mathlib.Nat.{le_refl}
 use lib.ListN.{length}
 use borrow.Rule.Slice.PartMut.{put_mid, mid_len, same_len_mid}
-use Rattle.whole.proofs.Showing.{play-empty, play-other, behind-version, no-room-behind}
+use Rattle.whole.proofs.Showing.{play_empty, play_other, behind_version, no_room_behind}
 use borrow.Author.Rules.{rules}
 use Rattle.whole.proofs.play.Statement.{statement}
 use Rattle.whole.proofs.play.Tie as tie
@@ -15,7 +15,7 @@ same_length : tie.Need-same-length
 same_length c = search rules
 
 returns : tie.Need-returns
-returns c = rw (play-empty _ c.before.before.before.before.if1.true) c.before.before.malformed.ensures
+returns c = rw (play_empty _ c.before.before.before.before.if1.true) c.before.before.malformed.ensures
 
 shared-slice-read-if2 : tie.Need-shared-slice-read-if2
 shared-slice-read-if2 c = search rules
@@ -27,7 +27,7 @@ same-length-2 : tie.Need-same-length-2
 same-length-2 c = search rules
 
 returns-2 : tie.Need-returns-2
-returns-2 c = rw (play-other _ c.before.before.before.before.if2.true) c.before.before.malformed2.ensures
+returns-2 c = rw (play_other _ c.before.before.before.before.if2.true) c.before.before.malformed2.ensures
 
 returns-3 : tie.Need-returns-3
 returns-3 c = search rules
@@ -71,13 +71,13 @@ same-length-3 : tie.Need-same-length-3
 same-length-3 c = search rules
 
 returns-4 : tie.Need-returns-4
-returns-4 c = behind-version _ c.before.before.before.before.before.before.before.before.before.before.before.before.before.if2.false _ _ c.before.before.before.before.before.play-records.ensures _ _ (c.before.before.before.before.before.before.before.before.before.before.put-version.ensures.room (omega arith)) (omega arith) c.before.n.given.1
+returns-4 c = behind_version _ c.before.before.before.before.before.before.before.before.before.before.before.before.before.if2.false _ _ c.before.before.before.before.before.play-records.ensures _ _ (c.before.before.before.before.before.before.before.before.before.before.put-version.ensures.room (omega arith)) (omega arith) c.before.n.given.1
 
 same-length-4 : tie.Need-same-length-4
 same-length-4 c = search rules
 
 returns-5 : tie.Need-returns-5
-returns-5 c = no-room-behind _ c.before.before.before.before.before.before.before.before.before.before.before.before.if2.false _ _ c.before.before.before.before.play-records.ensures (put_mid 3 (length c.before.before.before.before.before.before.before.before.before.put-version.new.0 - 3) c.before.before.before.before.before.before.before.before.before.put-version.new.0 c.before.before.before.before.play-records.new.1.0) (omega (arith, same_len_mid 3 (length c.before.before.before.before.before.before.before.before.before.put-version.new.0 - 3) c.before.before.before.before.before.before.before.before.before.put-version.new.0 c.before.before.before.before.play-records.new.1.0 c.before.before.before.before.play-records.auto.1.0, c.before.before.before.before.play-records.auto.1.0, mid_len 3 (length c.before.before.before.before.before.before.before.before.before.put-version.new.0) c.before.before.before.before.before.before.before.before.before.put-version.new.0 (le_refl (length c.before.before.before.before.before.before.before.before.before.put-version.new.0)), c.before.before.before.before.before.before.before.before.before.put-version.auto.0)) c.enum_told.given.1
+returns-5 c = no_room_behind _ c.before.before.before.before.before.before.before.before.before.before.before.before.if2.false _ _ c.before.before.before.before.play-records.ensures (put_mid 3 (length c.before.before.before.before.before.before.before.before.before.put-version.new.0 - 3) c.before.before.before.before.before.before.before.before.before.put-version.new.0 c.before.before.before.before.play-records.new.1.0) (omega (arith, same_len_mid 3 (length c.before.before.before.before.before.before.before.before.before.put-version.new.0 - 3) c.before.before.before.before.before.before.before.before.before.put-version.new.0 c.before.before.before.before.play-records.new.1.0 c.before.before.before.before.play-records.auto.1.0, c.before.before.before.before.play-records.auto.1.0, mid_len 3 (length c.before.before.before.before.before.before.before.before.before.put-version.new.0) c.before.before.before.before.before.before.before.before.before.put-version.new.0 (le_refl (length c.before.before.before.before.before.before.before.before.before.put-version.new.0)), c.before.before.before.before.before.before.before.before.before.put-version.auto.0)) c.enum_told.given.1
 
 pub play-spec : {M : Type 1} → statement M
 play-spec =

@@ -41,18 +41,18 @@ use denote.Triple.Table.{entered, cited}
 use denote.Triple.Walked.{says, Stays, stay_none, stay_none_slice, walk_of, Goes-none, Goes-none_slice, Walks as AllWalks, ends_at, walked, walk_Meets}
 use denote.Triple.Clauses.{ensured, lasts}
 use denote.Exit.{yes}
-use Rattle.memory.proofs.Branching.{leaves-if}
+use Rattle.memory.proofs.Branching.{leaves_if}
 use Rattle.audit.proofs.Driving as law
 use Rattle.definition.specs.Memory.{memory}
-use Rattle.definition.specs.Audit.{auditFrom}
-use Rattle.cache.specs.Atc030.{cacheOf}
+use Rattle.definition.specs.Audit.{audit_from}
+use Rattle.cache.specs.Atc030.{cache_of}
 use Rattle.cache.specs.Pair.{pair_of}
-use Rattle.audit.specs.Machine.{auditBegin, Begun, cachedAt}
-use Rattle.definition.specs.Refusal.{badBase}
+use Rattle.audit.specs.Machine.{audit_begin, Begun, cached_at}
+use Rattle.definition.specs.Refusal.{bad_base}
 use Rattle.definition.specs.Refusal.{crossed}
 use Rattle.definition.specs.Words.{any_of}
-use Rattle.audit.specs.Machine.{wayFor, addressFor, auditTook}
-use Rattle.audit.specs.Ways.{walksOf}
+use Rattle.audit.specs.Machine.{way_for, address_for, audit_took}
+use Rattle.audit.specs.Ways.{walks_of}
 use Rattle.audit.specs.declared.walking.Walks.{Walks}
 use Rattle.audit.specs.declared.Auditing.{Auditing}
 use Rattle.audit.specs.contracts.Auditing as row-Auditing
@@ -172,7 +172,7 @@ module _ {M : Type 1} {𝓤 : Ura M} (𝓛 : Logic 𝓤) (mem : Memory → SProp
   abbrev Post : Val → SProp 𝓤
   Post = (walk_of 𝓛 self.ended stayed (self.clauses 𝓛 mem run)).post (((κ0, (κ1, tt)), (q0, (q1, tt)), tt, (x1, (x2, (x3, (x4, (x5, (x6, tt)))))), at_entry), tt)
 
-  exits : (r : Audit) (u : Val) → Is row-Audit.the_row r (u ∷ []) → (r ≡ auditFrom x4 (memory x1.now x2 x3.now) (pair_of x5) x6) → ent 𝓤 (⋆ 𝓛 (‵ (flft κ0 q0) ∷ ‵ (flft κ1 q1) ∷ ‵ ((ShrSlice (named 0) κ0 u32).own_val x1 (slice_val x1.ref_ptr (length x1.now) ∷ [])) ∷ ‵ ((ShrSlice (named 1) κ1 row-Range.the_row).own_val x3 (slice_val x3.ref_ptr (length x3.now) ∷ [])) ∷ [])) (Post u)
+  exits : (r : Audit) (u : Val) → Is row-Audit.the_row r (u ∷ []) → (r ≡ audit_from x4 (memory x1.now x2 x3.now) (pair_of x5) x6) → ent 𝓤 (⋆ 𝓛 (‵ (flft κ0 q0) ∷ ‵ (flft κ1 q1) ∷ ‵ ((ShrSlice (named 0) κ0 u32).own_val x1 (slice_val x1.ref_ptr (length x1.now) ∷ [])) ∷ ‵ ((ShrSlice (named 1) κ1 row-Range.the_row).own_val x3 (slice_val x3.ref_ptr (length x3.now) ∷ [])) ∷ [])) (Post u)
   exits r u is e =
       qed 𝓛 (‵ (flft κ0 q0) ∷ ‵ (flft κ1 q1) ∷ ‵ ((ShrSlice (named 0) κ0 u32).own_val x1 (slice_val x1.ref_ptr (length x1.now) ∷ [])) ∷ ‵ ((ShrSlice (named 1) κ1 row-Range.the_row).own_val x3 (slice_val x3.ref_ptr (length x3.now) ∷ [])) ∷ []) ∵
       suffices ! _ (ends_at 𝓛 self.ended stayed (self.clauses 𝓛 mem run) (((κ0, (κ1, tt)), (q0, (q1, tt)), tt, (x1, (x2, (x3, (x4, (x5, (x6, tt)))))), at_entry), tt) u r (tt, (tt, (tt, (tt, (tt, (tt, tt)))))) (tt, (tt, (tt, (tt, (tt, (tt, tt))))))) $ says ! e $
@@ -186,8 +186,8 @@ module _ {M : Type 1} {𝓤 : Ura M} (𝓛 : Logic 𝓤) (mem : Memory → SProp
   goes-0 a0 v0 a1 v1 i1 =
       qed 𝓛 (‵ (flft κ0 q0) ∷ ‵ ((ShrSlice (named 0) κ0 u32).own_val a0 (v0 ∷ [])) ∷ []) ∵ nothing ! $ owned ! u32 (Is u32) (uint_Makes 𝓛 w32) a1 _ i1 $ fjoin ! $ move ! (2 ∷ 0 ∷ []) $ fjoin ! $ nothing ! $ move ! (2 ∷ 0 ∷ []) $ join ! $ join ! $ frame ! $ done !
 
-  said-0 : (a0 : Bor (List ℕ)) (a1 : ℕ) (r : Bool) → ent 𝓤 (ensured 𝓛 c0.ended (c0.clauses 𝓛 mem run) (κ0, tt) (a0, (a1, tt)) tt r) (fact 𝓤 (r ≡ badBase (memory a0.now a1 [])))
-  said-0 a0 a1 r = ex_e 𝓤 _ (λ ws. snd∗ 𝓤 (sem 𝓛 (lasts c0.ended (κ0, tt) (a0, (a1, tt)) ws)) (fact 𝓤 (r ≡ badBase (memory a0.now a1 []))))
+  said-0 : (a0 : Bor (List ℕ)) (a1 : ℕ) (r : Bool) → ent 𝓤 (ensured 𝓛 c0.ended (c0.clauses 𝓛 mem run) (κ0, tt) (a0, (a1, tt)) tt r) (fact 𝓤 (r ≡ bad_base (memory a0.now a1 [])))
+  said-0 a0 a1 r = ex_e 𝓤 _ (λ ws. snd∗ 𝓤 (sem 𝓛 (lasts c0.ended (κ0, tt) (a0, (a1, tt)) ws)) (fact 𝓤 (r ≡ bad_base (memory a0.now a1 []))))
 
   -- the call of `ranges.any_crossed`: what it is passed, what it asks, and what is known of its result
   abbrev to-1 : (a0 : Bor (List Range)) (v0 : Val) → (C1 𝓛 mem run).Ghost
@@ -208,8 +208,8 @@ module _ {M : Type 1} {𝓤 : Ura M} (𝓛 : Logic 𝓤) (mem : Memory → SProp
   goes-2 a0 v0 a1 v1 a2 v2 a3 v3 a4 v4 i0 i1 i2 i3 i4 =
       qed 𝓛 ([]) ∵ nothing ! $ owned ! u32 (Is u32) (uint_Makes 𝓛 w32) a4 _ i4 $ fjoin ! $ owned ! row-Registers.the_row (Is row-Registers.the_row) (LL.makes row-Registers.the_type law-Registers.the_plain 𝓛) a3 _ i3 $ fjoin ! $ owned ! Boolean (Is Boolean) (bool_Makes 𝓛) a2 _ i2 $ fjoin ! $ owned ! Boolean (Is Boolean) (bool_Makes 𝓛) a1 _ i1 $ fjoin ! $ owned ! row-CachePair.the_row (Is row-CachePair.the_row) (LL.makes row-CachePair.the_type law-CachePair.the_plain 𝓛) a0 _ i0 $ fjoin ! $ nothing ! $ join ! $ frame ! $ done !
 
-  said-2 : (a0 : CachePair) (a1 : Bool) (a2 : Bool) (a3 : Registers) (a4 : ℕ) (r : Auditing) → ent 𝓤 (ensured 𝓛 c2.ended (c2.clauses 𝓛 mem run) tt (a0, (a1, (a2, (a3, (a4, tt))))) tt r) (fact 𝓤 (Begun (auditBegin a3 a1 a2 (cacheOf a0.c030) a4) r a0.c030 a0.c040))
-  said-2 a0 a1 a2 a3 a4 r = ex_e 𝓤 _ (λ ws. snd∗ 𝓤 (sem 𝓛 (lasts c2.ended tt (a0, (a1, (a2, (a3, (a4, tt))))) ws)) (fact 𝓤 (Begun (auditBegin a3 a1 a2 (cacheOf a0.c030) a4) r a0.c030 a0.c040)))
+  said-2 : (a0 : CachePair) (a1 : Bool) (a2 : Bool) (a3 : Registers) (a4 : ℕ) (r : Auditing) → ent 𝓤 (ensured 𝓛 c2.ended (c2.clauses 𝓛 mem run) tt (a0, (a1, (a2, (a3, (a4, tt))))) tt r) (fact 𝓤 (Begun (audit_begin a3 a1 a2 (cache_of a0.c030) a4) r a0.c030 a0.c040))
+  said-2 a0 a1 a2 a3 a4 r = ex_e 𝓤 _ (λ ws. snd∗ 𝓤 (sem 𝓛 (lasts c2.ended tt (a0, (a1, (a2, (a3, (a4, tt))))) ws)) (fact 𝓤 (Begun (audit_begin a3 a1 a2 (cache_of a0.c030) a4) r a0.c030 a0.c040)))
 
   -- the call of `is_over`: what it is passed, what it asks, and what is known of its result
   abbrev to-3 : (a0 : Auditing) (v0 : Val) → (C3 𝓛 mem run).Ghost
@@ -252,8 +252,8 @@ module _ {M : Type 1} {𝓤 : Ura M} (𝓛 : Logic 𝓤) (mem : Memory → SProp
   goes-6 a0 v0 a1 v1 a2 v2 i0 i1 i2 =
       qed 𝓛 ([]) ∵ nothing ! $ owned ! row-Auditing.the_row (Is row-Auditing.the_row) (LL.makes row-Auditing.the_type law-Auditing.the_plain 𝓛) a2 _ i2 $ fjoin ! $ owned ! row-Registers.the_row (Is row-Registers.the_row) (LL.makes row-Registers.the_type law-Registers.the_plain 𝓛) a1 _ i1 $ fjoin ! $ owned ! row-CachePair.the_row (Is row-CachePair.the_row) (LL.makes row-CachePair.the_type law-CachePair.the_plain 𝓛) a0 _ i0 $ fjoin ! $ nothing ! $ join ! $ frame ! $ done !
 
-  said-6 : (a0 : CachePair) (a1 : Registers) (a2 : Auditing) (r : Cached) → ent 𝓤 (ensured 𝓛 c6.ended (c6.clauses 𝓛 mem run) tt (a0, (a1, (a2, tt))) tt r) (fact 𝓤 (r ≡ cachedAt a1 a0.c030 a0.c040 a2.i))
-  said-6 a0 a1 a2 r = ex_e 𝓤 _ (λ ws. snd∗ 𝓤 (sem 𝓛 (lasts c6.ended tt (a0, (a1, (a2, tt))) ws)) (fact 𝓤 (r ≡ cachedAt a1 a0.c030 a0.c040 a2.i)))
+  said-6 : (a0 : CachePair) (a1 : Registers) (a2 : Auditing) (r : Cached) → ent 𝓤 (ensured 𝓛 c6.ended (c6.clauses 𝓛 mem run) tt (a0, (a1, (a2, tt))) tt r) (fact 𝓤 (r ≡ cached_at a1 a0.c030 a0.c040 a2.i))
+  said-6 a0 a1 a2 r = ex_e 𝓤 _ (λ ws. snd∗ 𝓤 (sem 𝓛 (lasts c6.ended tt (a0, (a1, (a2, tt))) ws)) (fact 𝓤 (r ≡ cached_at a1 a0.c030 a0.c040 a2.i)))
 
   -- the call of `address_for`: what it is passed, what it asks, and what is known of its result
   abbrev to-7 : (a0 : Registers) (v0 : Val) (a1 : Cached) (v1 : Val) → (C7 𝓛 mem run).Ghost
@@ -263,8 +263,8 @@ module _ {M : Type 1} {𝓤 : Ura M} (𝓛 : Logic 𝓤) (mem : Memory → SProp
   goes-7 a0 v0 a1 v1 i0 i1 =
       qed 𝓛 ([]) ∵ nothing ! $ owned ! row-Cached.the_row (Is row-Cached.the_row) (LL.makes row-Cached.the_type law-Cached.the_plain 𝓛) a1 _ i1 $ fjoin ! $ owned ! row-Registers.the_row (Is row-Registers.the_row) (LL.makes row-Registers.the_type law-Registers.the_plain 𝓛) a0 _ i0 $ fjoin ! $ nothing ! $ join ! $ frame ! $ done !
 
-  said-7 : (a0 : Registers) (a1 : Cached) (r : ℕ) → ent 𝓤 (ensured 𝓛 c7.ended (c7.clauses 𝓛 mem run) tt (a0, (a1, tt)) tt r) (fact 𝓤 (r ≡ addressFor a0 a1))
-  said-7 a0 a1 r = ex_e 𝓤 _ (λ ws. snd∗ 𝓤 (sem 𝓛 (lasts c7.ended tt (a0, (a1, tt)) ws)) (fact 𝓤 (r ≡ addressFor a0 a1)))
+  said-7 : (a0 : Registers) (a1 : Cached) (r : ℕ) → ent 𝓤 (ensured 𝓛 c7.ended (c7.clauses 𝓛 mem run) tt (a0, (a1, tt)) tt r) (fact 𝓤 (r ≡ address_for a0 a1))
+  said-7 a0 a1 r = ex_e 𝓤 _ (λ ws. snd∗ 𝓤 (sem 𝓛 (lasts c7.ended tt (a0, (a1, tt)) ws)) (fact 𝓤 (r ≡ address_for a0 a1)))
 
   -- the call of `way_for`: what it is passed, what it asks, and what is known of its result
   abbrev to-8 : (a0 : Registers) (v0 : Val) (a1 : Cached) (v1 : Val) → (C8 𝓛 mem run).Ghost
@@ -274,8 +274,8 @@ module _ {M : Type 1} {𝓤 : Ura M} (𝓛 : Logic 𝓤) (mem : Memory → SProp
   goes-8 a0 v0 a1 v1 i0 i1 =
       qed 𝓛 ([]) ∵ nothing ! $ owned ! row-Cached.the_row (Is row-Cached.the_row) (LL.makes row-Cached.the_type law-Cached.the_plain 𝓛) a1 _ i1 $ fjoin ! $ owned ! row-Registers.the_row (Is row-Registers.the_row) (LL.makes row-Registers.the_type law-Registers.the_plain 𝓛) a0 _ i0 $ fjoin ! $ nothing ! $ join ! $ frame ! $ done !
 
-  said-8 : (a0 : Registers) (a1 : Cached) (r : Way) → ent 𝓤 (ensured 𝓛 c8.ended (c8.clauses 𝓛 mem run) tt (a0, (a1, tt)) tt r) (fact 𝓤 (r ≡ wayFor a0 a1))
-  said-8 a0 a1 r = ex_e 𝓤 _ (λ ws. snd∗ 𝓤 (sem 𝓛 (lasts c8.ended tt (a0, (a1, tt)) ws)) (fact 𝓤 (r ≡ wayFor a0 a1)))
+  said-8 : (a0 : Registers) (a1 : Cached) (r : Way) → ent 𝓤 (ensured 𝓛 c8.ended (c8.clauses 𝓛 mem run) tt (a0, (a1, tt)) tt r) (fact 𝓤 (r ≡ way_for a0 a1))
+  said-8 a0 a1 r = ex_e 𝓤 _ (λ ws. snd∗ 𝓤 (sem 𝓛 (lasts c8.ended tt (a0, (a1, tt)) ws)) (fact 𝓤 (r ≡ way_for a0 a1)))
 
   -- the call of `walking.walk_for`: what it is passed, what it asks, and what is known of its result
   abbrev to-9 : (a0 : Bor (List ℕ)) (v0 : Val) (a1 : ℕ) (v1 : Val) (a2 : Bor (List Range)) (v2 : Val) (a3 : Registers) (v3 : Val) (a4 : ℕ) (v4 : Val) (a5 : Way) (v5 : Val) → (C9 𝓛 mem run).Ghost
@@ -285,8 +285,8 @@ module _ {M : Type 1} {𝓤 : Ura M} (𝓛 : Logic 𝓤) (mem : Memory → SProp
   goes-9 a0 v0 a1 v1 a2 v2 a3 v3 a4 v4 a5 v5 i1 i3 i4 i5 =
       qed 𝓛 (‵ (flft κ0 q0) ∷ ‵ (flft κ1 q1) ∷ ‵ ((ShrSlice (named 0) κ0 u32).own_val a0 (v0 ∷ [])) ∷ ‵ ((ShrSlice (named 1) κ1 row-Range.the_row).own_val a2 (v2 ∷ [])) ∷ []) ∵ nothing ! $ owned ! row-Way.the_row (Is row-Way.the_row) (EL.makes row-Way.the_type law-Way.the_plain 𝓛) a5 _ i5 $ fjoin ! $ owned ! u32 (Is u32) (uint_Makes 𝓛 w32) a4 _ i4 $ fjoin ! $ owned ! row-Registers.the_row (Is row-Registers.the_row) (LL.makes row-Registers.the_type law-Registers.the_plain 𝓛) a3 _ i3 $ fjoin ! $ move ! (4 ∷ 0 ∷ []) $ fjoin ! $ owned ! u32 (Is u32) (uint_Makes 𝓛 w32) a1 _ i1 $ fjoin ! $ move ! (3 ∷ 0 ∷ []) $ fjoin ! $ nothing ! $ move ! (3 ∷ 0 ∷ []) $ join ! $ move ! (2 ∷ 0 ∷ []) $ join ! $ join ! $ frame ! $ done !
 
-  said-9 : (a0 : Bor (List ℕ)) (a1 : ℕ) (a2 : Bor (List Range)) (a3 : Registers) (a4 : ℕ) (a5 : Way) (r : Walks) → ent 𝓤 (ensured 𝓛 c9.ended (c9.clauses 𝓛 mem run) (κ0, (κ1, tt)) (a0, (a1, (a2, (a3, (a4, (a5, tt)))))) tt r) (fact 𝓤 (r ≡ walksOf (memory a0.now a1 a2.now) a3 a4 a5))
-  said-9 a0 a1 a2 a3 a4 a5 r = ex_e 𝓤 _ (λ ws. snd∗ 𝓤 (sem 𝓛 (lasts c9.ended (κ0, (κ1, tt)) (a0, (a1, (a2, (a3, (a4, (a5, tt)))))) ws)) (fact 𝓤 (r ≡ walksOf (memory a0.now a1 a2.now) a3 a4 a5)))
+  said-9 : (a0 : Bor (List ℕ)) (a1 : ℕ) (a2 : Bor (List Range)) (a3 : Registers) (a4 : ℕ) (a5 : Way) (r : Walks) → ent 𝓤 (ensured 𝓛 c9.ended (c9.clauses 𝓛 mem run) (κ0, (κ1, tt)) (a0, (a1, (a2, (a3, (a4, (a5, tt)))))) tt r) (fact 𝓤 (r ≡ walks_of (memory a0.now a1 a2.now) a3 a4 a5))
+  said-9 a0 a1 a2 a3 a4 a5 r = ex_e 𝓤 _ (λ ws. snd∗ 𝓤 (sem 𝓛 (lasts c9.ended (κ0, (κ1, tt)) (a0, (a1, (a2, (a3, (a4, (a5, tt)))))) ws)) (fact 𝓤 (r ≡ walks_of (memory a0.now a1 a2.now) a3 a4 a5)))
 
   -- the call of `took`: what it is passed, what it asks, and what is known of its result
   abbrev to-10 : (a0 : Registers) (v0 : Val) (a1 : Auditing) (v1 : Val) (a2 : Cached) (v2 : Val) (a3 : ℕ) (v3 : Val) (a4 : Walks) (v4 : Val) → (C10 𝓛 mem run).Ghost
@@ -296,8 +296,8 @@ module _ {M : Type 1} {𝓤 : Ura M} (𝓛 : Logic 𝓤) (mem : Memory → SProp
   goes-10 a0 v0 a1 v1 a2 v2 a3 v3 a4 v4 i0 i1 i2 i3 i4 =
       qed 𝓛 ([]) ∵ nothing ! $ owned ! row-Walks.the_row (Is row-Walks.the_row) (EL.makes row-Walks.the_type law-Walks.the_plain 𝓛) a4 _ i4 $ fjoin ! $ owned ! u32 (Is u32) (uint_Makes 𝓛 w32) a3 _ i3 $ fjoin ! $ owned ! row-Cached.the_row (Is row-Cached.the_row) (LL.makes row-Cached.the_type law-Cached.the_plain 𝓛) a2 _ i2 $ fjoin ! $ owned ! row-Auditing.the_row (Is row-Auditing.the_row) (LL.makes row-Auditing.the_type law-Auditing.the_plain 𝓛) a1 _ i1 $ fjoin ! $ owned ! row-Registers.the_row (Is row-Registers.the_row) (LL.makes row-Registers.the_type law-Registers.the_plain 𝓛) a0 _ i0 $ fjoin ! $ nothing ! $ join ! $ frame ! $ done !
 
-  said-10 : (a0 : Registers) (a1 : Auditing) (a2 : Cached) (a3 : ℕ) (a4 : Walks) (r : Auditing) → ent 𝓤 (ensured 𝓛 c10.ended (c10.clauses 𝓛 mem run) tt (a0, (a1, (a2, (a3, (a4, tt))))) tt r) (fact 𝓤 (r ≡ auditTook a0 a1.i a2 a3 a4))
-  said-10 a0 a1 a2 a3 a4 r = ex_e 𝓤 _ (λ ws. snd∗ 𝓤 (sem 𝓛 (lasts c10.ended tt (a0, (a1, (a2, (a3, (a4, tt))))) ws)) (fact 𝓤 (r ≡ auditTook a0 a1.i a2 a3 a4)))
+  said-10 : (a0 : Registers) (a1 : Auditing) (a2 : Cached) (a3 : ℕ) (a4 : Walks) (r : Auditing) → ent 𝓤 (ensured 𝓛 c10.ended (c10.clauses 𝓛 mem run) tt (a0, (a1, (a2, (a3, (a4, tt))))) tt r) (fact 𝓤 (r ≡ audit_took a0 a1.i a2 a3 a4))
+  said-10 a0 a1 a2 a3 a4 r = ex_e 𝓤 _ (λ ws. snd∗ 𝓤 (sem 𝓛 (lasts c10.ended tt (a0, (a1, (a2, (a3, (a4, tt))))) ws)) (fact 𝓤 (r ≡ audit_took a0 a1.i a2 a3 a4)))
 
   -- the loop's variant: what is known at its head, of the locals that change, ordered by what is left
   abbrev Turn : Type 0
@@ -340,7 +340,7 @@ module _ {M : Type 1} {𝓤 : Ura M} (𝓛 : Logic 𝓤) (mem : Memory → SProp
           use1 𝓛 (later (some (λ (r : Bool). (‵ ftrue ⊛ ‵ (Boolean.own r (val13 ∷ []))) ⊛ raw (ensured 𝓛 c3.ended (c3.clauses 𝓛 mem run) tt (t.0.s, tt) tt r)))) (id⊢ 𝓤 _) $ await ! tt $ choose ! (λ r14. split ! $ move ! (1 ∷ []) $ use1 𝓛 (raw (fact 𝓤 (r14 ≡ t.0.s.over))) (said-3 t.0.s r14) $ heard ! (r14 ≡ t.0.s.over) (λ e15. split ! $
           drop ! $ facts ! Boolean (Is Boolean) (shows 𝓛 Boolean) r14 (val13 ∷ []) (λ is16. land ! (from ! (stop !)) (init ! 16 refl ((bool_Lawful 𝓛).typed r14 _ is16).0) $
           rewrite ! 16 (λ (u : Val). ‵ (fat full_share ty_bool l16 0 u)) (ap only (bool_Tells r14 _ is16)) refl $
-          leaves-if ! (load ! (from ! (stop !)) (look ! 16 refl))
+          leaves_if ! (load ! (from ! (stop !)) (look ! 16 refl))
           (λ h17. use0 𝓛 (raw ((C4 𝓛 mem run).pre (to-4 t.0.s (LL.val row-Auditing.the_type law-Auditing.the_laws t.0.s)))) (goes-4 t.0.s (LL.val row-Auditing.the_type law-Auditing.the_laws t.0.s) t.1.0) $
           calls_at ! fm (C4 𝓛 mem run) known-4 (to-4 t.0.s (LL.val row-Auditing.the_type law-Auditing.the_laws t.0.s)) (and_then ! (load ! (from ! (stop !)) (look ! 10 refl)) (no_more !)) (λ val18.
           use1 𝓛 (later (some (λ (r : Audit). (‵ ftrue ⊛ ‵ ((row-Audit.the_row).own_val r (val18 ∷ []))) ⊛ raw (ensured 𝓛 c4.ended (c4.clauses 𝓛 mem run) tt (t.0.s, tt) tt r)))) (id⊢ 𝓤 _) $ await ! tt $ choose ! (λ r19. split ! $ move ! (1 ∷ []) $ use1 𝓛 (raw (fact 𝓤 (r19 ≡ t.0.s.answer))) (said-4 t.0.s r19) $ heard ! (r19 ≡ t.0.s.answer) (λ e20. split ! $
@@ -363,18 +363,18 @@ module _ {M : Type 1} {𝓤 : Ura M} (𝓛 : Logic 𝓤) (mem : Memory → SProp
           by ! (exits r23 (EL.val row-Audit.the_type law-Audit.the_laws r23) (subst (Is row-Audit.the_row r23) (EL.tells row-Audit.the_type law-Audit.the_laws r23 _ is25) is25) (law.ends (memory x1.now x2 x3.now) x4 x5.c030 x5.c040 x6 t.0 e15 h17 e20 e24)))))))))))
           (λ h17. use0 𝓛 (raw ((C6 𝓛 mem run).pre (to-6 x5 (LL.val row-CachePair.the_type law-CachePair.the_laws x5) x4 (LL.val row-Registers.the_type law-Registers.the_laws x4) t.0.s (LL.val row-Auditing.the_type law-Auditing.the_laws t.0.s)))) (goes-6 x5 (LL.val row-CachePair.the_type law-CachePair.the_laws x5) x4 (LL.val row-Registers.the_type law-Registers.the_laws x4) t.0.s (LL.val row-Auditing.the_type law-Auditing.the_laws t.0.s) i5 i4 t.1.0) $
           calls_at ! fm (C6 𝓛 mem run) known-6 (to-6 x5 (LL.val row-CachePair.the_type law-CachePair.the_laws x5) x4 (LL.val row-Registers.the_type law-Registers.the_laws x4) t.0.s (LL.val row-Auditing.the_type law-Auditing.the_laws t.0.s)) (and_then ! (load ! (from ! (stop !)) (look ! 6 refl)) (and_then ! (load ! (from ! (stop !)) (look ! 5 refl)) (and_then ! (load ! (from ! (stop !)) (look ! 10 refl)) (no_more !)))) (λ val26.
-          use1 𝓛 (later (some (λ (r : Cached). (‵ ftrue ⊛ ‵ ((row-Cached.the_row).own_val r (val26 ∷ []))) ⊛ raw (ensured 𝓛 c6.ended (c6.clauses 𝓛 mem run) tt (x5, (x4, (t.0.s, tt))) tt r)))) (id⊢ 𝓤 _) $ await ! tt $ choose ! (λ r27. split ! $ move ! (1 ∷ []) $ use1 𝓛 (raw (fact 𝓤 (r27 ≡ cachedAt x4 x5.c030 x5.c040 t.0.s.i))) (said-6 x5 x4 t.0.s r27) $ heard ! (r27 ≡ cachedAt x4 x5.c030 x5.c040 t.0.s.i) (λ e28. split ! $
+          use1 𝓛 (later (some (λ (r : Cached). (‵ ftrue ⊛ ‵ ((row-Cached.the_row).own_val r (val26 ∷ []))) ⊛ raw (ensured 𝓛 c6.ended (c6.clauses 𝓛 mem run) tt (x5, (x4, (t.0.s, tt))) tt r)))) (id⊢ 𝓤 _) $ await ! tt $ choose ! (λ r27. split ! $ move ! (1 ∷ []) $ use1 𝓛 (raw (fact 𝓤 (r27 ≡ cached_at x4 x5.c030 x5.c040 t.0.s.i))) (said-6 x5 x4 t.0.s r27) $ heard ! (r27 ≡ cached_at x4 x5.c030 x5.c040 t.0.s.i) (λ e28. split ! $
           drop ! $
           facts ! row-Cached.the_row (Is row-Cached.the_row) (shows 𝓛 row-Cached.the_row) r27 (val26 ∷ []) (λ is29. land ! (from ! (stop !)) (init ! 11 refl ((LL.lawful row-Cached.the_type law-Cached.the_laws 𝓛).typed r27 _ is29).0) $
           rewrite ! 11 (λ (u : Val). ‵ (fat full_share law-Cached.mir l11 0 u)) (ap only (LL.tells row-Cached.the_type law-Cached.the_laws r27 _ is29)) refl $
           use0 𝓛 (raw ((C7 𝓛 mem run).pre (to-7 x4 (LL.val row-Registers.the_type law-Registers.the_laws x4) r27 (LL.val row-Cached.the_type law-Cached.the_laws r27)))) (goes-7 x4 (LL.val row-Registers.the_type law-Registers.the_laws x4) r27 (LL.val row-Cached.the_type law-Cached.the_laws r27) i4 (subst (Is row-Cached.the_row r27) (LL.tells row-Cached.the_type law-Cached.the_laws r27 _ is29) is29)) $
           calls_at ! fm (C7 𝓛 mem run) known-7 (to-7 x4 (LL.val row-Registers.the_type law-Registers.the_laws x4) r27 (LL.val row-Cached.the_type law-Cached.the_laws r27)) (and_then ! (load ! (from ! (stop !)) (look ! 5 refl)) (and_then ! (load ! (from ! (stop !)) (look ! 12 refl)) (no_more !))) (λ val30.
-          use1 𝓛 (later (some (λ (r : ℕ). (‵ ftrue ⊛ ‵ (u32.own_val r (val30 ∷ []))) ⊛ raw (ensured 𝓛 c7.ended (c7.clauses 𝓛 mem run) tt (x4, (r27, tt)) tt r)))) (id⊢ 𝓤 _) $ await ! tt $ choose ! (λ r31. split ! $ move ! (1 ∷ []) $ use1 𝓛 (raw (fact 𝓤 (r31 ≡ addressFor x4 r27))) (said-7 x4 r27 r31) $ heard ! (r31 ≡ addressFor x4 r27) (λ e32. split ! $
+          use1 𝓛 (later (some (λ (r : ℕ). (‵ ftrue ⊛ ‵ (u32.own_val r (val30 ∷ []))) ⊛ raw (ensured 𝓛 c7.ended (c7.clauses 𝓛 mem run) tt (x4, (r27, tt)) tt r)))) (id⊢ 𝓤 _) $ await ! tt $ choose ! (λ r31. split ! $ move ! (1 ∷ []) $ use1 𝓛 (raw (fact 𝓤 (r31 ≡ address_for x4 r27))) (said-7 x4 r27 r31) $ heard ! (r31 ≡ address_for x4 r27) (λ e32. split ! $
           drop ! $ facts ! u32 (Is u32) (shows 𝓛 u32) r31 (val30 ∷ []) (λ is33. land ! (from ! (stop !)) (init ! 12 refl ((uint_Lawful 𝓛 w32).typed r31 _ is33).0) $
           rewrite ! 12 (λ (u : Val). ‵ (fat full_share (ty_int w32) l12 0 u)) (ap only (uint_Tells w32 r31 _ is33)) refl $
           use0 𝓛 (raw ((C8 𝓛 mem run).pre (to-8 x4 (LL.val row-Registers.the_type law-Registers.the_laws x4) r27 (LL.val row-Cached.the_type law-Cached.the_laws r27)))) (goes-8 x4 (LL.val row-Registers.the_type law-Registers.the_laws x4) r27 (LL.val row-Cached.the_type law-Cached.the_laws r27) i4 (subst (Is row-Cached.the_row r27) (LL.tells row-Cached.the_type law-Cached.the_laws r27 _ is29) is29)) $
           calls_at ! fm (C8 𝓛 mem run) known-8 (to-8 x4 (LL.val row-Registers.the_type law-Registers.the_laws x4) r27 (LL.val row-Cached.the_type law-Cached.the_laws r27)) (and_then ! (load ! (from ! (stop !)) (look ! 5 refl)) (and_then ! (load ! (from ! (stop !)) (look ! 12 refl)) (no_more !))) (λ val34.
-          use1 𝓛 (later (some (λ (r : Way). (‵ ftrue ⊛ ‵ ((row-Way.the_row).own_val r (val34 ∷ []))) ⊛ raw (ensured 𝓛 c8.ended (c8.clauses 𝓛 mem run) tt (x4, (r27, tt)) tt r)))) (id⊢ 𝓤 _) $ await ! tt $ choose ! (λ r35. split ! $ move ! (1 ∷ []) $ use1 𝓛 (raw (fact 𝓤 (r35 ≡ wayFor x4 r27))) (said-8 x4 r27 r35) $ heard ! (r35 ≡ wayFor x4 r27) (λ e36. split ! $
+          use1 𝓛 (later (some (λ (r : Way). (‵ ftrue ⊛ ‵ ((row-Way.the_row).own_val r (val34 ∷ []))) ⊛ raw (ensured 𝓛 c8.ended (c8.clauses 𝓛 mem run) tt (x4, (r27, tt)) tt r)))) (id⊢ 𝓤 _) $ await ! tt $ choose ! (λ r35. split ! $ move ! (1 ∷ []) $ use1 𝓛 (raw (fact 𝓤 (r35 ≡ way_for x4 r27))) (said-8 x4 r27 r35) $ heard ! (r35 ≡ way_for x4 r27) (λ e36. split ! $
           drop ! $
           facts ! row-Way.the_row (Is row-Way.the_row) (shows 𝓛 row-Way.the_row) r35 (val34 ∷ []) (λ is37. land ! (from ! (stop !)) (init ! 13 refl ((EL.lawful row-Way.the_type law-Way.the_laws 𝓛 tt).typed r35 _ is37).0) $
           rewrite ! 13 (λ (u : Val). ‵ (fat full_share law-Way.mir l13 0 u)) (ap only (EL.tells row-Way.the_type law-Way.the_laws r35 _ is37)) refl $ move ! (36 ∷ []) $
@@ -384,13 +384,13 @@ module _ {M : Type 1} {𝓤 : Ura M} (𝓛 : Logic 𝓤) (mem : Memory → SProp
           split ! $ move ! (38 ∷ 39 ∷ 2 ∷ 0 ∷ []) $ group ! 4 $
           use1 𝓛 (raw ((C9 𝓛 mem run).pre (to-9 x1 (slice_val x1.ref_ptr (length x1.now)) x2 (vint w32 x2) x3 (slice_val x3.ref_ptr (length x3.now)) x4 (LL.val row-Registers.the_type law-Registers.the_laws x4) r31 (vint w32 r31) r35 (EL.val row-Way.the_type law-Way.the_laws r35)))) (goes-9 x1 (slice_val x1.ref_ptr (length x1.now)) x2 (vint w32 x2) x3 (slice_val x3.ref_ptr (length x3.now)) x4 (LL.val row-Registers.the_type law-Registers.the_laws x4) r31 (vint w32 r31) r35 (EL.val row-Way.the_type law-Way.the_laws r35) i2 i4 (subst (Is u32 r31) (uint_Tells w32 r31 _ is33) is33) (subst (Is row-Way.the_row r35) (EL.tells row-Way.the_type law-Way.the_laws r35 _ is37) is37)) $
           calls_at ! fm (C9 𝓛 mem run) known-9 (to-9 x1 (slice_val x1.ref_ptr (length x1.now)) x2 (vint w32 x2) x3 (slice_val x3.ref_ptr (length x3.now)) x4 (LL.val row-Registers.the_type law-Registers.the_laws x4) r31 (vint w32 r31) r35 (EL.val row-Way.the_type law-Way.the_laws r35)) (and_then ! (load ! (from ! (stop !)) (look ! 4 refl)) (and_then ! (load ! (from ! (stop !)) (look ! 5 refl)) (and_then ! (load ! (from ! (stop !)) (look ! 6 refl)) (and_then ! (load ! (from ! (stop !)) (look ! 7 refl)) (and_then ! (load ! (from ! (stop !)) (look ! 15 refl)) (and_then ! (load ! (from ! (stop !)) (look ! 16 refl)) (no_more !))))))) (λ val38.
-          use1 𝓛 (later (some (λ (r : Walks). ((‵ (flft κ0 q0) ⊛ ‵ (flft κ1 q1) ⊛ ‵ ftrue) ⊛ ‵ ((row-Walks.the_row).own_val r (val38 ∷ []))) ⊛ raw (ensured 𝓛 c9.ended (c9.clauses 𝓛 mem run) (κ0, (κ1, tt)) (x1, (x2, (x3, (x4, (r31, (r35, tt)))))) tt r)))) (id⊢ 𝓤 _) $ await ! tt $ choose ! (λ r39. split ! $ move ! (1 ∷ []) $ use1 𝓛 (raw (fact 𝓤 (r39 ≡ walksOf (memory x1.now x2 x3.now) x4 r31 r35))) (said-9 x1 x2 x3 x4 r31 r35 r39) $ heard ! (r39 ≡ walksOf (memory x1.now x2 x3.now) x4 r31 r35) (λ e40. split ! $
+          use1 𝓛 (later (some (λ (r : Walks). ((‵ (flft κ0 q0) ⊛ ‵ (flft κ1 q1) ⊛ ‵ ftrue) ⊛ ‵ ((row-Walks.the_row).own_val r (val38 ∷ []))) ⊛ raw (ensured 𝓛 c9.ended (c9.clauses 𝓛 mem run) (κ0, (κ1, tt)) (x1, (x2, (x3, (x4, (r31, (r35, tt)))))) tt r)))) (id⊢ 𝓤 _) $ await ! tt $ choose ! (λ r39. split ! $ move ! (1 ∷ []) $ use1 𝓛 (raw (fact 𝓤 (r39 ≡ walks_of (memory x1.now x2 x3.now) x4 r31 r35))) (said-9 x1 x2 x3 x4 r31 r35 r39) $ heard ! (r39 ≡ walks_of (memory x1.now x2 x3.now) x4 r31 r35) (λ e40. split ! $
           split ! $ move ! (1 ∷ []) $ split ! $ move ! (1 ∷ []) $ drop ! $ move ! (2 ∷ []) $
           facts ! row-Walks.the_row (Is row-Walks.the_row) (shows 𝓛 row-Walks.the_row) r39 (val38 ∷ []) (λ is41. land ! (from ! (stop !)) (init ! 18 refl ((EL.lawful row-Walks.the_type law-Walks.the_laws 𝓛 tt).typed r39 _ is41).0) $
           rewrite ! 18 (λ (u : Val). ‵ (fat full_share law-Walks.mir l14 0 u)) (ap only (EL.tells row-Walks.the_type law-Walks.the_laws r39 _ is41)) refl $
           use0 𝓛 (raw ((C10 𝓛 mem run).pre (to-10 x4 (LL.val row-Registers.the_type law-Registers.the_laws x4) t.0.s (LL.val row-Auditing.the_type law-Auditing.the_laws t.0.s) r27 (LL.val row-Cached.the_type law-Cached.the_laws r27) r31 (vint w32 r31) r39 (EL.val row-Walks.the_type law-Walks.the_laws r39)))) (goes-10 x4 (LL.val row-Registers.the_type law-Registers.the_laws x4) t.0.s (LL.val row-Auditing.the_type law-Auditing.the_laws t.0.s) r27 (LL.val row-Cached.the_type law-Cached.the_laws r27) r31 (vint w32 r31) r39 (EL.val row-Walks.the_type law-Walks.the_laws r39) i4 t.1.0 (subst (Is row-Cached.the_row r27) (LL.tells row-Cached.the_type law-Cached.the_laws r27 _ is29) is29) (subst (Is u32 r31) (uint_Tells w32 r31 _ is33) is33) (subst (Is row-Walks.the_row r39) (EL.tells row-Walks.the_type law-Walks.the_laws r39 _ is41) is41)) $
           calls_at_last ! fm (C10 𝓛 mem run) known-10 (to-10 x4 (LL.val row-Registers.the_type law-Registers.the_laws x4) t.0.s (LL.val row-Auditing.the_type law-Auditing.the_laws t.0.s) r27 (LL.val row-Cached.the_type law-Cached.the_laws r27) r31 (vint w32 r31) r39 (EL.val row-Walks.the_type law-Walks.the_laws r39)) (and_then ! (load ! (from ! (stop !)) (look ! 9 refl)) (and_then ! (load ! (from ! (stop !)) (look ! 14 refl)) (and_then ! (load ! (from ! (stop !)) (look ! 16 refl)) (and_then ! (load ! (from ! (stop !)) (look ! 17 refl)) (and_then ! (load ! (from ! (stop !)) (look ! 19 refl)) (no_more !)))))) (λ val42.
-          use1 𝓛 (later (some (λ (r : Auditing). (‵ ftrue ⊛ ‵ ((row-Auditing.the_row).own_val r (val42 ∷ []))) ⊛ raw (ensured 𝓛 c10.ended (c10.clauses 𝓛 mem run) tt (x4, (t.0.s, (r27, (r31, (r39, tt))))) tt r)))) (id⊢ 𝓤 _) $ await ! tt $ choose ! (λ r43. split ! $ move ! (1 ∷ []) $ use1 𝓛 (raw (fact 𝓤 (r43 ≡ auditTook x4 t.0.s.i r27 r31 r39))) (said-10 x4 t.0.s r27 r31 r39 r43) $ heard ! (r43 ≡ auditTook x4 t.0.s.i r27 r31 r39) (λ e44. split ! $
+          use1 𝓛 (later (some (λ (r : Auditing). (‵ ftrue ⊛ ‵ ((row-Auditing.the_row).own_val r (val42 ∷ []))) ⊛ raw (ensured 𝓛 c10.ended (c10.clauses 𝓛 mem run) tt (x4, (t.0.s, (r27, (r31, (r39, tt))))) tt r)))) (id⊢ 𝓤 _) $ await ! tt $ choose ! (λ r43. split ! $ move ! (1 ∷ []) $ use1 𝓛 (raw (fact 𝓤 (r43 ≡ audit_took x4 t.0.s.i r27 r31 r39))) (said-10 x4 t.0.s r27 r31 r39 r43) $ heard ! (r43 ≡ audit_took x4 t.0.s.i r27 r31 r39) (λ e44. split ! $
           drop ! $
           facts ! row-Auditing.the_row (Is row-Auditing.the_row) (shows 𝓛 row-Auditing.the_row) r43 (val42 ∷ []) (λ is45. land_last ! (from ! (stop !)) (store ! 13 refl ((LL.lawful row-Auditing.the_type law-Auditing.the_laws 𝓛).typed r43 _ is45).0) $
           rewrite ! 13 (λ (u : Val). ‵ (fat full_share law-Auditing.mir l9 0 u)) (ap only (LL.tells row-Auditing.the_type law-Auditing.the_laws r43 _ is45)) refl $ forget ! 15 refl $
@@ -412,7 +412,7 @@ module _ {M : Type 1} {𝓤 : Ura M} (𝓛 : Logic 𝓤) (mem : Memory → SProp
         split ! $ move ! (3 ∷ 0 ∷ []) $ group ! 2 $
         use1 𝓛 (raw ((C0 𝓛 mem run).pre (to-0 x1 (slice_val x1.ref_ptr (length x1.now)) x2 (vint w32 x2)))) (goes-0 x1 (slice_val x1.ref_ptr (length x1.now)) x2 (vint w32 x2) i2) $
         calls_at ! fm (C0 𝓛 mem run) known-0 (to-0 x1 (slice_val x1.ref_ptr (length x1.now)) x2 (vint w32 x2)) (and_then ! (load ! (from ! (stop !)) (look ! 34 refl)) (and_then ! (load ! (from ! (stop !)) (look ! 32 refl)) (no_more !))) (λ val1.
-        use1 𝓛 (later (some (λ (r : Bool). ((‵ (flft κ0 q0) ⊛ ‵ ftrue) ⊛ ‵ (Boolean.own r (val1 ∷ []))) ⊛ raw (ensured 𝓛 c0.ended (c0.clauses 𝓛 mem run) (κ0, tt) (x1, (x2, tt)) tt r)))) (id⊢ 𝓤 _) $ await ! tt $ choose ! (λ r2. split ! $ move ! (1 ∷ []) $ use1 𝓛 (raw (fact 𝓤 (r2 ≡ badBase (memory x1.now x2 [])))) (said-0 x1 x2 r2) $ heard ! (r2 ≡ badBase (memory x1.now x2 [])) (λ e3. split ! $
+        use1 𝓛 (later (some (λ (r : Bool). ((‵ (flft κ0 q0) ⊛ ‵ ftrue) ⊛ ‵ (Boolean.own r (val1 ∷ []))) ⊛ raw (ensured 𝓛 c0.ended (c0.clauses 𝓛 mem run) (κ0, tt) (x1, (x2, tt)) tt r)))) (id⊢ 𝓤 _) $ await ! tt $ choose ! (λ r2. split ! $ move ! (1 ∷ []) $ use1 𝓛 (raw (fact 𝓤 (r2 ≡ bad_base (memory x1.now x2 [])))) (said-0 x1 x2 r2) $ heard ! (r2 ≡ bad_base (memory x1.now x2 [])) (λ e3. split ! $
         split ! $ move ! (1 ∷ []) $ drop ! $ move ! (1 ∷ []) $
         facts ! Boolean (Is Boolean) (shows 𝓛 Boolean) r2 (val1 ∷ []) (λ is4. land ! (from ! (stop !)) (init ! 22 refl ((bool_Lawful 𝓛).typed r2 _ is4).0) $
         rewrite ! 22 (λ (u : Val). ‵ (fat full_share ty_bool l7 0 u)) (ap only (bool_Tells r2 _ is4)) refl $ move ! (3 ∷ []) $
@@ -426,7 +426,7 @@ module _ {M : Type 1} {𝓤 : Ura M} (𝓛 : Logic 𝓤) (mem : Memory → SProp
         rewrite ! 20 (λ (u : Val). ‵ (fat full_share ty_bool l8 0 u)) (ap only (bool_Tells r6 _ is8)) refl $
         use0 𝓛 (raw ((C2 𝓛 mem run).pre (to-2 x5 (LL.val row-CachePair.the_type law-CachePair.the_laws x5) r2 (vbool r2) r6 (vbool r6) x4 (LL.val row-Registers.the_type law-Registers.the_laws x4) x6 (vint w32 x6)))) (goes-2 x5 (LL.val row-CachePair.the_type law-CachePair.the_laws x5) r2 (vbool r2) r6 (vbool r6) x4 (LL.val row-Registers.the_type law-Registers.the_laws x4) x6 (vint w32 x6) i5 (subst (Is Boolean r2) (bool_Tells r2 _ is4) is4) (subst (Is Boolean r6) (bool_Tells r6 _ is8) is8) i4 i6) $
         calls_at ! fm (C2 𝓛 mem run) known-2 (to-2 x5 (LL.val row-CachePair.the_type law-CachePair.the_laws x5) r2 (vbool r2) r6 (vbool r6) x4 (LL.val row-Registers.the_type law-Registers.the_laws x4) x6 (vint w32 x6)) (and_then ! (load ! (from ! (stop !)) (look ! 27 refl)) (and_then ! (load ! (from ! (stop !)) (look ! 23 refl)) (and_then ! (load ! (from ! (stop !)) (look ! 21 refl)) (and_then ! (load ! (from ! (stop !)) (look ! 29 refl)) (and_then ! (load ! (from ! (stop !)) (look ! 25 refl)) (no_more !)))))) (λ val9.
-        use1 𝓛 (later (some (λ (r : Auditing). (‵ ftrue ⊛ ‵ ((row-Auditing.the_row).own_val r (val9 ∷ []))) ⊛ raw (ensured 𝓛 c2.ended (c2.clauses 𝓛 mem run) tt (x5, (r2, (r6, (x4, (x6, tt))))) tt r)))) (id⊢ 𝓤 _) $ await ! tt $ choose ! (λ r10. split ! $ move ! (1 ∷ []) $ use1 𝓛 (raw (fact 𝓤 (Begun (auditBegin x4 r2 r6 (cacheOf x5.c030) x6) r10 x5.c030 x5.c040))) (said-2 x5 r2 r6 x4 x6 r10) $ heard ! (Begun (auditBegin x4 r2 r6 (cacheOf x5.c030) x6) r10 x5.c030 x5.c040) (λ e11. split ! $
+        use1 𝓛 (later (some (λ (r : Auditing). (‵ ftrue ⊛ ‵ ((row-Auditing.the_row).own_val r (val9 ∷ []))) ⊛ raw (ensured 𝓛 c2.ended (c2.clauses 𝓛 mem run) tt (x5, (r2, (r6, (x4, (x6, tt))))) tt r)))) (id⊢ 𝓤 _) $ await ! tt $ choose ! (λ r10. split ! $ move ! (1 ∷ []) $ use1 𝓛 (raw (fact 𝓤 (Begun (audit_begin x4 r2 r6 (cache_of x5.c030) x6) r10 x5.c030 x5.c040))) (said-2 x5 r2 r6 x4 x6 r10) $ heard ! (Begun (audit_begin x4 r2 r6 (cache_of x5.c030) x6) r10 x5.c030 x5.c040) (λ e11. split ! $
         drop ! $
         facts ! row-Auditing.the_row (Is row-Auditing.the_row) (shows 𝓛 row-Auditing.the_row) r10 (val9 ∷ []) (λ is12. land ! (from ! (stop !)) (init ! 18 refl ((LL.lawful row-Auditing.the_type law-Auditing.the_laws 𝓛).typed r10 _ is12).0) $
         rewrite ! 18 (λ (u : Val). ‵ (fat full_share law-Auditing.mir l9 0 u)) (ap only (LL.tells row-Auditing.the_type law-Auditing.the_laws r10 _ is12)) refl $ forget ! 22 refl $

@@ -40,15 +40,15 @@ use denote.Exit.{yes}
 use Rattle.audit.proofs.Saying as law
 use Rattle.definition.specs.Memory.{memory}
 use Rattle.definition.specs.Audit.{finding as findingOf}
-use Rattle.cache.specs.Atc030.{cacheOf}
+use Rattle.cache.specs.Atc030.{cache_of}
 use Rattle.cache.specs.Pair.{pair_of}
-use Rattle.audit.specs.Machine.{auditRefusal, LooksAt}
-use Rattle.definition.specs.Refusal.{badBase}
+use Rattle.audit.specs.Machine.{audit_refusal, LooksAt}
+use Rattle.definition.specs.Refusal.{bad_base}
 use Rattle.definition.specs.Refusal.{crossed}
 use Rattle.definition.specs.Words.{any_of}
-use Rattle.definition.specs.Translate.{emptyCaches}
+use Rattle.definition.specs.Translate.{empty_caches}
 use Rattle.definition.specs.Audit.{bare as bareOf}
-use Rattle.audit.specs.Told.{accessFor, toldOf}
+use Rattle.audit.specs.Told.{access_for, told_of}
 use Rattle.definition.specs.Translate.{translate as translateOf}
 use Rattle.mmu.specs.ByValue.{TranslatedBy}
 use Rattle.audit.specs.declared.Cached.{Cached}
@@ -166,8 +166,8 @@ module _ {M : Type 1} {𝓤 : Ura M} (𝓛 : Logic 𝓤) (mem : Memory → SProp
   goes-0 a0 v0 a1 v1 i1 =
       qed 𝓛 (‵ (flft κ0 q0) ∷ ‵ ((ShrSlice (named 0) κ0 u32).own_val a0 (v0 ∷ [])) ∷ []) ∵ nothing ! $ owned ! u32 (Is u32) (uint_Makes 𝓛 w32) a1 _ i1 $ fjoin ! $ move ! (2 ∷ 0 ∷ []) $ fjoin ! $ nothing ! $ move ! (2 ∷ 0 ∷ []) $ join ! $ join ! $ frame ! $ done !
 
-  said-0 : (a0 : Bor (List ℕ)) (a1 : ℕ) (r : Bool) → ent 𝓤 (ensured 𝓛 c0.ended (c0.clauses 𝓛 mem run) (κ0, tt) (a0, (a1, tt)) tt r) (fact 𝓤 (r ≡ badBase (memory a0.now a1 [])))
-  said-0 a0 a1 r = ex_e 𝓤 _ (λ ws. snd∗ 𝓤 (sem 𝓛 (lasts c0.ended (κ0, tt) (a0, (a1, tt)) ws)) (fact 𝓤 (r ≡ badBase (memory a0.now a1 []))))
+  said-0 : (a0 : Bor (List ℕ)) (a1 : ℕ) (r : Bool) → ent 𝓤 (ensured 𝓛 c0.ended (c0.clauses 𝓛 mem run) (κ0, tt) (a0, (a1, tt)) tt r) (fact 𝓤 (r ≡ bad_base (memory a0.now a1 [])))
+  said-0 a0 a1 r = ex_e 𝓤 _ (λ ws. snd∗ 𝓤 (sem 𝓛 (lasts c0.ended (κ0, tt) (a0, (a1, tt)) ws)) (fact 𝓤 (r ≡ bad_base (memory a0.now a1 []))))
 
   -- the call of `ranges.any_crossed`: what it is passed, what it asks, and what is known of its result
   abbrev to-1 : (a0 : Bor (List Range)) (v0 : Val) → (C1 𝓛 mem run).Ghost
@@ -188,8 +188,8 @@ module _ {M : Type 1} {𝓤 : Ura M} (𝓛 : Logic 𝓤) (mem : Memory → SProp
   goes-2 a0 v0 a1 v1 a2 v2 a3 v3 i0 i1 i2 i3 =
       qed 𝓛 ([]) ∵ nothing ! $ owned ! row-Registers.the_row (Is row-Registers.the_row) (LL.makes row-Registers.the_type law-Registers.the_plain 𝓛) a3 _ i3 $ fjoin ! $ owned ! Boolean (Is Boolean) (bool_Makes 𝓛) a2 _ i2 $ fjoin ! $ owned ! Boolean (Is Boolean) (bool_Makes 𝓛) a1 _ i1 $ fjoin ! $ owned ! row-CachePair.the_row (Is row-CachePair.the_row) (LL.makes row-CachePair.the_type law-CachePair.the_plain 𝓛) a0 _ i0 $ fjoin ! $ nothing ! $ join ! $ frame ! $ done !
 
-  said-2 : (a0 : CachePair) (a1 : Bool) (a2 : Bool) (a3 : Registers) (r : ℕ) → ent 𝓤 (ensured 𝓛 c2.ended (c2.clauses 𝓛 mem run) tt (a0, (a1, (a2, (a3, tt)))) tt r) (fact 𝓤 (r ≡ auditRefusal a3 a1 a2 (cacheOf a0.c030)))
-  said-2 a0 a1 a2 a3 r = ex_e 𝓤 _ (λ ws. snd∗ 𝓤 (sem 𝓛 (lasts c2.ended tt (a0, (a1, (a2, (a3, tt)))) ws)) (fact 𝓤 (r ≡ auditRefusal a3 a1 a2 (cacheOf a0.c030))))
+  said-2 : (a0 : CachePair) (a1 : Bool) (a2 : Bool) (a3 : Registers) (r : ℕ) → ent 𝓤 (ensured 𝓛 c2.ended (c2.clauses 𝓛 mem run) tt (a0, (a1, (a2, (a3, tt)))) tt r) (fact 𝓤 (r ≡ audit_refusal a3 a1 a2 (cache_of a0.c030)))
+  said-2 a0 a1 a2 a3 r = ex_e 𝓤 _ (λ ws. snd∗ 𝓤 (sem 𝓛 (lasts c2.ended tt (a0, (a1, (a2, (a3, tt)))) ws)) (fact 𝓤 (r ≡ audit_refusal a3 a1 a2 (cache_of a0.c030))))
 
   -- the call of `by_value.looked_in`: what it is passed, what it asks, and what is known of its result
   abbrev to-3 : (a0 : CachePair) (v0 : Val) (a1 : Registers) (v1 : Val) (a2 : ℕ) (v2 : Val) → (C3 𝓛 mem run).Ghost
@@ -210,8 +210,8 @@ module _ {M : Type 1} {𝓤 : Ura M} (𝓛 : Logic 𝓤) (mem : Memory → SProp
   goes-4 a0 v0 a1 v1 a2 v2 i0 i1 i2 =
       qed 𝓛 ([]) ∵ nothing ! $ owned ! Boolean (Is Boolean) (bool_Makes 𝓛) a2 _ i2 $ fjoin ! $ owned ! row-Cached.the_row (Is row-Cached.the_row) (LL.makes row-Cached.the_type law-Cached.the_plain 𝓛) a1 _ i1 $ fjoin ! $ owned ! row-Registers.the_row (Is row-Registers.the_row) (LL.makes row-Registers.the_type law-Registers.the_plain 𝓛) a0 _ i0 $ fjoin ! $ nothing ! $ join ! $ frame ! $ done !
 
-  said-4 : (a0 : Registers) (a1 : Cached) (a2 : Bool) (r : Access) → ent 𝓤 (ensured 𝓛 c4.ended (c4.clauses 𝓛 mem run) tt (a0, (a1, (a2, tt))) tt r) (fact 𝓤 (r ≡ accessFor a0 a1 a2))
-  said-4 a0 a1 a2 r = ex_e 𝓤 _ (λ ws. snd∗ 𝓤 (sem 𝓛 (lasts c4.ended tt (a0, (a1, (a2, tt))) ws)) (fact 𝓤 (r ≡ accessFor a0 a1 a2)))
+  said-4 : (a0 : Registers) (a1 : Cached) (a2 : Bool) (r : Access) → ent 𝓤 (ensured 𝓛 c4.ended (c4.clauses 𝓛 mem run) tt (a0, (a1, (a2, tt))) tt r) (fact 𝓤 (r ≡ access_for a0 a1 a2))
+  said-4 a0 a1 a2 r = ex_e 𝓤 _ (λ ws. snd∗ 𝓤 (sem 𝓛 (lasts c4.ended tt (a0, (a1, (a2, tt))) ws)) (fact 𝓤 (r ≡ access_for a0 a1 a2)))
 
   -- the call of `telling.bare`: what it is passed, what it asks, and what is known of its result
   abbrev to-5 : (a0 : Registers) (v0 : Val) → (C5 𝓛 mem run).Ghost
@@ -232,8 +232,8 @@ module _ {M : Type 1} {𝓤 : Ura M} (𝓛 : Logic 𝓤) (mem : Memory → SProp
   goes-6 =
       qed 𝓛 ([]) ∵ nothing ! $ nothing ! $ join ! $ frame ! $ done !
 
-  said-6 : (r : CachePair) → ent 𝓤 (ensured 𝓛 c6.ended (c6.clauses 𝓛 mem run) tt tt tt r) (fact 𝓤 (pair_of r ≡ emptyCaches))
-  said-6 r = ex_e 𝓤 _ (λ ws. snd∗ 𝓤 (sem 𝓛 (lasts c6.ended tt tt ws)) (fact 𝓤 (pair_of r ≡ emptyCaches)))
+  said-6 : (r : CachePair) → ent 𝓤 (ensured 𝓛 c6.ended (c6.clauses 𝓛 mem run) tt tt tt r) (fact 𝓤 (pair_of r ≡ empty_caches))
+  said-6 r = ex_e 𝓤 _ (λ ws. snd∗ 𝓤 (sem 𝓛 (lasts c6.ended tt tt ws)) (fact 𝓤 (pair_of r ≡ empty_caches)))
 
   -- the call of `by_value.translate`: what it is passed, what it asks, and what is known of its result
   abbrev to-7 : (a0 : Bor (List ℕ)) (v0 : Val) (a1 : ℕ) (v1 : Val) (a2 : Bor (List Range)) (v2 : Val) (a3 : Registers) (v3 : Val) (a4 : Access) (v4 : Val) (a5 : CachePair) (v5 : Val) → (C7 𝓛 mem run).Ghost
@@ -254,8 +254,8 @@ module _ {M : Type 1} {𝓤 : Ura M} (𝓛 : Logic 𝓤) (mem : Memory → SProp
   goes-8 a0 v0 a1 v1 a2 v2 a3 v3 a4 v4 i0 i1 i2 i3 i4 =
       qed 𝓛 ([]) ∵ nothing ! $ owned ! row-Translated.the_row (Is row-Translated.the_row) (LL.makes row-Translated.the_type law-Translated.the_plain 𝓛) a4 _ i4 $ fjoin ! $ owned ! u32 (Is u32) (uint_Makes 𝓛 w32) a3 _ i3 $ fjoin ! $ owned ! Boolean (Is Boolean) (bool_Makes 𝓛) a2 _ i2 $ fjoin ! $ owned ! row-Cached.the_row (Is row-Cached.the_row) (LL.makes row-Cached.the_type law-Cached.the_plain 𝓛) a1 _ i1 $ fjoin ! $ owned ! row-Registers.the_row (Is row-Registers.the_row) (LL.makes row-Registers.the_type law-Registers.the_plain 𝓛) a0 _ i0 $ fjoin ! $ nothing ! $ join ! $ frame ! $ done !
 
-  said-8 : (a0 : Registers) (a1 : Cached) (a2 : Bool) (a3 : ℕ) (a4 : Translated) (r : Finding) → ent 𝓤 (ensured 𝓛 c8.ended (c8.clauses 𝓛 mem run) tt (a0, (a1, (a2, (a3, (a4, tt))))) tt r) (fact 𝓤 (r ≡ toldOf a0 a1 a2 a3 a4.answer))
-  said-8 a0 a1 a2 a3 a4 r = ex_e 𝓤 _ (λ ws. snd∗ 𝓤 (sem 𝓛 (lasts c8.ended tt (a0, (a1, (a2, (a3, (a4, tt))))) ws)) (fact 𝓤 (r ≡ toldOf a0 a1 a2 a3 a4.answer)))
+  said-8 : (a0 : Registers) (a1 : Cached) (a2 : Bool) (a3 : ℕ) (a4 : Translated) (r : Finding) → ent 𝓤 (ensured 𝓛 c8.ended (c8.clauses 𝓛 mem run) tt (a0, (a1, (a2, (a3, (a4, tt))))) tt r) (fact 𝓤 (r ≡ told_of a0 a1 a2 a3 a4.answer))
+  said-8 a0 a1 a2 a3 a4 r = ex_e 𝓤 _ (λ ws. snd∗ 𝓤 (sem 𝓛 (lasts c8.ended tt (a0, (a1, (a2, (a3, (a4, tt))))) ws)) (fact 𝓤 (r ≡ told_of a0 a1 a2 a3 a4.answer)))
 
   module _ (𝓣 : Tables 𝓤 H) (known-0 : Triple 𝓤 (𝓣.C #checks·bad-longs) (C0 𝓛 mem run)) (known-1 : Triple 𝓤 (𝓣.C #memory·ranges·any-crossed) (C1 𝓛 mem run)) (known-2 : Triple 𝓤 (𝓣.C #audit·by-value·refusal-in) (C2 𝓛 mem run)) (known-3 : Triple 𝓤 (𝓣.C #audit·by-value·looked-in) (C3 𝓛 mem run)) (known-4 : Triple 𝓤 (𝓣.C #audit·telling·access-for) (C4 𝓛 mem run)) (known-5 : Triple 𝓤 (𝓣.C #audit·telling·bare) (C5 𝓛 mem run)) (known-6 : Triple 𝓤 (𝓣.C #audit·telling·no-caches) (C6 𝓛 mem run)) (known-7 : Triple 𝓤 (𝓣.C #mmu·by-value·translate) (C7 𝓛 mem run)) (known-8 : Triple 𝓤 (𝓣.C #audit·telling·told) (C8 𝓛 mem run)) where
     abbrev C : Calls 𝓤 H
@@ -278,7 +278,7 @@ module _ {M : Type 1} {𝓤 : Ura M} (𝓛 : Logic 𝓤) (mem : Memory → SProp
         split ! $ move ! (3 ∷ 0 ∷ []) $ group ! 2 $
         use1 𝓛 (raw ((C0 𝓛 mem run).pre (to-0 x1 (slice_val x1.ref_ptr (length x1.now)) x2 (vint w32 x2)))) (goes-0 x1 (slice_val x1.ref_ptr (length x1.now)) x2 (vint w32 x2) i2) $
         calls_at ! fm (C0 𝓛 mem run) known-0 (to-0 x1 (slice_val x1.ref_ptr (length x1.now)) x2 (vint w32 x2)) (and_then ! (load ! (from ! (stop !)) (look ! 32 refl)) (and_then ! (load ! (from ! (stop !)) (look ! 30 refl)) (no_more !))) (λ val1.
-        use1 𝓛 (later (some (λ (r : Bool). ((‵ (flft κ0 q0) ⊛ ‵ ftrue) ⊛ ‵ (Boolean.own r (val1 ∷ []))) ⊛ raw (ensured 𝓛 c0.ended (c0.clauses 𝓛 mem run) (κ0, tt) (x1, (x2, tt)) tt r)))) (id⊢ 𝓤 _) $ await ! tt $ choose ! (λ r2. split ! $ move ! (1 ∷ []) $ use1 𝓛 (raw (fact 𝓤 (r2 ≡ badBase (memory x1.now x2 [])))) (said-0 x1 x2 r2) $ heard ! (r2 ≡ badBase (memory x1.now x2 [])) (λ e3. split ! $
+        use1 𝓛 (later (some (λ (r : Bool). ((‵ (flft κ0 q0) ⊛ ‵ ftrue) ⊛ ‵ (Boolean.own r (val1 ∷ []))) ⊛ raw (ensured 𝓛 c0.ended (c0.clauses 𝓛 mem run) (κ0, tt) (x1, (x2, tt)) tt r)))) (id⊢ 𝓤 _) $ await ! tt $ choose ! (λ r2. split ! $ move ! (1 ∷ []) $ use1 𝓛 (raw (fact 𝓤 (r2 ≡ bad_base (memory x1.now x2 [])))) (said-0 x1 x2 r2) $ heard ! (r2 ≡ bad_base (memory x1.now x2 [])) (λ e3. split ! $
         split ! $ move ! (1 ∷ []) $ drop ! $ move ! (1 ∷ []) $
         facts ! Boolean (Is Boolean) (shows 𝓛 Boolean) r2 (val1 ∷ []) (λ is4. land ! (from ! (stop !)) (init ! 18 refl ((bool_Lawful 𝓛).typed r2 _ is4).0) $
         rewrite ! 18 (λ (u : Val). ‵ (fat full_share ty_bool l8 0 u)) (ap only (bool_Tells r2 _ is4)) refl $ move ! (3 ∷ []) $
@@ -292,7 +292,7 @@ module _ {M : Type 1} {𝓤 : Ura M} (𝓛 : Logic 𝓤) (mem : Memory → SProp
         rewrite ! 16 (λ (u : Val). ‵ (fat full_share ty_bool l9 0 u)) (ap only (bool_Tells r6 _ is8)) refl $
         use0 𝓛 (raw ((C2 𝓛 mem run).pre (to-2 x5 (LL.val row-CachePair.the_type law-CachePair.the_laws x5) r2 (vbool r2) r6 (vbool r6) x4 (LL.val row-Registers.the_type law-Registers.the_laws x4)))) (goes-2 x5 (LL.val row-CachePair.the_type law-CachePair.the_laws x5) r2 (vbool r2) r6 (vbool r6) x4 (LL.val row-Registers.the_type law-Registers.the_laws x4) i5 (subst (Is Boolean r2) (bool_Tells r2 _ is4) is4) (subst (Is Boolean r6) (bool_Tells r6 _ is8) is8) i4) $
         calls_at ! fm (C2 𝓛 mem run) known-2 (to-2 x5 (LL.val row-CachePair.the_type law-CachePair.the_laws x5) r2 (vbool r2) r6 (vbool r6) x4 (LL.val row-Registers.the_type law-Registers.the_laws x4)) (and_then ! (load ! (from ! (stop !)) (look ! 25 refl)) (and_then ! (load ! (from ! (stop !)) (look ! 19 refl)) (and_then ! (load ! (from ! (stop !)) (look ! 17 refl)) (and_then ! (load ! (from ! (stop !)) (look ! 27 refl)) (no_more !))))) (λ val9.
-        use1 𝓛 (later (some (λ (r : ℕ). (‵ ftrue ⊛ ‵ (u32.own_val r (val9 ∷ []))) ⊛ raw (ensured 𝓛 c2.ended (c2.clauses 𝓛 mem run) tt (x5, (r2, (r6, (x4, tt)))) tt r)))) (id⊢ 𝓤 _) $ await ! tt $ choose ! (λ r10. split ! $ move ! (1 ∷ []) $ use1 𝓛 (raw (fact 𝓤 (r10 ≡ auditRefusal x4 r2 r6 (cacheOf x5.c030)))) (said-2 x5 r2 r6 x4 r10) $ heard ! (r10 ≡ auditRefusal x4 r2 r6 (cacheOf x5.c030)) (λ e11. split ! $
+        use1 𝓛 (later (some (λ (r : ℕ). (‵ ftrue ⊛ ‵ (u32.own_val r (val9 ∷ []))) ⊛ raw (ensured 𝓛 c2.ended (c2.clauses 𝓛 mem run) tt (x5, (r2, (r6, (x4, tt)))) tt r)))) (id⊢ 𝓤 _) $ await ! tt $ choose ! (λ r10. split ! $ move ! (1 ∷ []) $ use1 𝓛 (raw (fact 𝓤 (r10 ≡ audit_refusal x4 r2 r6 (cache_of x5.c030)))) (said-2 x5 r2 r6 x4 r10) $ heard ! (r10 ≡ audit_refusal x4 r2 r6 (cache_of x5.c030)) (λ e11. split ! $
         drop ! $ facts ! u32 (Is u32) (shows 𝓛 u32) r10 (val9 ∷ []) (λ is12. land ! (from ! (stop !)) (init ! 14 refl ((uint_Lawful 𝓛 w32).typed r10 _ is12).0) $
         rewrite ! 14 (λ (u : Val). ‵ (fat full_share (ty_int w32) l10 0 u)) (ap only (uint_Tells w32 r10 _ is12)) refl $
         use0 𝓛 (raw ((C3 𝓛 mem run).pre (to-3 x5 (LL.val row-CachePair.the_type law-CachePair.the_laws x5) x4 (LL.val row-Registers.the_type law-Registers.the_laws x4) x6 (vint w32 x6)))) (goes-3 x5 (LL.val row-CachePair.the_type law-CachePair.the_laws x5) x4 (LL.val row-Registers.the_type law-Registers.the_laws x4) x6 (vint w32 x6) i5 i4 i6) $
@@ -303,7 +303,7 @@ module _ {M : Type 1} {𝓤 : Ura M} (𝓛 : Logic 𝓤) (mem : Memory → SProp
         rewrite ! 12 (λ (u : Val). ‵ (fat full_share law-Cached.mir l11 0 u)) (ap only (LL.tells row-Cached.the_type law-Cached.the_laws r14 _ is16)) refl $
         use0 𝓛 (raw ((C4 𝓛 mem run).pre (to-4 x4 (LL.val row-Registers.the_type law-Registers.the_laws x4) r14 (LL.val row-Cached.the_type law-Cached.the_laws r14) x7 (vbool x7)))) (goes-4 x4 (LL.val row-Registers.the_type law-Registers.the_laws x4) r14 (LL.val row-Cached.the_type law-Cached.the_laws r14) x7 (vbool x7) i4 (subst (Is row-Cached.the_row r14) (LL.tells row-Cached.the_type law-Cached.the_laws r14 _ is16) is16) i7) $
         calls_at ! fm (C4 𝓛 mem run) known-4 (to-4 x4 (LL.val row-Registers.the_type law-Registers.the_laws x4) r14 (LL.val row-Cached.the_type law-Cached.the_laws r14) x7 (vbool x7)) (and_then ! (load ! (from ! (stop !)) (look ! 27 refl)) (and_then ! (load ! (from ! (stop !)) (look ! 13 refl)) (and_then ! (load ! (from ! (stop !)) (look ! 21 refl)) (no_more !)))) (λ val17.
-        use1 𝓛 (later (some (λ (r : Access). (‵ ftrue ⊛ ‵ ((row-Access.the_row).own_val r (val17 ∷ []))) ⊛ raw (ensured 𝓛 c4.ended (c4.clauses 𝓛 mem run) tt (x4, (r14, (x7, tt))) tt r)))) (id⊢ 𝓤 _) $ await ! tt $ choose ! (λ r18. split ! $ move ! (1 ∷ []) $ use1 𝓛 (raw (fact 𝓤 (r18 ≡ accessFor x4 r14 x7))) (said-4 x4 r14 x7 r18) $ heard ! (r18 ≡ accessFor x4 r14 x7) (λ e19. split ! $
+        use1 𝓛 (later (some (λ (r : Access). (‵ ftrue ⊛ ‵ ((row-Access.the_row).own_val r (val17 ∷ []))) ⊛ raw (ensured 𝓛 c4.ended (c4.clauses 𝓛 mem run) tt (x4, (r14, (x7, tt))) tt r)))) (id⊢ 𝓤 _) $ await ! tt $ choose ! (λ r18. split ! $ move ! (1 ∷ []) $ use1 𝓛 (raw (fact 𝓤 (r18 ≡ access_for x4 r14 x7))) (said-4 x4 r14 x7 r18) $ heard ! (r18 ≡ access_for x4 r14 x7) (λ e19. split ! $
         drop ! $
         facts ! row-Access.the_row (Is row-Access.the_row) (shows 𝓛 row-Access.the_row) r18 (val17 ∷ []) (λ is20. land ! (from ! (stop !)) (init ! 10 refl ((LL.lawful row-Access.the_type law-Access.the_laws 𝓛).typed r18 _ is20).0) $
         rewrite ! 10 (λ (u : Val). ‵ (fat full_share law-Access.mir l12 0 u)) (ap only (LL.tells row-Access.the_type law-Access.the_laws r18 _ is20)) refl $
@@ -315,7 +315,7 @@ module _ {M : Type 1} {𝓤 : Ura M} (𝓛 : Logic 𝓤) (mem : Memory → SProp
         rewrite ! 8 (λ (u : Val). ‵ (fat full_share law-Registers.mir l13 0 u)) (ap only (LL.tells row-Registers.the_type law-Registers.the_laws r22 _ is24)) refl $
         use0 𝓛 (raw ((C6 𝓛 mem run).pre to-6)) goes-6 $
         calls_at ! fm (C6 𝓛 mem run) known-6 to-6 (no_more !) (λ val25.
-        use1 𝓛 (later (some (λ (r : CachePair). (‵ ftrue ⊛ ‵ ((row-CachePair.the_row).own_val r (val25 ∷ []))) ⊛ raw (ensured 𝓛 c6.ended (c6.clauses 𝓛 mem run) tt tt tt r)))) (id⊢ 𝓤 _) $ await ! tt $ choose ! (λ r26. split ! $ move ! (1 ∷ []) $ use1 𝓛 (raw (fact 𝓤 (pair_of r26 ≡ emptyCaches))) (said-6 r26) $ heard ! (pair_of r26 ≡ emptyCaches) (λ e27. split ! $
+        use1 𝓛 (later (some (λ (r : CachePair). (‵ ftrue ⊛ ‵ ((row-CachePair.the_row).own_val r (val25 ∷ []))) ⊛ raw (ensured 𝓛 c6.ended (c6.clauses 𝓛 mem run) tt tt tt r)))) (id⊢ 𝓤 _) $ await ! tt $ choose ! (λ r26. split ! $ move ! (1 ∷ []) $ use1 𝓛 (raw (fact 𝓤 (pair_of r26 ≡ empty_caches))) (said-6 r26) $ heard ! (pair_of r26 ≡ empty_caches) (λ e27. split ! $
         drop ! $
         facts ! row-CachePair.the_row (Is row-CachePair.the_row) (shows 𝓛 row-CachePair.the_row) r26 (val25 ∷ []) (λ is28. land ! (from ! (stop !)) (init ! 6 refl ((LL.lawful row-CachePair.the_type law-CachePair.the_laws 𝓛).typed r26 _ is28).0) $
         rewrite ! 6 (λ (u : Val). ‵ (fat full_share law-CachePair.mir l14 0 u)) (ap only (LL.tells row-CachePair.the_type law-CachePair.the_laws r26 _ is28)) refl $ move ! (3 ∷ []) $
@@ -331,7 +331,7 @@ module _ {M : Type 1} {𝓤 : Ura M} (𝓛 : Logic 𝓤) (mem : Memory → SProp
         rewrite ! 4 (λ (u : Val). ‵ (fat full_share law-Translated.mir l15 0 u)) (ap only (LL.tells row-Translated.the_type law-Translated.the_laws r30 _ is32)) refl $
         use0 𝓛 (raw ((C8 𝓛 mem run).pre (to-8 x4 (LL.val row-Registers.the_type law-Registers.the_laws x4) r14 (LL.val row-Cached.the_type law-Cached.the_laws r14) x7 (vbool x7) r10 (vint w32 r10) r30 (LL.val row-Translated.the_type law-Translated.the_laws r30)))) (goes-8 x4 (LL.val row-Registers.the_type law-Registers.the_laws x4) r14 (LL.val row-Cached.the_type law-Cached.the_laws r14) x7 (vbool x7) r10 (vint w32 r10) r30 (LL.val row-Translated.the_type law-Translated.the_laws r30) i4 (subst (Is row-Cached.the_row r14) (LL.tells row-Cached.the_type law-Cached.the_laws r14 _ is16) is16) i7 (subst (Is u32 r10) (uint_Tells w32 r10 _ is12) is12) (subst (Is row-Translated.the_row r30) (LL.tells row-Translated.the_type law-Translated.the_laws r30 _ is32) is32)) $
         calls_at ! fm (C8 𝓛 mem run) known-8 (to-8 x4 (LL.val row-Registers.the_type law-Registers.the_laws x4) r14 (LL.val row-Cached.the_type law-Cached.the_laws r14) x7 (vbool x7) r10 (vint w32 r10) r30 (LL.val row-Translated.the_type law-Translated.the_laws r30)) (and_then ! (load ! (from ! (stop !)) (look ! 27 refl)) (and_then ! (load ! (from ! (stop !)) (look ! 13 refl)) (and_then ! (load ! (from ! (stop !)) (look ! 21 refl)) (and_then ! (load ! (from ! (stop !)) (look ! 15 refl)) (and_then ! (load ! (from ! (stop !)) (look ! 5 refl)) (no_more !)))))) (λ val33.
-        use1 𝓛 (later (some (λ (r : Finding). (‵ ftrue ⊛ ‵ ((row-Finding.the_row).own_val r (val33 ∷ []))) ⊛ raw (ensured 𝓛 c8.ended (c8.clauses 𝓛 mem run) tt (x4, (r14, (x7, (r10, (r30, tt))))) tt r)))) (id⊢ 𝓤 _) $ await ! tt $ choose ! (λ r34. split ! $ move ! (1 ∷ []) $ use1 𝓛 (raw (fact 𝓤 (r34 ≡ toldOf x4 r14 x7 r10 r30.answer))) (said-8 x4 r14 x7 r10 r30 r34) $ heard ! (r34 ≡ toldOf x4 r14 x7 r10 r30.answer) (λ e35. split ! $
+        use1 𝓛 (later (some (λ (r : Finding). (‵ ftrue ⊛ ‵ ((row-Finding.the_row).own_val r (val33 ∷ []))) ⊛ raw (ensured 𝓛 c8.ended (c8.clauses 𝓛 mem run) tt (x4, (r14, (x7, (r10, (r30, tt))))) tt r)))) (id⊢ 𝓤 _) $ await ! tt $ choose ! (λ r34. split ! $ move ! (1 ∷ []) $ use1 𝓛 (raw (fact 𝓤 (r34 ≡ told_of x4 r14 x7 r10 r30.answer))) (said-8 x4 r14 x7 r10 r30 r34) $ heard ! (r34 ≡ told_of x4 r14 x7 r10 r30.answer) (λ e35. split ! $
         drop ! $
         facts ! row-Finding.the_row (Is row-Finding.the_row) (shows 𝓛 row-Finding.the_row) r34 (val33 ∷ []) (λ is36. land ! (from ! (stop !)) (init ! 34 refl ((EL.lawful row-Finding.the_type law-Finding.the_laws 𝓛 tt).typed r34 _ is36).0) $
         rewrite ! 34 (λ (u : Val). ‵ (fat full_share law-Finding.mir l0 0 u)) (ap only (EL.tells row-Finding.the_type law-Finding.the_laws r34 _ is36)) refl $

@@ -57,8 +57,8 @@ use Rattle.memory.proofs.Lending as lending
 use Rattle.audit.proofs.Fronts as law
 use Rattle.definition.specs.Memory.{memory}
 use Rattle.definition.specs.Audit.{finding as findingOf}
-use Rattle.cache.specs.Pair.{cachesOf}
-use Rattle.kept.specs.Front.{ofSixteen}
+use Rattle.cache.specs.Pair.{caches_of}
+use Rattle.kept.specs.Front.{of_sixteen}
 use Rattle.definition.specs.declared.Finding.{Finding}
 use Rattle.definition.specs.contracts.Finding as row-Finding
 use Rattle.definition.proofs.Finding.TheLaws as law-Finding
@@ -100,7 +100,7 @@ module _ {M : Type 1} {𝓤 : Ura M} (𝓛 : Logic 𝓤) (mem : Memory → SProp
   abbrev Post : Val → SProp 𝓤
   Post = (walk_of 𝓛 self.ended stayed (self.clauses 𝓛 mem run)).post (((κ0, (κ1, (κ2, tt))), (q0, (q1, (q2, tt))), tt, (x1, (x2, (x3, (x4, (x5, (x6, (x7, (x8, (x9, tt))))))))), at_entry), tt)
 
-  exits : (r : Finding) (u : Val) → Is row-Finding.the_row r (u ∷ []) → (r ≡ findingOf x7 (memory x3.now x4 (take x6 x5)) (cachesOf x1.now x2.now) x8 x9) → ent 𝓤 (⋆ 𝓛 (‵ (flft κ0 q0) ∷ ‵ (flft κ1 q1) ∷ ‵ (flft κ2 q2) ∷ ‵ ((ShrRef (named 0) κ0 (Array u64 69)).own_val x1 (vptr x1.ref_ptr.0 x1.ref_ptr.1 ∷ [])) ∷ ‵ ((ShrRef (named 1) κ1 (Array u64 128)).own_val x2 (vptr x2.ref_ptr.0 x2.ref_ptr.1 ∷ [])) ∷ ‵ ((ShrSlice (named 2) κ2 u32).own_val x3 (slice_val x3.ref_ptr (length x3.now) ∷ [])) ∷ [])) (Post u)
+  exits : (r : Finding) (u : Val) → Is row-Finding.the_row r (u ∷ []) → (r ≡ findingOf x7 (memory x3.now x4 (take x6 x5)) (caches_of x1.now x2.now) x8 x9) → ent 𝓤 (⋆ 𝓛 (‵ (flft κ0 q0) ∷ ‵ (flft κ1 q1) ∷ ‵ (flft κ2 q2) ∷ ‵ ((ShrRef (named 0) κ0 (Array u64 69)).own_val x1 (vptr x1.ref_ptr.0 x1.ref_ptr.1 ∷ [])) ∷ ‵ ((ShrRef (named 1) κ1 (Array u64 128)).own_val x2 (vptr x2.ref_ptr.0 x2.ref_ptr.1 ∷ [])) ∷ ‵ ((ShrSlice (named 2) κ2 u32).own_val x3 (slice_val x3.ref_ptr (length x3.now) ∷ [])) ∷ [])) (Post u)
   exits r u is e =
       qed 𝓛 (‵ (flft κ0 q0) ∷ ‵ (flft κ1 q1) ∷ ‵ (flft κ2 q2) ∷ ‵ ((ShrRef (named 0) κ0 (Array u64 69)).own_val x1 (vptr x1.ptr.0 x1.ptr.1 ∷ [])) ∷ ‵ ((ShrRef (named 1) κ1 (Array u64 128)).own_val x2 (vptr x2.ptr.0 x2.ptr.1 ∷ [])) ∷ ‵ ((ShrSlice (named 2) κ2 u32).own_val x3 (slice_val x3.ref_ptr (length x3.now) ∷ [])) ∷ []) ∵
       suffices ! _ (ends_at 𝓛 self.ended stayed (self.clauses 𝓛 mem run) (((κ0, (κ1, (κ2, tt))), (q0, (q1, (q2, tt))), tt, (x1, (x2, (x3, (x4, (x5, (x6, (x7, (x8, (x9, tt))))))))), at_entry), tt) u r (tt, (tt, (tt, (tt, (tt, (tt, (tt, (tt, (tt, tt))))))))) (tt, (tt, (tt, (tt, (tt, (tt, (tt, (tt, (tt, tt)))))))))) $ says ! e $
@@ -114,8 +114,8 @@ module _ {M : Type 1} {𝓤 : Ura M} (𝓛 : Logic 𝓤) (mem : Memory → SProp
   goes-0 a0 v0 i0 =
       qed 𝓛 ([]) ∵ nothing ! $ owned ! u64 (Is u64) (uint_Makes 𝓛 w64) a0 _ i0 $ fjoin ! $ nothing ! $ join ! $ frame ! $ done !
 
-  said-0 : (a0 : ℕ) (r : ℕ) → ent 𝓤 (ensured 𝓛 c0.ended (c0.clauses 𝓛 mem run) tt (a0, tt) tt r) (fact 𝓤 (r ≡ ofSixteen a0))
-  said-0 a0 r = ex_e 𝓤 _ (λ ws. snd∗ 𝓤 (sem 𝓛 (lasts c0.ended tt (a0, tt) ws)) (fact 𝓤 (r ≡ ofSixteen a0)))
+  said-0 : (a0 : ℕ) (r : ℕ) → ent 𝓤 (ensured 𝓛 c0.ended (c0.clauses 𝓛 mem run) tt (a0, tt) tt r) (fact 𝓤 (r ≡ of_sixteen a0))
+  said-0 a0 r = ex_e 𝓤 _ (λ ws. snd∗ 𝓤 (sem 𝓛 (lasts c0.ended tt (a0, tt) ws)) (fact 𝓤 (r ≡ of_sixteen a0)))
 
   -- the call of `finding.finding_lent`: what it is passed, what it asks, and what is known of its result
   abbrev to-1 : (κ3 : Lft) (q3 : Share) (a0 : Bor (List ℕ)) (v0 : Val) (a1 : Bor (List ℕ)) (v1 : Val) (a2 : Bor (List ℕ)) (v2 : Val) (a3 : ℕ) (v3 : Val) (a4 : Bor (List Range)) (v4 : Val) (a5 : Registers) (v5 : Val) (a6 : ℕ) (v6 : Val) (a7 : Bool) (v7 : Val) → (C1 𝓛 mem run).Ghost
@@ -125,8 +125,8 @@ module _ {M : Type 1} {𝓤 : Ura M} (𝓛 : Logic 𝓤) (mem : Memory → SProp
   goes-1 κ3 q3 a0 v0 a1 v1 a2 v2 a3 v3 a4 v4 a5 v5 a6 v6 a7 v7 i3 i5 i6 i7 =
       qed 𝓛 (‵ (flft κ0 q0) ∷ ‵ (flft κ1 q1) ∷ ‵ (flft κ2 q2) ∷ ‵ (flft κ3 q3) ∷ ‵ ((ShrRef (named 0) κ0 (Array u64 69)).own_val a0 (v0 ∷ [])) ∷ ‵ ((ShrRef (named 1) κ1 (Array u64 128)).own_val a1 (v1 ∷ [])) ∷ ‵ ((ShrSlice (named 2) κ2 u32).own_val a2 (v2 ∷ [])) ∷ ‵ ((ShrSlice (named 3) κ3 row-Range.the_row).own_val a4 (v4 ∷ [])) ∷ []) ∵ nothing ! $ owned ! Boolean (Is Boolean) (bool_Makes 𝓛) a7 _ i7 $ fjoin ! $ owned ! u32 (Is u32) (uint_Makes 𝓛 w32) a6 _ i6 $ fjoin ! $ owned ! row-Registers.the_row (Is row-Registers.the_row) (LL.makes row-Registers.the_type law-Registers.the_plain 𝓛) a5 _ i5 $ fjoin ! $ move ! (8 ∷ 0 ∷ []) $ fjoin ! $ owned ! u32 (Is u32) (uint_Makes 𝓛 w32) a3 _ i3 $ fjoin ! $ move ! (7 ∷ 0 ∷ []) $ fjoin ! $ move ! (6 ∷ 0 ∷ []) $ fjoin ! $ move ! (5 ∷ 0 ∷ []) $ fjoin ! $ nothing ! $ move ! (5 ∷ 0 ∷ []) $ join ! $ move ! (4 ∷ 0 ∷ []) $ join ! $ move ! (3 ∷ 0 ∷ []) $ join ! $ move ! (2 ∷ 0 ∷ []) $ join ! $ join ! $ frame ! $ done !
 
-  said-1 : (κ3 : Lft) (q3 : Share) (a0 : Bor (List ℕ)) (a1 : Bor (List ℕ)) (a2 : Bor (List ℕ)) (a3 : ℕ) (a4 : Bor (List Range)) (a5 : Registers) (a6 : ℕ) (a7 : Bool) (r : Finding) → ent 𝓤 (ensured 𝓛 c1.ended (c1.clauses 𝓛 mem run) (κ0, (κ1, (κ2, (κ3, tt)))) (a0, (a1, (a2, (a3, (a4, (a5, (a6, (a7, tt)))))))) tt r) (fact 𝓤 (r ≡ findingOf a5 (memory a2.now a3 a4.now) (cachesOf a0.now a1.now) a6 a7))
-  said-1 κ3 q3 a0 a1 a2 a3 a4 a5 a6 a7 r = ex_e 𝓤 _ (λ ws. snd∗ 𝓤 (sem 𝓛 (lasts c1.ended (κ0, (κ1, (κ2, (κ3, tt)))) (a0, (a1, (a2, (a3, (a4, (a5, (a6, (a7, tt)))))))) ws)) (fact 𝓤 (r ≡ findingOf a5 (memory a2.now a3 a4.now) (cachesOf a0.now a1.now) a6 a7)))
+  said-1 : (κ3 : Lft) (q3 : Share) (a0 : Bor (List ℕ)) (a1 : Bor (List ℕ)) (a2 : Bor (List ℕ)) (a3 : ℕ) (a4 : Bor (List Range)) (a5 : Registers) (a6 : ℕ) (a7 : Bool) (r : Finding) → ent 𝓤 (ensured 𝓛 c1.ended (c1.clauses 𝓛 mem run) (κ0, (κ1, (κ2, (κ3, tt)))) (a0, (a1, (a2, (a3, (a4, (a5, (a6, (a7, tt)))))))) tt r) (fact 𝓤 (r ≡ findingOf a5 (memory a2.now a3 a4.now) (caches_of a0.now a1.now) a6 a7))
+  said-1 κ3 q3 a0 a1 a2 a3 a4 a5 a6 a7 r = ex_e 𝓤 _ (λ ws. snd∗ 𝓤 (sem 𝓛 (lasts c1.ended (κ0, (κ1, (κ2, (κ3, tt)))) (a0, (a1, (a2, (a3, (a4, (a5, (a6, (a7, tt)))))))) ws)) (fact 𝓤 (r ≡ findingOf a5 (memory a2.now a3 a4.now) (caches_of a0.now a1.now) a6 a7)))
 
   module _ (𝓣 : Tables 𝓤 H) (known-0 : Triple 𝓤 (𝓣.C #kept·of-sixteen) (C0 𝓛 mem run)) (known-1 : Triple 𝓤 (𝓣.C #audit·finding·finding-lent) (C1 𝓛 mem run)) where
     abbrev C : Calls 𝓤 H
@@ -149,7 +149,7 @@ module _ {M : Type 1} {𝓤 : Ura M} (𝓛 : Logic 𝓤) (mem : Memory → SProp
         assigns ! (of_opd ! (load ! (from ! (stop !)) (look ! 22 refl))) (from ! (stop !)) (init ! 12 refl ((Array-Lawful 𝓛 row-Range.the_row (LL.lawful row-Range.the_type law-Range.the_laws 𝓛) 16).typed x5 _ i5).0) $
         use0 𝓛 (raw ((C0 𝓛 mem run).pre (to-0 x6 (vint w64 x6)))) (goes-0 x6 (vint w64 x6) i6) $
         calls_at ! fm (C0 𝓛 mem run) known-0 (to-0 x6 (vint w64 x6)) (and_then ! (load ! (from ! (stop !)) (look ! 21 refl)) (no_more !)) (λ val1.
-        use1 𝓛 (later (some (λ (r : ℕ). (‵ ftrue ⊛ ‵ (u64.own_val r (val1 ∷ []))) ⊛ raw (ensured 𝓛 c0.ended (c0.clauses 𝓛 mem run) tt (x6, tt) tt r)))) (id⊢ 𝓤 _) $ await ! tt $ choose ! (λ r2. split ! $ move ! (1 ∷ []) $ use1 𝓛 (raw (fact 𝓤 (r2 ≡ ofSixteen x6))) (said-0 x6 r2) $ heard ! (r2 ≡ ofSixteen x6) (λ e3. split ! $
+        use1 𝓛 (later (some (λ (r : ℕ). (‵ ftrue ⊛ ‵ (u64.own_val r (val1 ∷ []))) ⊛ raw (ensured 𝓛 c0.ended (c0.clauses 𝓛 mem run) tt (x6, tt) tt r)))) (id⊢ 𝓤 _) $ await ! tt $ choose ! (λ r2. split ! $ move ! (1 ∷ []) $ use1 𝓛 (raw (fact 𝓤 (r2 ≡ of_sixteen x6))) (said-0 x6 r2) $ heard ! (r2 ≡ of_sixteen x6) (λ e3. split ! $
         drop ! $ facts ! u64 (Is u64) (shows 𝓛 u64) r2 (val1 ∷ []) (λ is4. land ! (from ! (stop !)) (init ! 10 refl ((uint_Lawful 𝓛 w64).typed r2 _ is4).0) $
         rewrite ! 10 (λ (u : Val). ‵ (fat full_share (ty_int w64) l11 0 u)) (ap only (uint_Tells w64 r2 _ is4)) refl $
         assigns ! (addr ! (from ! (stop !))) (from ! (stop !)) (init ! 8 refl (tt, tt)) $
@@ -169,7 +169,7 @@ module _ {M : Type 1} {𝓤 : Ura M} (𝓛 : Logic 𝓤) (mem : Memory → SProp
         split ! $ move ! (12 ∷ 11 ∷ 10 ∷ 8 ∷ 4 ∷ 2 ∷ 0 ∷ 6 ∷ []) $ group ! 8 $
         use1 𝓛 (raw ((C1 𝓛 mem run).pre (to-1 (α3 ∷ []) full_share x1 (vptr x1.ptr.0 x1.ptr.1) x2 (vptr x2.ptr.0 x2.ptr.1) x3 (slice_val x3.ref_ptr (length x3.now)) x4 (vint w32 x4) (record { ref_ptr = (l10, 0); now = (take r2 x5) }) (slice_val (l10, 0) (length (take r2 x5))) x7 (LL.val row-Registers.the_type law-Registers.the_laws x7) x8 (vint w32 x8) x9 (vbool x9)))) (goes-1 (α3 ∷ []) full_share x1 (vptr x1.ptr.0 x1.ptr.1) x2 (vptr x2.ptr.0 x2.ptr.1) x3 (slice_val x3.ref_ptr (length x3.now)) x4 (vint w32 x4) (record { ref_ptr = (l10, 0); now = (take r2 x5) }) (slice_val (l10, 0) (length (take r2 x5))) x7 (LL.val row-Registers.the_type law-Registers.the_laws x7) x8 (vint w32 x8) x9 (vbool x9) i4 i7 i8 i9) $
         calls_at ! fm (C1 𝓛 mem run) known-1 (to-1 (α3 ∷ []) full_share x1 (vptr x1.ptr.0 x1.ptr.1) x2 (vptr x2.ptr.0 x2.ptr.1) x3 (slice_val x3.ref_ptr (length x3.now)) x4 (vint w32 x4) (record { ref_ptr = (l10, 0); now = (take r2 x5) }) (slice_val (l10, 0) (length (take r2 x5))) x7 (LL.val row-Registers.the_type law-Registers.the_laws x7) x8 (vint w32 x8) x9 (vbool x9)) (and_then ! (load ! (from ! (stop !)) (look ! 29 refl)) (and_then ! (load ! (from ! (stop !)) (look ! 27 refl)) (and_then ! (load ! (from ! (stop !)) (look ! 25 refl)) (and_then ! (load ! (from ! (stop !)) (look ! 23 refl)) (and_then ! (load ! (from ! (stop !)) (look ! 6 refl)) (and_then ! (load ! (from ! (stop !)) (look ! 17 refl)) (and_then ! (load ! (from ! (stop !)) (look ! 15 refl)) (and_then ! (load ! (from ! (stop !)) (look ! 13 refl)) (no_more !))))))))) (λ val6.
-        use1 𝓛 (later (some (λ (r : Finding). ((‵ (flft κ0 q0) ⊛ ‵ (flft κ1 q1) ⊛ ‵ (flft κ2 q2) ⊛ ‵ (flft (α3 ∷ []) full_share) ⊛ ‵ ftrue) ⊛ ‵ ((row-Finding.the_row).own_val r (val6 ∷ []))) ⊛ raw (ensured 𝓛 c1.ended (c1.clauses 𝓛 mem run) (κ0, (κ1, (κ2, ((α3 ∷ []), tt)))) (x1, (x2, (x3, (x4, ((record { ref_ptr = (l10, 0); now = (take r2 x5) }), (x7, (x8, (x9, tt)))))))) tt r)))) (id⊢ 𝓤 _) $ await ! tt $ choose ! (λ r7. split ! $ move ! (1 ∷ []) $ use1 𝓛 (raw (fact 𝓤 (r7 ≡ findingOf x7 (memory x3.now x4 (record { ref_ptr = (l10, 0); now = (take r2 x5) }).now) (cachesOf x1.now x2.now) x8 x9))) (said-1 (α3 ∷ []) full_share x1 x2 x3 x4 (record { ref_ptr = (l10, 0); now = (take r2 x5) }) x7 x8 x9 r7) $ heard ! (r7 ≡ findingOf x7 (memory x3.now x4 (record { ref_ptr = (l10, 0); now = (take r2 x5) }).now) (cachesOf x1.now x2.now) x8 x9) (λ e8. split ! $
+        use1 𝓛 (later (some (λ (r : Finding). ((‵ (flft κ0 q0) ⊛ ‵ (flft κ1 q1) ⊛ ‵ (flft κ2 q2) ⊛ ‵ (flft (α3 ∷ []) full_share) ⊛ ‵ ftrue) ⊛ ‵ ((row-Finding.the_row).own_val r (val6 ∷ []))) ⊛ raw (ensured 𝓛 c1.ended (c1.clauses 𝓛 mem run) (κ0, (κ1, (κ2, ((α3 ∷ []), tt)))) (x1, (x2, (x3, (x4, ((record { ref_ptr = (l10, 0); now = (take r2 x5) }), (x7, (x8, (x9, tt)))))))) tt r)))) (id⊢ 𝓤 _) $ await ! tt $ choose ! (λ r7. split ! $ move ! (1 ∷ []) $ use1 𝓛 (raw (fact 𝓤 (r7 ≡ findingOf x7 (memory x3.now x4 (record { ref_ptr = (l10, 0); now = (take r2 x5) }).now) (caches_of x1.now x2.now) x8 x9))) (said-1 (α3 ∷ []) full_share x1 x2 x3 x4 (record { ref_ptr = (l10, 0); now = (take r2 x5) }) x7 x8 x9 r7) $ heard ! (r7 ≡ findingOf x7 (memory x3.now x4 (record { ref_ptr = (l10, 0); now = (take r2 x5) }).now) (caches_of x1.now x2.now) x8 x9) (λ e8. split ! $
         split ! $ move ! (1 ∷ []) $ split ! $ move ! (1 ∷ []) $ split ! $ move ! (1 ∷ []) $ split ! $ move ! (1 ∷ []) $ drop ! $ move ! (4 ∷ []) $
         facts ! row-Finding.the_row (Is row-Finding.the_row) (shows 𝓛 row-Finding.the_row) r7 (val6 ∷ []) (λ is9. land ! (from ! (stop !)) (init ! 34 refl ((EL.lawful row-Finding.the_type law-Finding.the_laws 𝓛 tt).typed r7 _ is9).0) $
         rewrite ! 34 (λ (u : Val). ‵ (fat full_share law-Finding.mir l0 0 u)) (ap only (EL.tells row-Finding.the_type law-Finding.the_laws r7 _ is9)) refl $ lft_end ! tt $
@@ -180,7 +180,7 @@ module _ {M : Type 1} {𝓤 : Ura M} (𝓛 : Logic 𝓤) (mem : Memory → SProp
         free1 ! $ move ! (28 ∷ 29 ∷ []) $ free1 ! $ move ! (26 ∷ 27 ∷ []) $ free1 ! $ move ! (24 ∷ 25 ∷ []) $ free1 ! $ move ! (22 ∷ 23 ∷ []) $ free1 ! $ move ! (20 ∷ 21 ∷ []) $
         free1 ! $ move ! (18 ∷ 19 ∷ []) $ free1 ! $ move ! (16 ∷ 17 ∷ []) $ free1 ! $ move ! (14 ∷ 15 ∷ []) $ free1 ! $ move ! (0 ∷ 13 ∷ []) $ free1 ! $ move ! (10 ∷ 11 ∷ []) $
         free1 ! $ move ! (8 ∷ 9 ∷ []) $ free1 ! $ move ! (6 ∷ 7 ∷ []) $ free1 ! $ free0 ! $ keep ! (2 ∷ 1 ∷ 0 ∷ 5 ∷ 4 ∷ 3 ∷ []) $
-        by ! (exits r7 (EL.val row-Finding.the_type law-Finding.the_laws r7) (subst (Is row-Finding.the_row r7) (EL.tells row-Finding.the_type law-Finding.the_laws r7 _ is9) is9) (e8 ∙ ap (λ (l : List Range). findingOf x7 (memory x3.now x4 l) (cachesOf x1.now x2.now) x8 x9) (law.firsts x6 x5 i5.1.0.1 e3)))))))))))))))))))))))))))
+        by ! (exits r7 (EL.val row-Finding.the_type law-Finding.the_laws r7) (subst (Is row-Finding.the_row r7) (EL.tells row-Finding.the_type law-Finding.the_laws r7 _ is9) is9) (e8 ∙ ap (λ (l : List Range). findingOf x7 (memory x3.now x4 l) (caches_of x1.now x2.now) x8 x9) (law.firsts x6 x5 i5.1.0.1 e3)))))))))))))))))))))))))))
 
 module _ {M : Type 1} {𝓤 : Ura M} (𝓛 : Logic 𝓤) (mem : Memory → SProp 𝓤) (run : Routine → Fun 𝓤) (𝓣 : Tables 𝓤 𝓛.H) where
   open 𝓛 use {H}

@@ -22,7 +22,7 @@ bit-requires c κs = search rules
 
 -- src/finding.rt:52:1
 returns : tie.Need-returns
-returns c = law.access-is c.before.before.before.args.g c.before.before.before.args.x c.before.before.before.args.write c.before.before.address-for.ensures c.before.code-for.ensures c.bit.ensures
+returns c = law.access_is c.before.before.before.args.g c.before.before.before.args.x c.before.before.before.args.write c.before.before.address-for.ensures c.before.code-for.ensures c.bit.ensures
 
 pub access-for-spec : {M : Type 1} → statement M
 access-for-spec = tie.close (tie.spec address-for-requires code-for-requires bit-requires returns)

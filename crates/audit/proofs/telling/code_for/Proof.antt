@@ -12,7 +12,7 @@ cast-result c = search rules
 
 -- src/finding.rt:33:9
 returns : tie.Need-returns
-returns c = law.code-030 c.before.before.before.args.g c.before.before.before.args.x c.before.if1.true
+returns c = law.code_030 c.before.before.before.args.g c.before.before.before.args.x c.before.if1.true
 
 -- src/finding.rt:35:5
 code-of-requires : tie.Need-code-of-requires
@@ -20,7 +20,7 @@ code-of-requires c κs = search rules
 
 -- src/finding.rt:29:1
 returns-2 : tie.Need-returns-2
-returns-2 c = law.code-040 c.before.before.before.before.args.g c.before.before.before.before.args.x c.before.before.if1.false c.code_of_lem.ensures
+returns-2 c = law.code_040 c.before.before.before.before.args.g c.before.before.before.before.args.x c.before.before.if1.false c.code_of_lem.ensures
 
 pub code-for-spec : {M : Type 1} → statement M
 code-for-spec = tie.close (tie.spec cast-result returns code-of-requires returns-2)

@@ -10,7 +10,7 @@ use Rattle.audit.proofs.Saying as law
 
 -- src/finding.rt:103:9
 returns : tie.Need-returns
-returns c = law.told-refused c.before.args.g c.before.args.x c.before.args.write c.before.args.n _ c.if1.true
+returns c = law.told_refused c.before.args.g c.before.args.x c.before.args.write c.before.args.n _ c.if1.true
 
 -- src/finding.rt:105:9
 address-for-requires : tie.Need-address-for-requires
@@ -26,7 +26,7 @@ hit-for-requires c κs = search rules
 
 -- src/finding.rt:99:1
 returns-2 : tie.Need-returns-2
-returns-2 c = law.told-says c.before.before.before.before.args.g c.before.before.before.before.args.x c.before.before.before.before.args.write c.before.before.before.before.args.n _ c.before.before.before.if1.false c.before.before.address-for.ensures c.before.code-for.ensures c.hit-for.ensures
+returns-2 c = law.told_says c.before.before.before.before.args.g c.before.before.before.before.args.x c.before.before.before.before.args.write c.before.before.before.before.args.n _ c.before.before.before.if1.false c.before.before.address-for.ensures c.before.code-for.ensures c.hit-for.ensures
 
 pub told-spec : {M : Type 1} → statement M
 told-spec =

@@ -44,9 +44,9 @@ use borrow.Enum.Known.{at as variant-at, lives_at}
 use Rattle.memory.proofs.Branching.{as_variant}
 use Rattle.audit.proofs.Ways as law
 use Rattle.definition.specs.Memory.{memory}
-use Rattle.audit.specs.Ways.{walksOf}
+use Rattle.audit.specs.Ways.{walks_of}
 use Rattle.audit.specs.declared.walking.Walks.{Walks}
-use Rattle.definition.specs.Walk030.{everyLevel, walk030}
+use Rattle.definition.specs.Walk030.{every_level, walk030}
 use Rattle.walk030.specs.Walked.{shown}
 use Rattle.definition.specs.Walk040.{walk040}
 use Rattle.walk040.specs.Walked.{shown040}
@@ -80,7 +80,7 @@ use Rattle.walk030.proofs.walk.Symbol.{name as #walk030·walk}
 use Rattle.walk030.proofs.walk.Met as c2-thm
 use Rattle.audit.specs.contracts.walking.by_030 as c3
 use Rattle.audit.proofs.walking.by_030.Symbol as c3-def
-use Rattle.audit.proofs.walking.by_030.Symbol.{name as #audit·walking·by-030}
+use Rattle.audit.proofs.walking.by_030.Symbol.{name as #audit·walking·by_030}
 use Rattle.audit.proofs.walking.by_030.Met as c3-thm
 use Rattle.walk040.specs.contracts.walk as c4
 use Rattle.walk040.proofs.walk.Symbol as c4-def
@@ -88,7 +88,7 @@ use Rattle.walk040.proofs.walk.Symbol.{name as #walk040·walk}
 use Rattle.walk040.proofs.walk.Met as c4-thm
 use Rattle.audit.specs.contracts.walking.by_040 as c5
 use Rattle.audit.proofs.walking.by_040.Symbol as c5-def
-use Rattle.audit.proofs.walking.by_040.Symbol.{name as #audit·walking·by-040}
+use Rattle.audit.proofs.walking.by_040.Symbol.{name as #audit·walking·by_040}
 use Rattle.audit.proofs.walking.by_040.Met as c5-thm
 use Rattle.audit.specs.contracts.walking.walk_for.Key.{name as #audit·walking·walk-for}
 use Rattle.audit.specs.contracts.walking.walk_for as self
@@ -127,7 +127,7 @@ module _ {M : Type 1} {𝓤 : Ura M} (𝓛 : Logic 𝓤) (mem : Memory → SProp
   abbrev Post : Val → SProp 𝓤
   Post = (walk_of 𝓛 self.ended stayed (self.clauses 𝓛 mem run)).post (((κ0, (κ1, tt)), (q0, (q1, tt)), tt, (x1, (x2, (x3, (x4, (x5, (x6, tt)))))), at_entry), tt)
 
-  exits : (r : Walks) (u : Val) → Is row-Walks.the_row r (u ∷ []) → (r ≡ walksOf (memory x1.now x2 x3.now) x4 x5 x6) → ent 𝓤 (⋆ 𝓛 (‵ (flft κ0 q0) ∷ ‵ (flft κ1 q1) ∷ ‵ ((ShrSlice (named 0) κ0 u32).own_val x1 (slice_val x1.ref_ptr (length x1.now) ∷ [])) ∷ ‵ ((ShrSlice (named 1) κ1 row-Range.the_row).own_val x3 (slice_val x3.ref_ptr (length x3.now) ∷ [])) ∷ [])) (Post u)
+  exits : (r : Walks) (u : Val) → Is row-Walks.the_row r (u ∷ []) → (r ≡ walks_of (memory x1.now x2 x3.now) x4 x5 x6) → ent 𝓤 (⋆ 𝓛 (‵ (flft κ0 q0) ∷ ‵ (flft κ1 q1) ∷ ‵ ((ShrSlice (named 0) κ0 u32).own_val x1 (slice_val x1.ref_ptr (length x1.now) ∷ [])) ∷ ‵ ((ShrSlice (named 1) κ1 row-Range.the_row).own_val x3 (slice_val x3.ref_ptr (length x3.now) ∷ [])) ∷ [])) (Post u)
   exits r u is e =
       qed 𝓛 (‵ (flft κ0 q0) ∷ ‵ (flft κ1 q1) ∷ ‵ ((ShrSlice (named 0) κ0 u32).own_val x1 (slice_val x1.ref_ptr (length x1.now) ∷ [])) ∷ ‵ ((ShrSlice (named 1) κ1 row-Range.the_row).own_val x3 (slice_val x3.ref_ptr (length x3.now) ∷ [])) ∷ []) ∵
       suffices ! _ (ends_at 𝓛 self.ended stayed (self.clauses 𝓛 mem run) (((κ0, (κ1, tt)), (q0, (q1, tt)), tt, (x1, (x2, (x3, (x4, (x5, (x6, tt)))))), at_entry), tt) u r (tt, (tt, (tt, (tt, (tt, (tt, tt)))))) (tt, (tt, (tt, (tt, (tt, (tt, tt))))))) $ says ! e $
@@ -152,8 +152,8 @@ module _ {M : Type 1} {𝓤 : Ura M} (𝓛 : Logic 𝓤) (mem : Memory → SProp
   goes-1 =
       qed 𝓛 ([]) ∵ nothing ! $ nothing ! $ join ! $ frame ! $ done !
 
-  said-1 : (r : ℕ) → ent 𝓤 (ensured 𝓛 c1.ended (c1.clauses 𝓛 mem run) tt tt tt r) (fact 𝓤 (r ≡ everyLevel))
-  said-1 r = ex_e 𝓤 _ (λ ws. snd∗ 𝓤 (sem 𝓛 (lasts c1.ended tt tt ws)) (fact 𝓤 (r ≡ everyLevel)))
+  said-1 : (r : ℕ) → ent 𝓤 (ensured 𝓛 c1.ended (c1.clauses 𝓛 mem run) tt tt tt r) (fact 𝓤 (r ≡ every_level))
+  said-1 r = ex_e 𝓤 _ (λ ws. snd∗ 𝓤 (sem 𝓛 (lasts c1.ended tt tt ws)) (fact 𝓤 (r ≡ every_level)))
 
   -- the call of `walk`: what it is passed, what it asks, and what is known of its result
   abbrev to-2 : (a0 : Bor (List ℕ)) (v0 : Val) (a1 : ℕ) (v1 : Val) (a2 : Bor (List Range)) (v2 : Val) (a3 : Registers) (v3 : Val) (a4 : ℕ) (v4 : Val) (a5 : ℕ) (v5 : Val) (a6 : ℕ) (v6 : Val) → (C2 𝓛 mem run).Ghost
@@ -199,7 +199,7 @@ module _ {M : Type 1} {𝓤 : Ura M} (𝓛 : Logic 𝓤) (mem : Memory → SProp
   said-5 : (a0 : Walked040) (r : Walks) → ent 𝓤 (ensured 𝓛 c5.ended (c5.clauses 𝓛 mem run) tt (a0, tt) tt r) (fact 𝓤 (r ≡ Walks.By040 a0))
   said-5 a0 r = ex_e 𝓤 _ (λ ws. snd∗ 𝓤 (sem 𝓛 (lasts c5.ended tt (a0, tt) ws)) (fact 𝓤 (r ≡ Walks.By040 a0)))
 
-  module _ (𝓣 : Tables 𝓤 H) (known-0 : Triple 𝓤 (𝓣.C #audit·walking·idle) (C0 𝓛 mem run)) (known-1 : Triple 𝓤 (𝓣.C #walk030·every-level) (C1 𝓛 mem run)) (known-2 : Triple 𝓤 (𝓣.C #walk030·walk) (C2 𝓛 mem run)) (known-3 : Triple 𝓤 (𝓣.C #audit·walking·by-030) (C3 𝓛 mem run)) (known-4 : Triple 𝓤 (𝓣.C #walk040·walk) (C4 𝓛 mem run)) (known-5 : Triple 𝓤 (𝓣.C #audit·walking·by-040) (C5 𝓛 mem run)) where
+  module _ (𝓣 : Tables 𝓤 H) (known-0 : Triple 𝓤 (𝓣.C #audit·walking·idle) (C0 𝓛 mem run)) (known-1 : Triple 𝓤 (𝓣.C #walk030·every-level) (C1 𝓛 mem run)) (known-2 : Triple 𝓤 (𝓣.C #walk030·walk) (C2 𝓛 mem run)) (known-3 : Triple 𝓤 (𝓣.C #audit·walking·by_030) (C3 𝓛 mem run)) (known-4 : Triple 𝓤 (𝓣.C #walk040·walk) (C4 𝓛 mem run)) (known-5 : Triple 𝓤 (𝓣.C #audit·walking·by_040) (C5 𝓛 mem run)) where
     abbrev C : Calls 𝓤 H
     C = 𝓣.C
 
@@ -213,7 +213,7 @@ module _ {M : Type 1} {𝓤 : Ura M} (𝓛 : Logic 𝓤) (mem : Memory → SProp
       abbrev En : Env 𝓤 H
       En = (law-Walks.mir, l0) ∷ ((slice_ty (ty_ref (named 0) imm (pointee u32.written))), l1) ∷ ((ty_int w32), l2) ∷ ((slice_ty (ty_ref (named 1) imm (pointee (row-Range.the_row).written))), l3) ∷ (law-Registers.mir, l4) ∷ ((ty_int w32), l5) ∷ (law-Way.mir, l6) ∷ ((ty_int w32), l7) ∷ ((ty_int w32), l8) ∷ (law-Walked.mir, l9) ∷ (ty_bool, l10) ∷ (law-Walked040.mir, l11) ∷ (law-Walks.mir, l12) ∷ []
 
-      concludes : (r : Walks) → Is row-Walks.the_row r (EL.val row-Walks.the_type law-Walks.the_laws r ∷ []) → (r ≡ walksOf (memory x1.now x2 x3.now) x4 x5 x6)
+      concludes : (r : Walks) → Is row-Walks.the_row r (EL.val row-Walks.the_type law-Walks.the_laws r ∷ []) → (r ≡ walks_of (memory x1.now x2 x3.now) x4 x5 x6)
           → Sq 𝓛 (‵ (froom law-Walks.mir l0 0) ∷ ‵ (fat full_share (slice_ty (ty_ref (named 0) imm (pointee u32.written))) l1 0 (slice_val x1.ref_ptr (length x1.now))) ∷ ‵ (fat full_share (ty_int w32) l2 0 (vint w32 x2)) ∷ ‵ (fat full_share (slice_ty (ty_ref (named 1) imm (pointee (row-Range.the_row).written))) l3 0 (slice_val x3.ref_ptr (length x3.now))) ∷ ‵ (fat full_share law-Registers.mir l4 0 (LL.val row-Registers.the_type law-Registers.the_laws x4)) ∷ ‵ (fat full_share (ty_int w32) l5 0 (vint w32 x5)) ∷ ‵ (fat full_share law-Way.mir l6 0 (EL.val row-Way.the_type law-Way.the_laws x6)) ∷ ‵ (froom (ty_int w32) l7 0) ∷ ‵ (froom (ty_int w32) l8 0) ∷ ‵ (froom law-Walked.mir l9 0) ∷ ‵ (froom ty_bool l10 0) ∷ ‵ (froom law-Walked040.mir l11 0) ∷ ‵ (fat full_share law-Walks.mir l12 0 (EL.val row-Walks.the_type law-Walks.the_laws r)) ∷ ‵ (fdies law-Walks.mir l0) ∷ ‵ (fdies (slice_ty (ty_ref (named 0) imm (pointee u32.written))) l1) ∷ ‵ (fdies (ty_int w32) l2) ∷ ‵ (fdies (slice_ty (ty_ref (named 1) imm (pointee (row-Range.the_row).written))) l3) ∷ ‵ (fdies law-Registers.mir l4) ∷ ‵ (fdies (ty_int w32) l5) ∷ ‵ (fdies law-Way.mir l6) ∷ ‵ (fdies (ty_int w32) l7) ∷ ‵ (fdies (ty_int w32) l8) ∷ ‵ (fdies law-Walked.mir l9) ∷ ‵ (fdies ty_bool l10) ∷ ‵ (fdies law-Walked040.mir l11) ∷ ‵ (fdies law-Walks.mir l12) ∷ ‵ (flft κ0 q0) ∷ ‵ (flft κ1 q1) ∷ ‵ ((ShrSlice (named 0) κ0 u32).own_val x1 (slice_val x1.ref_ptr (length x1.now) ∷ [])) ∷ ‵ ((ShrSlice (named 1) κ1 row-Range.the_row).own_val x3 (slice_val x3.ref_ptr (length x3.now) ∷ [])) ∷ []) (runs C Λ En parts.t-2 (at_ret En Post))
       concludes r is e =
           assigns ! (of_opd ! (load ! (from ! (stop !)) (look ! 12 refl))) (from ! (stop !)) (init ! 0 refl ((EL.lawful row-Walks.the_type law-Walks.the_laws 𝓛 tt).typed r _ is).0) $
@@ -244,7 +244,7 @@ module _ {M : Type 1} {𝓤 : Ura M} (𝓛 : Logic 𝓤) (mem : Memory → SProp
                   assigns ! (of_opd ! (load ! (from ! (vrt ! refl (fld ! refl (stop !)))) (look_in ! 6 (in_variant ! 1 0 refl refl (whole !))))) (from ! (stop !)) (init ! 7 refl ((uint_Lawful 𝓛 w32).typed v9.0 _ (EL.owed row-Way.the_type law-Way.the_laws (variant-at row-Way.enum 1 v9) (EL.val row-Way.the_type law-Way.the_laws (variant-at row-Way.enum 1 v9) ∷ []) (subst (λ (u : Way). Is row-Way.the_row u (EL.val row-Way.the_type law-Way.the_laws u ∷ [])) e10 i6)).0).0) $
                   use0 𝓛 (raw ((C1 𝓛 mem run).pre to-1)) goes-1 $
                   calls_at ! fm (C1 𝓛 mem run) known-1 to-1 (no_more !) (λ val11.
-                  use1 𝓛 (later (some (λ (r : ℕ). (‵ ftrue ⊛ ‵ (u32.own_val r (val11 ∷ []))) ⊛ raw (ensured 𝓛 c1.ended (c1.clauses 𝓛 mem run) tt tt tt r)))) (id⊢ 𝓤 _) $ await ! tt $ choose ! (λ r12. split ! $ move ! (1 ∷ []) $ use1 𝓛 (raw (fact 𝓤 (r12 ≡ everyLevel))) (said-1 r12) $ heard ! (r12 ≡ everyLevel) (λ e13. split ! $
+                  use1 𝓛 (later (some (λ (r : ℕ). (‵ ftrue ⊛ ‵ (u32.own_val r (val11 ∷ []))) ⊛ raw (ensured 𝓛 c1.ended (c1.clauses 𝓛 mem run) tt tt tt r)))) (id⊢ 𝓤 _) $ await ! tt $ choose ! (λ r12. split ! $ move ! (1 ∷ []) $ use1 𝓛 (raw (fact 𝓤 (r12 ≡ every_level))) (said-1 r12) $ heard ! (r12 ≡ every_level) (λ e13. split ! $
                   drop ! $ facts ! u32 (Is u32) (shows 𝓛 u32) r12 (val11 ∷ []) (λ is14. land ! (from ! (stop !)) (init ! 8 refl ((uint_Lawful 𝓛 w32).typed r12 _ is14).0) $
                   rewrite ! 8 (λ (u : Val). ‵ (fat full_share (ty_int w32) l8 0 u)) (ap only (uint_Tells w32 r12 _ is14)) refl $ move ! (28 ∷ []) $
                   use1 𝓛 (‵ ((ShrSlice (named 0) κ0 u32).own_val x1 (slice_val x1.ref_ptr (length x1.now) ∷ [])) ⊛ ‵ ((ShrSlice (named 0) κ0 u32).own_val x1 (slice_val x1.ref_ptr (length x1.now) ∷ []))) ((shr_slice_copy 𝓛 (named 0) κ0 u32).twice x1 _) $
@@ -266,7 +266,7 @@ module _ {M : Type 1} {𝓤 : Ura M} (𝓛 : Logic 𝓤) (mem : Memory → SProp
                   rewrite ! 16 (λ (u : Val). ‵ (fat full_share law-Walks.mir l12 0 u)) (ap only (EL.tells row-Walks.the_type law-Walks.the_laws r20 _ is22)) refl $
                   rewrite ! 10 (λ (u : Way). ‵ (fat full_share law-Way.mir l6 0 (EL.val row-Way.the_type law-Way.the_laws u))) (sym e10) refl $ forget ! 11 refl $ forget ! 12 refl $
                   forget ! 13 refl $ keep ! (4 ∷ 5 ∷ 6 ∷ 7 ∷ 8 ∷ 9 ∷ 10 ∷ 11 ∷ 12 ∷ 13 ∷ 14 ∷ 15 ∷ 16 ∷ 17 ∷ 18 ∷ 19 ∷ 20 ∷ 21 ∷ 22 ∷ 23 ∷ 24 ∷ 25 ∷ 26 ∷ 27 ∷ 28 ∷ 29 ∷ 1 ∷ 0 ∷ 3 ∷ 2 ∷ []) $
-                  concludes r20 (subst (Is row-Walks.the_row r20) (EL.tells row-Walks.the_type law-Walks.the_laws r20 _ is22) is22) (law.walks-030 (memory x1.now x2 x3.now) x4 x5 x6 e10 e13 e17 e21))))))))))))))),
+                  concludes r20 (subst (Is row-Walks.the_row r20) (EL.tells row-Walks.the_type law-Walks.the_laws r20 _ is22) is22) (law.walks_030 (memory x1.now x2 x3.now) x4 x5 x6 e10 e13 e17 e21))))))))))))))),
               (
                 (λ tag23. as_variant (lives_at row-Way.enum x6 2 tag23) (λ v24 e25.
                     rewrite ! 6 (λ (u : Way). ‵ (fat full_share law-Way.mir l6 0 (EL.val row-Way.the_type law-Way.the_laws u))) e25 refl $
@@ -291,7 +291,7 @@ module _ {M : Type 1} {𝓤 : Ura M} (𝓛 : Logic 𝓤) (mem : Memory → SProp
                     rewrite ! 16 (λ (u : Val). ‵ (fat full_share law-Walks.mir l12 0 u)) (ap only (EL.tells row-Walks.the_type law-Walks.the_laws r31 _ is33)) refl $
                     rewrite ! 10 (λ (u : Way). ‵ (fat full_share law-Way.mir l6 0 (EL.val row-Way.the_type law-Way.the_laws u))) (sym e25) refl $ forget ! 14 refl $ forget ! 15 refl $
                     keep ! (4 ∷ 5 ∷ 6 ∷ 7 ∷ 8 ∷ 9 ∷ 10 ∷ 11 ∷ 12 ∷ 13 ∷ 14 ∷ 15 ∷ 16 ∷ 17 ∷ 18 ∷ 19 ∷ 20 ∷ 21 ∷ 22 ∷ 23 ∷ 24 ∷ 25 ∷ 26 ∷ 27 ∷ 28 ∷ 29 ∷ 1 ∷ 0 ∷ 3 ∷ 2 ∷ []) $
-                    concludes r31 (subst (Is row-Walks.the_row r31) (EL.tells row-Walks.the_type law-Walks.the_laws r31 _ is33) is33) (law.walks-040 (memory x1.now x2 x3.now) x4 x5 x6 e25 e28 e32))))))))))),
+                    concludes r31 (subst (Is row-Walks.the_row r31) (EL.tells row-Walks.the_type law-Walks.the_laws r31 _ is33) is33) (law.walks_040 (memory x1.now x2 x3.now) x4 x5 x6 e25 e28 e32))))))))))),
                 tt,
               ),
             ),
@@ -310,11 +310,11 @@ module _ {M : Type 1} {𝓤 : Ura M} (𝓛 : Logic 𝓤) (mem : Memory → SProp
 module _ {M : Type 1} {𝓤 : Ura M} (𝓛 : Logic 𝓤) (mem : Memory → SProp 𝓤) (run : Routine → Fun 𝓤) (𝓣 : Tables 𝓤 𝓛.H) where
   open 𝓛 use {H}
 
-  self-walks : Triple 𝓤 (𝓣.C #audit·walking·idle) (C0 𝓛 mem run) → Triple 𝓤 (𝓣.C #walk030·every-level) (C1 𝓛 mem run) → Triple 𝓤 (𝓣.C #walk030·walk) (C2 𝓛 mem run) → Triple 𝓤 (𝓣.C #audit·walking·by-030) (C3 𝓛 mem run) → Triple 𝓤 (𝓣.C #walk040·walk) (C4 𝓛 mem run) → Triple 𝓤 (𝓣.C #audit·walking·by-040) (C5 𝓛 mem run) → AllWalks 𝓛 self.ended stayed (WpFn 𝓤 H 𝓣.C 𝓣.Λ code.function) (self.clauses 𝓛 mem run)
+  self-walks : Triple 𝓤 (𝓣.C #audit·walking·idle) (C0 𝓛 mem run) → Triple 𝓤 (𝓣.C #walk030·every-level) (C1 𝓛 mem run) → Triple 𝓤 (𝓣.C #walk030·walk) (C2 𝓛 mem run) → Triple 𝓤 (𝓣.C #audit·walking·by_030) (C3 𝓛 mem run) → Triple 𝓤 (𝓣.C #walk040·walk) (C4 𝓛 mem run) → Triple 𝓤 (𝓣.C #audit·walking·by_040) (C5 𝓛 mem run) → AllWalks 𝓛 self.ended stayed (WpFn 𝓤 H 𝓣.C 𝓣.Λ code.function) (self.clauses 𝓛 mem run)
   self-walks known-0 known-1 known-2 known-3 known-4 known-5 = walked 𝓛 self.ended stayed (self.clauses 𝓛 mem run) (WpFn 𝓤 H 𝓣.C 𝓣.Λ code.function) (λ κs. (shr_slice_vals, (uint_vals w32, (shr_slice_vals, (LL.vals row-Registers.the_type law-Registers.the_laws, (uint_vals w32, (EL.vals row-Way.the_type law-Way.the_laws, tt))))))) (λ κs. (shr_slice_Tells (named 0) κs.0 u32, (uint_Tells w32, (shr_slice_Tells (named 1) κs.1.0 row-Range.the_row, (LL.tells row-Registers.the_type law-Registers.the_laws, (uint_Tells w32, (EL.tells row-Way.the_type law-Way.the_laws, tt)))))))
       (λ κs qs bounds a g are. via 𝓤 _ (fst∗ 𝓤 _ (emp 𝓤)) (walk 𝓛 mem run κs.0 κs.1.0 qs.0 qs.1.0 a.0 a.1.0 a.1.1.0 a.1.1.1.0 a.1.1.1.1.0 a.1.1.1.1.1.0 are.0 are.1.0 are.1.1.0 are.1.1.1.0 are.1.1.1.1.0 are.1.1.1.1.1.0 𝓣 known-0 known-1 known-2 known-3 known-4 known-5))
 
-  self-meets : Triple 𝓤 (𝓣.C #audit·walking·idle) (C0 𝓛 mem run) → Triple 𝓤 (𝓣.C #walk030·every-level) (C1 𝓛 mem run) → Triple 𝓤 (𝓣.C #walk030·walk) (C2 𝓛 mem run) → Triple 𝓤 (𝓣.C #audit·walking·by-030) (C3 𝓛 mem run) → Triple 𝓤 (𝓣.C #walk040·walk) (C4 𝓛 mem run) → Triple 𝓤 (𝓣.C #audit·walking·by-040) (C5 𝓛 mem run) → Meets 𝓛 self.signature (WpFn 𝓤 H 𝓣.C 𝓣.Λ code.function) (self.spec 𝓛 mem run)
+  self-meets : Triple 𝓤 (𝓣.C #audit·walking·idle) (C0 𝓛 mem run) → Triple 𝓤 (𝓣.C #walk030·every-level) (C1 𝓛 mem run) → Triple 𝓤 (𝓣.C #walk030·walk) (C2 𝓛 mem run) → Triple 𝓤 (𝓣.C #audit·walking·by_030) (C3 𝓛 mem run) → Triple 𝓤 (𝓣.C #walk040·walk) (C4 𝓛 mem run) → Triple 𝓤 (𝓣.C #audit·walking·by_040) (C5 𝓛 mem run) → Meets 𝓛 self.signature (WpFn 𝓤 H 𝓣.C 𝓣.Λ code.function) (self.spec 𝓛 mem run)
   self-meets known-0 known-1 known-2 known-3 known-4 known-5 = walk_Meets 𝓛 self.ended stayed (Goes-none_slice 𝓛 2 (0 ∷ []) tt (plain (λ _. u32)) yes, (Goes-none 𝓛 2 (λ _. u32) yes (λ κs x f. refl), (Goes-none_slice 𝓛 2 (1 ∷ []) tt (plain (λ _. row-Range.the_row)) yes, (Goes-none 𝓛 2 (λ _. row-Registers.the_row) yes (λ κs x f. refl), (Goes-none 𝓛 2 (λ _. u32) yes (λ κs x f. refl), (Goes-none 𝓛 2 (λ _. row-Way.the_row) yes (λ κs x f. refl), tt)))))) (self.clauses 𝓛 mem run) (WpFn 𝓤 H 𝓣.C 𝓣.Λ code.function) (WpFn-mono 𝓤 H 𝓛.laws 𝓣 code.function) (self-walks known-0 known-1 known-2 known-3 known-4 known-5)
 
 pub walk-for-spec : {M : Type 1} → stated.statement M
@@ -326,6 +326,6 @@ walk-for-spec 𝓤 𝓛 𝓜 𝓡 =
     (cited 𝓤 𝓛.H (C0 𝓛 𝓜.mem 𝓡.run) 𝓜 𝓡 code.env #audit·walking·idle c0-def.routine code.calls-audit::walking::idle (c0-thm.met 𝓤 𝓛 𝓜 𝓡))
     (cited 𝓤 𝓛.H (C1 𝓛 𝓜.mem 𝓡.run) 𝓜 𝓡 code.env #walk030·every-level c1-def.routine code.calls-walk030::every-level (c1-thm.met 𝓤 𝓛 𝓜 𝓡))
     (cited 𝓤 𝓛.H (C2 𝓛 𝓜.mem 𝓡.run) 𝓜 𝓡 code.env #walk030·walk c2-def.routine code.calls-walk030::walk (c2-thm.met 𝓤 𝓛 𝓜 𝓡))
-    (cited 𝓤 𝓛.H (C3 𝓛 𝓜.mem 𝓡.run) 𝓜 𝓡 code.env #audit·walking·by-030 c3-def.routine code.calls-audit·walking·by-030 (c3-thm.met 𝓤 𝓛 𝓜 𝓡))
+    (cited 𝓤 𝓛.H (C3 𝓛 𝓜.mem 𝓡.run) 𝓜 𝓡 code.env #audit·walking·by_030 c3-def.routine code.calls-audit·walking·by_030 (c3-thm.met 𝓤 𝓛 𝓜 𝓡))
     (cited 𝓤 𝓛.H (C4 𝓛 𝓜.mem 𝓡.run) 𝓜 𝓡 code.env #walk040·walk c4-def.routine code.calls-walk040::walk (c4-thm.met 𝓤 𝓛 𝓜 𝓡))
-    (cited 𝓤 𝓛.H (C5 𝓛 𝓜.mem 𝓡.run) 𝓜 𝓡 code.env #audit·walking·by-040 c5-def.routine code.calls-audit·walking·by-040 (c5-thm.met 𝓤 𝓛 𝓜 𝓡)))
+    (cited 𝓤 𝓛.H (C5 𝓛 𝓜.mem 𝓡.run) 𝓜 𝓡 code.env #audit·walking·by_040 c5-def.routine code.calls-audit·walking·by_040 (c5-thm.met 𝓤 𝓛 𝓜 𝓡)))

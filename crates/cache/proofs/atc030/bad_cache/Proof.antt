@@ -1,6 +1,6 @@
 use borrow.Author.Tests.{lt-ltb, le-ltb}
 use borrow.Author.Rules.{rules}
-use Rattle.cache.specs.Atc030.{cacheOf}
+use Rattle.cache.specs.Atc030.{cache_of}
 use Rattle.cache.proofs.atc030.bad_cache.Statement.{statement}
 use Rattle.cache.proofs.atc030.bad_cache.Tie as tie
 
@@ -14,11 +14,11 @@ element-copy-out-result : tie.Need-element-copy-out-result
 element-copy-out-result c = search rules
 
 returns : tie.Need-returns
-unfolding cacheOf
+unfolding cache_of
 returns c = rw (lt-ltb _ _ c.if1.true)
 
 returns-2 : tie.Need-returns-2
-unfolding cacheOf
+unfolding cache_of
 returns-2 c = rw (le-ltb _ _ c.before.if1.false)
 
 pub bad-cache-spec : {M : Type 1} → statement M

@@ -6,21 +6,21 @@ use borrow.Author.Rules.{rules}
 use lib.Dec.{eqb}
 use lib.ListN.{get_or}
 use Rattle.definition.specs.Words.{agrees}
-use Rattle.cache.specs.Packed.{dropTag}
-use Rattle.cache.specs.Atc030.{recentIn, clockIn, shiftIn, tagsOf, pagesOf, stampsOf, Parts}
-use Rattle.cache.proofs.Parts.{parts-of, next-tag, all-tags}
-use Rattle.cache.proofs.Lists.{mapTo, mapTo-none}
+use Rattle.cache.specs.Packed.{drop_tag}
+use Rattle.cache.specs.Atc030.{recent_in, clock_in, shift_in, tags_of, pages_of, stamps_of, Parts}
+use Rattle.cache.proofs.Parts.{parts_of, next_tag, all_tags}
+use Rattle.cache.proofs.Lists.{map_to, map_to_none}
 use Rattle.cache.proofs.atc030.drop_tags.Statement.{statement}
 use Rattle.cache.proofs.atc030.drop_tags.Tie as tie
 
 abbrev invariant-loop : tie.invariant-loop
-invariant-loop c₀ code mask every page at₀ c at = (at ≤ 22) × Parts c (mapTo (λ (t : ℕ). dropTag (agrees (t / 2 % 8) code mask && (every || eqb (t / 16) page)) t) at (tagsOf c₀)) (pagesOf c₀) (stampsOf c₀) (recentIn c₀) (clockIn c₀) (shiftIn c₀)
+invariant-loop c₀ code mask every page at₀ c at = (at ≤ 22) × Parts c (map_to (λ (t : ℕ). drop_tag (agrees (t / 2 % 8) code mask && (every || eqb (t / 16) page)) t) at (tags_of c₀)) (pages_of c₀) (stamps_of c₀) (recent_in c₀) (clock_in c₀) (shift_in c₀)
 
 abbrev decreases-loop : tie.decreases-loop
 decreases-loop c₀ code mask every page at₀ c at = 22 - at
 
 loop-holds : tie.Need-loop-init invariant-loop decreases-loop
-loop-holds c = (omega arith, rw mapTo-none (parts-of _ c.requires))
+loop-holds c = (omega arith, rw map_to_none (parts_of _ c.requires))
 
 mul-t : tie.Need-overflow-mul-t invariant-loop decreases-loop
 mul-t c = search rules
@@ -44,10 +44,10 @@ loop-less : tie.Need-loop-smaller invariant-loop decreases-loop
 loop-less c = search rules
 
 loop-again : tie.Need-loop-preserved invariant-loop decreases-loop
-loop-again c = (omega arith, next-tag _ _ _ _ _ _ _ _ _ _ (search rules) c.before.before.before.loop.invariant.1 c.without.ensures)
+loop-again c = (omega arith, next_tag _ _ _ _ _ _ _ _ _ _ (search rules) c.before.before.before.loop.invariant.1 c.without.ensures)
 
 returns : tie.Need-returns invariant-loop decreases-loop
-returns c = all-tags _ _ _ _ _ _ _ c.before.before.requires (omega arith) _ _ c.before.loop.invariant.1
+returns c = all_tags _ _ _ _ _ _ _ c.before.before.requires (omega arith) _ _ c.before.loop.invariant.1
 
 pub drop-tags-spec : {M : Type 1} → statement M
 drop-tags-spec =

@@ -1,5 +1,5 @@
 use borrow.Author.Rules.{rules}
-use Rattle.cache.proofs.Laws030.{flushed-none, flushed-page}
+use Rattle.cache.proofs.Laws030.{flushed_none, flushed_page_lem}
 use Rattle.cache.proofs.atc030.flush_page.Statement.{statement}
 use Rattle.cache.proofs.atc030.flush_page.Tie as tie
 
@@ -10,7 +10,7 @@ element-copy-out-shift : tie.Need-element-copy-out-shift
 element-copy-out-shift c = search rules
 
 returns : tie.Need-returns
-returns c = flushed-none _ (search rules) _ _ _ c.if1.true
+returns c = flushed_none _ (search rules) _ _ _ c.if1.true
 
 page-at-requires : tie.Need-page-at-requires
 page-at-requires c κs = search rules
@@ -19,7 +19,7 @@ drop-tags-requires : tie.Need-drop-tags-requires
 drop-tags-requires c κs = search rules
 
 returns-2 : tie.Need-returns-2
-returns-2 c = flushed-page _ (search rules) _ _ _ _ _ c.before.before.before.if1.false c.before.page-at.ensures c.drop-tags.ensures
+returns-2 c = flushed_page_lem _ (search rules) _ _ _ _ _ c.before.before.before.if1.false c.before.page-at.ensures c.drop-tags.ensures
 
 pub flush-page-spec : {M : Type 1} → statement M
 flush-page-spec =

@@ -1,7 +1,7 @@
 use mathlib.Core.Path.{sym, ◌∙◌}
 use native.Mathlib.Omega.{arith}
 use native.Mathlib.Nat.{mod-lt}
-use Rattle.cache.proofs.Laws030.{inserted-put}
+use Rattle.cache.proofs.Laws030.{inserted_put}
 use borrow.Author.Rules.{rules}
 use Rattle.cache.proofs.atc030.insert.Statement.{statement}
 use Rattle.cache.proofs.atc030.insert.Tie as tie
@@ -49,13 +49,13 @@ stamp-last-requires : tie.Need-stamp-last-requires
 stamp-last-requires c κs = (search rules, search rules, sym c.before.before.is_last.ensures ∙ c.before.if1.true)
 
 returns : tie.Need-returns
-returns c = inserted-put _ _ _ c.before.before.before.before.before.before.before.before.before.fit.ensures _ _ _ _ _ _ _ _ (mod-lt _ (omega arith)) c.before.before.before.before.before.before.before.before.key_of.ensures c.before.before.before.before.before.before.place.ensures.0 c.before.before.before.before.before.before.place.ensures.1 c.before.before.before.before.before.flag.ensures.0 c.stamp-last.ensures
+returns c = inserted_put _ _ _ c.before.before.before.before.before.before.before.before.before.fit.ensures _ _ _ _ _ _ _ _ (mod-lt _ (omega arith)) c.before.before.before.before.before.before.before.before.key_of.ensures c.before.before.before.before.before.before.place.ensures.0 c.before.before.before.before.before.before.place.ensures.1 c.before.before.before.before.before.flag.ensures.0 c.stamp-last.ensures
 
 stamp-requires : tie.Need-stamp-requires
 stamp-requires c κs = (search rules, search rules, sym c.before.before.is_last.ensures ∙ c.before.if1.false)
 
 returns-2 : tie.Need-returns-2
-returns-2 c = inserted-put _ _ _ c.before.before.before.before.before.before.before.before.before.fit.ensures _ _ _ _ _ _ _ _ (mod-lt _ (omega arith)) c.before.before.before.before.before.before.before.before.key_of.ensures c.before.before.before.before.before.before.place.ensures.0 c.before.before.before.before.before.before.place.ensures.1 c.before.before.before.before.before.flag.ensures.0 c.stamp.ensures
+returns-2 c = inserted_put _ _ _ c.before.before.before.before.before.before.before.before.before.fit.ensures _ _ _ _ _ _ _ _ (mod-lt _ (omega arith)) c.before.before.before.before.before.before.before.before.key_of.ensures c.before.before.before.before.before.before.place.ensures.0 c.before.before.before.before.before.before.place.ensures.1 c.before.before.before.before.before.flag.ensures.0 c.stamp.ensures
 
 pub insert-spec : {M : Type 1} → statement M
 insert-spec =

@@ -1,5 +1,5 @@
 use borrow.Author.Rules.{rules}
-use Rattle.cache.proofs.Flags.{shifted-out}
+use Rattle.cache.proofs.Flags.{shifted_out}
 use Rattle.cache.proofs.atc030.page_at.Statement.{statement}
 use Rattle.cache.proofs.atc030.page_at.Tie as tie
 
@@ -10,7 +10,7 @@ returns : tie.Need-returns
 returns c = search rules
 
 returns-2 : tie.Need-returns-2
-returns-2 c = shifted-out _ _ c.if1.false (search rules)
+returns-2 c = shifted_out _ _ c.if1.false (search rules)
 
 pub page-at-spec : {M : Type 1} → statement M
 page-at-spec = tie.close (tie.spec shr-result returns returns-2)

@@ -1,7 +1,7 @@
 use native.Mathlib.Omega.{arith}
 use native.Mathlib.Nat.{mod-lt}
 use borrow.Author.Rules.{rules}
-use Rattle.cache.proofs.Laws030.{miss-at, hit-at}
+use Rattle.cache.proofs.Laws030.{miss_at, hit_at}
 use Rattle.cache.proofs.atc030.probe.Statement.{statement}
 use Rattle.cache.proofs.atc030.probe.Tie as tie
 
@@ -15,7 +15,7 @@ held-requires : tie.Need-held-requires
 held-requires c κs = search rules
 
 returns : tie.Need-returns
-returns c = miss-at _ (search rules) _ _ _ _ _ (mod-lt _ (omega arith)) c.before.before.key_of.ensures c.before.held.ensures _ c.if1.true
+returns c = miss_at _ (search rules) _ _ _ _ _ (mod-lt _ (omega arith)) c.before.before.key_of.ensures c.before.held.ensures _ c.if1.true
 
 add-permitted : tie.Need-overflow-add-permitted
 add-permitted c = search rules
@@ -30,7 +30,7 @@ permitted-requires : tie.Need-permitted-requires
 permitted-requires c κs = search rules
 
 returns-2 : tie.Need-returns-2
-returns-2 c = hit-at _ (search rules) _ _ _ _ _ (mod-lt _ (omega arith)) c.before.before.before.before.key_of.ensures c.before.before.before.held.ensures _ _ (search rules) c.permitted.ensures
+returns-2 c = hit_at _ (search rules) _ _ _ _ _ (mod-lt _ (omega arith)) c.before.before.before.before.key_of.ensures c.before.before.before.held.ensures _ _ (search rules) c.permitted.ensures
 
 pub probe-spec : {M : Type 1} → statement M
 probe-spec =

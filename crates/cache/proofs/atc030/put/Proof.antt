@@ -1,5 +1,5 @@
 use borrow.Author.Rules.{rules}
-use Rattle.cache.proofs.Parts.{parts-of, put-recent, put-clock, put-stamp}
+use Rattle.cache.proofs.Parts.{parts_of, put_recent, put_clock, put_stamp}
 use Rattle.cache.proofs.atc030.put.Statement.{statement}
 use Rattle.cache.proofs.atc030.put.Tie as tie
 
@@ -19,7 +19,7 @@ element-write-c030-3 : tie.Need-element-write-c030-3
 element-write-c030-3 c = search rules
 
 returns : tie.Need-returns
-returns c = put-recent (put-stamp (put-clock (parts-of _ c.requires.0) _) _ _ c.requires.1) _
+returns c = put_recent (put_stamp (put_clock (parts_of _ c.requires.0) _) _ _ c.requires.1) _
 
 pub put_spec : {M : Type 1} → statement M
 put_spec =

@@ -4,20 +4,20 @@ use borrow.Author.Rules.{rules}
 use lib.Dec.{ltb}
 use lib.ListN.{get_or}
 use Rattle.definition.specs.Words.{count_of}
-use Rattle.cache.specs.Atc030.{recentIn, clockIn, shiftIn, tagsOf, pagesOf, stampsOf, ranked, Parts}
-use Rattle.cache.proofs.Parts.{parts-of, next-stamp, all-stamps}
-use Rattle.cache.proofs.Lists.{mapTo, mapTo-none}
+use Rattle.cache.specs.Atc030.{recent_in, clock_in, shift_in, tags_of, pages_of, stamps_of, ranked, Parts}
+use Rattle.cache.proofs.Parts.{parts_of, next_stamp, all_stamps}
+use Rattle.cache.proofs.Lists.{map_to, map_to_none}
 use Rattle.cache.proofs.atc030.rank.Statement.{statement}
 use Rattle.cache.proofs.atc030.rank.Tie as tie
 
 abbrev invariant-loop : tie.invariant-loop
-invariant-loop c₀ old i₀ c i = (i ≤ 22) × Parts c (tagsOf c₀) (pagesOf c₀) (mapTo (λ (x : ℕ). count_of (λ (y : ℕ). ltb y x) (stampsOf c₀)) i (stampsOf c₀)) (recentIn c₀) (clockIn c₀) (shiftIn c₀)
+invariant-loop c₀ old i₀ c i = (i ≤ 22) × Parts c (tags_of c₀) (pages_of c₀) (map_to (λ (x : ℕ). count_of (λ (y : ℕ). ltb y x) (stamps_of c₀)) i (stamps_of c₀)) (recent_in c₀) (clock_in c₀) (shift_in c₀)
 
 abbrev decreases-loop : tie.decreases-loop
 decreases-loop c₀ old i₀ c i = 22 - i
 
 loop-holds : tie.Need-loop-init invariant-loop decreases-loop
-loop-holds c = (omega arith, rw mapTo-none (parts-of _ c.before.requires))
+loop-holds c = (omega arith, rw map_to_none (parts_of _ c.before.requires))
 
 add-x : tie.Need-overflow-add-x invariant-loop decreases-loop
 add-x c = search rules
@@ -47,11 +47,11 @@ loop-less : tie.Need-loop-smaller invariant-loop decreases-loop
 loop-less c = search rules
 
 loop-again : tie.Need-loop-preserved invariant-loop decreases-loop
-loop-again c = (omega arith, next-stamp _ _ _ _ _ _ _ _ _ _ (search rules) c.before.before.before.loop.invariant.1 c.smaller.ensures)
+loop-again c = (omega arith, next_stamp _ _ _ _ _ _ _ _ _ _ (search rules) c.before.before.before.loop.invariant.1 c.smaller.ensures)
 
 returns : tie.Need-returns invariant-loop decreases-loop
 unfolding ranked
-returns c = all-stamps _ _ _ _ _ _ _ c.before.before.before.requires (omega arith) _ _ c.before.loop.invariant.1
+returns c = all_stamps _ _ _ _ _ _ _ c.before.before.before.requires (omega arith) _ _ c.before.loop.invariant.1
 
 pub rank-spec : {M : Type 1} → statement M
 rank-spec =

@@ -4,20 +4,20 @@ use native.Mathlib.Omega.{arith}
 use borrow.Author.Tests.{lt-ltb, le-ltb}
 use borrow.Author.Rules.{rules}
 use lib.Dec.{ltb}
-use Rattle.cache.specs.Atc030.{stampsOf}
-use Rattle.cache.proofs.Parts.{stamp-get, stamps-22}
-use Rattle.cache.proofs.Lists.{Counted, count-start, count-one, count-skip, count-is}
+use Rattle.cache.specs.Atc030.{stamps_of}
+use Rattle.cache.proofs.Parts.{stamp_get, stamps_22}
+use Rattle.cache.proofs.Lists.{Counted, count_start, count_one, count_skip, count_is}
 use Rattle.cache.proofs.atc030.smaller.Statement.{statement}
 use Rattle.cache.proofs.atc030.smaller.Tie as tie
 
 abbrev invariant-loop : tie.invariant-loop
-invariant-loop c x n₀ i₀ n i = (i ≤ 22) × Counted (λ (y : ℕ). ltb y x) (stampsOf c) i n
+invariant-loop c x n₀ i₀ n i = (i ≤ 22) × Counted (λ (y : ℕ). ltb y x) (stamps_of c) i n
 
 abbrev decreases-loop : tie.decreases-loop
 decreases-loop c x n₀ i₀ n i = 22 - i
 
 loop-holds : tie.Need-loop-init invariant-loop decreases-loop
-loop-holds c = (omega arith, count-start _ _)
+loop-holds c = (omega arith, count_start _ _)
 
 add-if1 : tie.Need-overflow-add-if1 invariant-loop decreases-loop
 add-if1 c = search rules
@@ -39,14 +39,14 @@ loop-less c = search rules
 
 loop-again : tie.Need-loop-preserved invariant-loop decreases-loop
 loop-again c =
-    let n = stamps-22 c.before.before.before.before.args.c030.now c.before.before.before.before.requires in
+    let n = stamps_22 c.before.before.before.before.args.c030.now c.before.before.before.before.requires in
     ⊎_elim
-    (λ w. (omega arith, rw w.1 (count-one _ _ _ _ _ (omega (arith, n)) (stamp-get _ _ (search rules)) (lt-ltb _ _ w.0.taken) c.before.before.before.loop.invariant.1)))
-    (λ w. (omega arith, rw w.1 (count-skip _ _ _ _ _ (omega (arith, n)) (stamp-get _ _ (search rules)) (le-ltb _ _ w.0.left) c.before.before.before.loop.invariant.1)))
+    (λ w. (omega arith, rw w.1 (count_one _ _ _ _ _ (omega (arith, n)) (stamp_get _ _ (search rules)) (lt-ltb _ _ w.0.taken) c.before.before.before.loop.invariant.1)))
+    (λ w. (omega arith, rw w.1 (count_skip _ _ _ _ _ (omega (arith, n)) (stamp_get _ _ (search rules)) (le-ltb _ _ w.0.left) c.before.before.before.loop.invariant.1)))
     c.if1.branch
 
 returns : tie.Need-returns invariant-loop decreases-loop
-returns c = count-is _ (stampsOf c.before.before.args.c030.now) _ _ (omega (arith, stamps-22 c.before.before.args.c030.now c.before.before.requires)) c.before.loop.invariant.1
+returns c = count_is _ (stamps_of c.before.before.args.c030.now) _ _ (omega (arith, stamps_22 c.before.before.args.c030.now c.before.before.requires)) c.before.loop.invariant.1
 
 pub smaller-spec : {M : Type 1} → statement M
 smaller-spec =

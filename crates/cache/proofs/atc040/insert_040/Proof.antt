@@ -1,5 +1,5 @@
 use borrow.Author.Rules.{rules}
-use Rattle.cache.proofs.Slots.{inserted-put-040}
+use Rattle.cache.proofs.Slots.{inserted_put_040}
 use Rattle.cache.proofs.atc040.insert_040.Statement.{statement}
 use Rattle.cache.proofs.atc040.insert_040.Tie as tie
 
@@ -47,7 +47,7 @@ element-write-c040-2 c = search rules
 
 returns : tie.Need-returns
 returns c =
-    inserted-put-040 _ (search rules) _ _ c.before.before.before.slot_of.ensures.0 _ _ _ _ _ _ _ c.before.before.key_of.ensures c.before.flag.ensures.0
+    inserted_put_040 _ (search rules) _ _ c.before.before.before.slot_of.ensures.0 _ _ _ _ _ _ _ c.before.before.key_of.ensures c.before.flag.ensures.0
     c.flag2.ensures.0
 
 pub insert-040-spec : {M : Type 1} → statement M

@@ -1,6 +1,6 @@
 use mathlib.Core.Path.{sym, ◌∙◌}
 use borrow.Author.Rules.{rules}
-use Rattle.cache.proofs.Slots.{missed-040, looked-040}
+use Rattle.cache.proofs.Slots.{missed_040, looked_040}
 use Rattle.cache.proofs.atc040.look_040.Statement.{statement}
 use Rattle.cache.proofs.atc040.look_040.Tie as tie
 
@@ -20,7 +20,7 @@ key-of-requires : tie.Need-key-of-requires
 key-of-requires c κs = search rules
 
 returns : tie.Need-returns
-returns c = missed-040 _ (search rules) _ _ c.before.before.before.slot_of.ensures.0 _ _ (λ e. c.if1.true (e ∙ sym c.before.key_of.ensures))
+returns c = missed_040 _ (search rules) _ _ c.before.before.before.slot_of.ensures.0 _ _ (λ e. c.if1.true (e ∙ sym c.before.key_of.ensures))
 
 add-permitted : tie.Need-overflow-add-permitted
 add-permitted c = search rules
@@ -35,7 +35,7 @@ permitted-requires : tie.Need-permitted-requires
 permitted-requires c κs = search rules
 
 returns-2 : tie.Need-returns-2
-returns-2 c = looked-040 _ (search rules) _ _ c.before.before.before.before.before.slot_of.ensures.0 _ _ _ (c.before.before.if1.false ∙ c.before.before.before.key_of.ensures) c.permitted.ensures
+returns-2 c = looked_040 _ (search rules) _ _ c.before.before.before.before.before.slot_of.ensures.0 _ _ _ (c.before.before.if1.false ∙ c.before.before.before.key_of.ensures) c.permitted.ensures
 
 pub look-040-spec : {M : Type 1} → statement M
 look-040-spec =

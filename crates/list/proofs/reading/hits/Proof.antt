@@ -1,14 +1,14 @@
 -- `list::reading::hits` meets its contract. Assumes nothing.
 use borrow.Author.Rules.{rules}
 use Prim.Native.Nat.{◌-◌}
-use Rattle.definition.specs.Memory.{touchesOf}
+use Rattle.definition.specs.Memory.{touches_of}
 use Rattle.definition.specs.declared.Range.{Range}
 use Rattle.list.proofs.Pairs as pairs
 use Rattle.list.proofs.reading.hits.Statement.{statement}
 use Rattle.list.proofs.reading.hits.Tie as tie
 
 abbrev invariant-loop : tie.invariant-loop
-invariant-loop ranges at n hit₀ i₀ hit i = pairs.Looked (λ (r : Range). touchesOf r.first r.last at) ranges i hit
+invariant-loop ranges at n hit₀ i₀ hit i = pairs.Looked (λ (r : Range). touches_of r.first r.last at) ranges i hit
 
 abbrev decreases-loop : tie.decreases-loop
 decreases-loop ranges at n hit₀ i₀ hit i = n - i

@@ -1,6 +1,6 @@
 -- `list::reading::read` meets its contract. Assumes nothing.
 use borrow.Author.Rules.{rules}
-use Rattle.memory.proofs.Reading.{read_one, read-two}
+use Rattle.memory.proofs.Reading.{read_one, read_two}
 use Rattle.list.proofs.Looking as law
 use Rattle.list.proofs.reading.read.Statement.{statement}
 use Rattle.list.proofs.reading.read.Tie as tie
@@ -27,7 +27,7 @@ of-two-requires : tie.Need-of-two-requires
 of-two-requires c κs = search rules
 
 returns-2 : tie.Need-returns-2
-returns-2 c = read-two _ _ _ c.before.before.before.before.before.fetch.ensures c.before.before.before.before.is-alone.ensures (law.fails _ c.before.before.before.if1.false) c.before.before.second_at.ensures c.before.fetch2.ensures c.of_two.ensures
+returns-2 c = read_two _ _ _ c.before.before.before.before.before.fetch.ensures c.before.before.before.before.is-alone.ensures (law.fails _ c.before.before.before.if1.false) c.before.before.second_at.ensures c.before.fetch2.ensures c.of_two.ensures
 
 pub read_spec : {M : Type 1} → statement M
 read_spec = tie.close (tie.spec fetch-requires is-alone-requires of-one-requires returns second-at-requires fetch-requires-2 of-two-requires returns-2)

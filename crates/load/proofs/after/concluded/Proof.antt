@@ -20,7 +20,7 @@ returns : tie.Need-returns
 returns c = law.concludes _ _ _ c.before.found.given.1 (search rules)
 
 returns-2 : tie.Need-returns-2
-returns-2 c = law.concludes-030 _ _ _ _ c.before.before.before.found2.given.1 c.end-030.ensures
+returns-2 c = law.concludes_030 _ _ _ _ c.before.before.before.found2.given.1 c.end_030.ensures
 
 pub concluded-spec : {M : Type 1} → statement M
 concluded-spec =

@@ -22,13 +22,13 @@ first-refusal-requires : tie.Need-first-refusal-requires
 first-refusal-requires c κs = search rules
 
 returns : tie.Need-returns
-returns c = law.load-refused _ _ _ _ _ _ (law.load-refusal-is _ _ _ _ _ c.before.before.before.before.before.before.no-family.ensures c.before.before.before.before.before.not-030.ensures c.before.before.before.before.above-seven.ensures c.before.before.bad-cache.ensures c.before.first-refusal.ensures) c.if1.true (search rules)
+returns c = law.load_refused _ _ _ _ _ _ (law.load_refusal_is _ _ _ _ _ c.before.before.before.before.before.before.no-family.ensures c.before.before.before.before.before.not-030.ensures c.before.before.before.before.above-seven.ensures c.before.before.bad-cache.ensures c.before.first-refusal.ensures) c.if1.true (search rules)
 
 is-on-requires : tie.Need-is-on-requires
 is-on-requires c κs = search rules
 
 returns-2 : tie.Need-returns-2
-returns-2 c = law.load-off _ _ _ _ _ _ (law.load-refusal-is _ _ _ _ _ c.before.before.before.before.before.before.before.before.no-family.ensures c.before.before.before.before.before.before.before.not-030.ensures c.before.before.before.before.before.before.above-seven.ensures c.before.before.before.before.bad-cache.ensures c.before.before.before.first-refusal.ensures) c.before.before.if1.false c.before.is-on.ensures c.if2.true (search rules)
+returns-2 c = law.load_off _ _ _ _ _ _ (law.load_refusal_is _ _ _ _ _ c.before.before.before.before.before.before.before.before.no-family.ensures c.before.before.before.before.before.before.before.not-030.ensures c.before.before.before.before.before.before.above-seven.ensures c.before.before.before.before.bad-cache.ensures c.before.before.before.first-refusal.ensures) c.before.before.if1.false c.before.is-on.ensures c.if2.true (search rules)
 
 flush-page-requires : tie.Need-flush-page-requires
 flush-page-requires c κs = search rules
@@ -40,7 +40,7 @@ search-unless-requires : tie.Need-search-unless-requires
 search-unless-requires c κs = search rules
 
 returns-3 : tie.Need-returns-3
-returns-3 c = law.load-dropped _ _ _ _ _ _ (law.load-refusal-is _ _ _ _ _ c.before.before.before.before.before.before.before.before.before.before.before.before.no-family.ensures c.before.before.before.before.before.before.before.before.before.before.before.not-030.ensures c.before.before.before.before.before.before.before.before.before.before.above-seven.ensures c.before.before.before.before.before.before.before.before.bad-cache.ensures c.before.before.before.before.before.before.before.first-refusal.ensures) c.before.before.before.before.before.before.if1.false c.before.before.before.before.before.is-on.ensures c.before.before.before.before.if2.false c.before.before.flush-page.ensures c.before.stops.ensures c.search-unless.ensures
+returns-3 c = law.load_dropped _ _ _ _ _ _ (law.load_refusal_is _ _ _ _ _ c.before.before.before.before.before.before.before.before.before.before.before.before.no-family.ensures c.before.before.before.before.before.before.before.before.before.before.before.not-030.ensures c.before.before.before.before.before.before.before.before.before.before.above-seven.ensures c.before.before.before.before.before.before.before.before.bad-cache.ensures c.before.before.before.before.before.before.before.first-refusal.ensures) c.before.before.before.before.before.before.if1.false c.before.before.before.before.before.is-on.ensures c.before.before.before.before.if2.false c.before.before.flush-page.ensures c.before.stops.ensures c.search-unless.ensures
 
 pub plan-load-spec : {M : Type 1} → statement M
 plan-load-spec =

@@ -3,7 +3,7 @@ use borrow.Author.Rules.{rules}
 use Prim.Native.Nat.{◌-◌}
 use mathlib.Core.Path.{◌≡◌}
 use native.Mathlib.Omega.{arith}
-use Rattle.memory.proofs.Shifts.{whole-address}
+use Rattle.memory.proofs.Shifts.{whole_address}
 use Rattle.memory.proofs.bits.in_page.Statement.{statement}
 use Rattle.memory.proofs.bits.in_page.Tie as tie
 
@@ -17,7 +17,7 @@ returns : tie.Need-returns
 returns c = let e : 32 - (32 - c.before.before.args.shift) ≡ c.before.before.args.shift = omega arith in rw e at c.low-bits.ensures
 
 returns-2 : tie.Need-returns-2
-returns-2 c = whole-address c.before.args.address c.before.args.shift (omega arith) c.if1.false
+returns-2 c = whole_address c.before.args.address c.before.args.shift (omega arith) c.if1.false
 
 pub in-page-spec : {M : Type 1} → statement M
 in-page-spec = tie.close (tie.spec sub-low-bits low-bits-requires returns returns-2)

@@ -36,12 +36,12 @@ use denote.Triple.Table.{entered, cited}
 use denote.Triple.Walked.{says, Stays, stay_none, stay_none_slice, walk_of, Goes-none, Goes-none_slice, Walks as AllWalks, ends_at, walked, walk_Meets}
 use denote.Triple.Clauses.{ensured, lasts}
 use denote.Exit.{yes}
-use Rattle.memory.proofs.Branching.{leaves-if}
+use Rattle.memory.proofs.Branching.{leaves_if}
 use Rattle.memory.proofs.Reading as law
 use Rattle.definition.specs.Memory.{memory}
 use Rattle.definition.specs.Walk030.{entry_of, read_of, short_of}
-use Rattle.memory.specs.Descriptors.{alone, ofTwo, shownRead}
-use Rattle.definition.specs.Memory.{fetchOf}
+use Rattle.memory.specs.Descriptors.{alone, of_two, shown_read}
+use Rattle.definition.specs.Memory.{fetch_of}
 use Rattle.definition.specs.declared.Fetched.{Fetched}
 use Rattle.definition.specs.contracts.Fetched as row-Fetched
 use Rattle.definition.proofs.Fetched.TheLaws as law-Fetched
@@ -103,7 +103,7 @@ module _ {M : Type 1} {𝓤 : Ura M} (𝓛 : Logic 𝓤) (mem : Memory → SProp
   abbrev Post : Val → SProp 𝓤
   Post = (walk_of 𝓛 self.ended stayed (self.clauses 𝓛 mem run)).post (((κ0, (κ1, tt)), (q0, (q1, tt)), tt, (x1, (x2, (x3, (x4, (x5, tt))))), at_entry), tt)
 
-  exits : (r : Descriptor) (u : Val) → Is row-Descriptor.the_row r (u ∷ []) → (r ≡ shownRead (read_of (memory x1.now x2 x3.now) x4 x5)) → ent 𝓤 (⋆ 𝓛 (‵ (flft κ0 q0) ∷ ‵ (flft κ1 q1) ∷ ‵ ((ShrSlice (named 0) κ0 u32).own_val x1 (slice_val x1.ref_ptr (length x1.now) ∷ [])) ∷ ‵ ((ShrSlice (named 1) κ1 row-Range.the_row).own_val x3 (slice_val x3.ref_ptr (length x3.now) ∷ [])) ∷ [])) (Post u)
+  exits : (r : Descriptor) (u : Val) → Is row-Descriptor.the_row r (u ∷ []) → (r ≡ shown_read (read_of (memory x1.now x2 x3.now) x4 x5)) → ent 𝓤 (⋆ 𝓛 (‵ (flft κ0 q0) ∷ ‵ (flft κ1 q1) ∷ ‵ ((ShrSlice (named 0) κ0 u32).own_val x1 (slice_val x1.ref_ptr (length x1.now) ∷ [])) ∷ ‵ ((ShrSlice (named 1) κ1 row-Range.the_row).own_val x3 (slice_val x3.ref_ptr (length x3.now) ∷ [])) ∷ [])) (Post u)
   exits r u is e =
       qed 𝓛 (‵ (flft κ0 q0) ∷ ‵ (flft κ1 q1) ∷ ‵ ((ShrSlice (named 0) κ0 u32).own_val x1 (slice_val x1.ref_ptr (length x1.now) ∷ [])) ∷ ‵ ((ShrSlice (named 1) κ1 row-Range.the_row).own_val x3 (slice_val x3.ref_ptr (length x3.now) ∷ [])) ∷ []) ∵
       suffices ! _ (ends_at 𝓛 self.ended stayed (self.clauses 𝓛 mem run) (((κ0, (κ1, tt)), (q0, (q1, tt)), tt, (x1, (x2, (x3, (x4, (x5, tt))))), at_entry), tt) u r (tt, (tt, (tt, (tt, (tt, tt))))) (tt, (tt, (tt, (tt, (tt, tt)))))) $ says ! e $
@@ -117,8 +117,8 @@ module _ {M : Type 1} {𝓤 : Ura M} (𝓛 : Logic 𝓤) (mem : Memory → SProp
   goes-0 a0 v0 a1 v1 a2 v2 a3 v3 i1 i3 =
       qed 𝓛 (‵ (flft κ0 q0) ∷ ‵ (flft κ1 q1) ∷ ‵ ((ShrSlice (named 0) κ0 u32).own_val a0 (v0 ∷ [])) ∷ ‵ ((ShrSlice (named 1) κ1 row-Range.the_row).own_val a2 (v2 ∷ [])) ∷ []) ∵ nothing ! $ owned ! u32 (Is u32) (uint_Makes 𝓛 w32) a3 _ i3 $ fjoin ! $ move ! (4 ∷ 0 ∷ []) $ fjoin ! $ owned ! u32 (Is u32) (uint_Makes 𝓛 w32) a1 _ i1 $ fjoin ! $ move ! (3 ∷ 0 ∷ []) $ fjoin ! $ nothing ! $ move ! (3 ∷ 0 ∷ []) $ join ! $ move ! (2 ∷ 0 ∷ []) $ join ! $ join ! $ frame ! $ done !
 
-  said-0 : (a0 : Bor (List ℕ)) (a1 : ℕ) (a2 : Bor (List Range)) (a3 : ℕ) (r : Fetched) → ent 𝓤 (ensured 𝓛 c0.ended (c0.clauses 𝓛 mem run) (κ0, (κ1, tt)) (a0, (a1, (a2, (a3, tt)))) tt r) (fact 𝓤 (r ≡ fetchOf (memory a0.now a1 a2.now) a3))
-  said-0 a0 a1 a2 a3 r = ex_e 𝓤 _ (λ ws. snd∗ 𝓤 (sem 𝓛 (lasts c0.ended (κ0, (κ1, tt)) (a0, (a1, (a2, (a3, tt)))) ws)) (fact 𝓤 (r ≡ fetchOf (memory a0.now a1 a2.now) a3)))
+  said-0 : (a0 : Bor (List ℕ)) (a1 : ℕ) (a2 : Bor (List Range)) (a3 : ℕ) (r : Fetched) → ent 𝓤 (ensured 𝓛 c0.ended (c0.clauses 𝓛 mem run) (κ0, (κ1, tt)) (a0, (a1, (a2, (a3, tt)))) tt r) (fact 𝓤 (r ≡ fetch_of (memory a0.now a1 a2.now) a3))
+  said-0 a0 a1 a2 a3 r = ex_e 𝓤 _ (λ ws. snd∗ 𝓤 (sem 𝓛 (lasts c0.ended (κ0, (κ1, tt)) (a0, (a1, (a2, (a3, tt)))) ws)) (fact 𝓤 (r ≡ fetch_of (memory a0.now a1 a2.now) a3)))
 
   -- the call of `descriptor.is_alone`: what it is passed, what it asks, and what is known of its result
   abbrev to-1 : (a0 : Bool) (v0 : Val) (a1 : Fetched) (v1 : Val) → (C1 𝓛 mem run).Ghost
@@ -139,8 +139,8 @@ module _ {M : Type 1} {𝓤 : Ura M} (𝓛 : Logic 𝓤) (mem : Memory → SProp
   goes-2 a0 v0 a1 v1 i0 i1 =
       qed 𝓛 ([]) ∵ nothing ! $ owned ! row-Fetched.the_row (Is row-Fetched.the_row) (EL.makes row-Fetched.the_type law-Fetched.the_plain 𝓛) a1 _ i1 $ fjoin ! $ owned ! u32 (Is u32) (uint_Makes 𝓛 w32) a0 _ i0 $ fjoin ! $ nothing ! $ join ! $ frame ! $ done !
 
-  said-2 : (a0 : ℕ) (a1 : Fetched) (r : Descriptor) → ent 𝓤 (ensured 𝓛 c2.ended (c2.clauses 𝓛 mem run) tt (a0, (a1, tt)) tt r) (fact 𝓤 (r ≡ shownRead (short_of a0 a1)))
-  said-2 a0 a1 r = ex_e 𝓤 _ (λ ws. snd∗ 𝓤 (sem 𝓛 (lasts c2.ended tt (a0, (a1, tt)) ws)) (fact 𝓤 (r ≡ shownRead (short_of a0 a1))))
+  said-2 : (a0 : ℕ) (a1 : Fetched) (r : Descriptor) → ent 𝓤 (ensured 𝓛 c2.ended (c2.clauses 𝓛 mem run) tt (a0, (a1, tt)) tt r) (fact 𝓤 (r ≡ shown_read (short_of a0 a1)))
+  said-2 a0 a1 r = ex_e 𝓤 _ (λ ws. snd∗ 𝓤 (sem 𝓛 (lasts c2.ended tt (a0, (a1, tt)) ws)) (fact 𝓤 (r ≡ shown_read (short_of a0 a1))))
 
   -- the call of `descriptor.second_at`: what it is passed, what it asks, and what is known of its result
   abbrev to-3 : (a0 : ℕ) (v0 : Val) → (C3 𝓛 mem run).Ghost
@@ -161,8 +161,8 @@ module _ {M : Type 1} {𝓤 : Ura M} (𝓛 : Logic 𝓤) (mem : Memory → SProp
   goes-4 a0 v0 a1 v1 a2 v2 i0 i1 i2 =
       qed 𝓛 ([]) ∵ nothing ! $ owned ! row-Fetched.the_row (Is row-Fetched.the_row) (EL.makes row-Fetched.the_type law-Fetched.the_plain 𝓛) a2 _ i2 $ fjoin ! $ owned ! row-Fetched.the_row (Is row-Fetched.the_row) (EL.makes row-Fetched.the_type law-Fetched.the_plain 𝓛) a1 _ i1 $ fjoin ! $ owned ! u32 (Is u32) (uint_Makes 𝓛 w32) a0 _ i0 $ fjoin ! $ nothing ! $ join ! $ frame ! $ done !
 
-  said-4 : (a0 : ℕ) (a1 : Fetched) (a2 : Fetched) (r : Descriptor) → ent 𝓤 (ensured 𝓛 c4.ended (c4.clauses 𝓛 mem run) tt (a0, (a1, (a2, tt))) tt r) (fact 𝓤 (r ≡ ofTwo a0 a1 a2))
-  said-4 a0 a1 a2 r = ex_e 𝓤 _ (λ ws. snd∗ 𝓤 (sem 𝓛 (lasts c4.ended tt (a0, (a1, (a2, tt))) ws)) (fact 𝓤 (r ≡ ofTwo a0 a1 a2)))
+  said-4 : (a0 : ℕ) (a1 : Fetched) (a2 : Fetched) (r : Descriptor) → ent 𝓤 (ensured 𝓛 c4.ended (c4.clauses 𝓛 mem run) tt (a0, (a1, (a2, tt))) tt r) (fact 𝓤 (r ≡ of_two a0 a1 a2))
+  said-4 a0 a1 a2 r = ex_e 𝓤 _ (λ ws. snd∗ 𝓤 (sem 𝓛 (lasts c4.ended tt (a0, (a1, (a2, tt))) ws)) (fact 𝓤 (r ≡ of_two a0 a1 a2)))
 
   module _ (𝓣 : Tables 𝓤 H) (known-0 : Triple 𝓤 (𝓣.C #memory·longs·fetch) (C0 𝓛 mem run)) (known-1 : Triple 𝓤 (𝓣.C #memory·descriptor·is-alone) (C1 𝓛 mem run)) (known-2 : Triple 𝓤 (𝓣.C #memory·descriptor·of-one) (C2 𝓛 mem run)) (known-3 : Triple 𝓤 (𝓣.C #memory·descriptor·second-at) (C3 𝓛 mem run)) (known-4 : Triple 𝓤 (𝓣.C #memory·descriptor·of-two) (C4 𝓛 mem run)) where
     abbrev C : Calls 𝓤 H
@@ -187,7 +187,7 @@ module _ {M : Type 1} {𝓤 : Ura M} (𝓛 : Logic 𝓤) (mem : Memory → SProp
         split ! $ move ! (5 ∷ 4 ∷ 2 ∷ 0 ∷ []) $ group ! 4 $
         use1 𝓛 (raw ((C0 𝓛 mem run).pre (to-0 x1 (slice_val x1.ref_ptr (length x1.now)) x2 (vint w32 x2) x3 (slice_val x3.ref_ptr (length x3.now)) x4 (vint w32 x4)))) (goes-0 x1 (slice_val x1.ref_ptr (length x1.now)) x2 (vint w32 x2) x3 (slice_val x3.ref_ptr (length x3.now)) x4 (vint w32 x4) i2 i4) $
         calls_at ! fm (C0 𝓛 mem run) known-0 (to-0 x1 (slice_val x1.ref_ptr (length x1.now)) x2 (vint w32 x2) x3 (slice_val x3.ref_ptr (length x3.now)) x4 (vint w32 x4)) (and_then ! (load ! (from ! (stop !)) (look ! 19 refl)) (and_then ! (load ! (from ! (stop !)) (look ! 17 refl)) (and_then ! (load ! (from ! (stop !)) (look ! 15 refl)) (and_then ! (load ! (from ! (stop !)) (look ! 13 refl)) (no_more !))))) (λ u1.
-        use1 𝓛 (later (some (λ (r : Fetched). ((‵ (flft κ0 q0) ⊛ ‵ (flft κ1 q1) ⊛ ‵ ftrue) ⊛ ‵ ((row-Fetched.the_row).own_val r (u1 ∷ []))) ⊛ raw (ensured 𝓛 c0.ended (c0.clauses 𝓛 mem run) (κ0, (κ1, tt)) (x1, (x2, (x3, (x4, tt)))) tt r)))) (id⊢ 𝓤 _) $ await ! tt $ choose ! (λ r2. split ! $ move ! (1 ∷ []) $ use1 𝓛 (raw (fact 𝓤 (r2 ≡ fetchOf (memory x1.now x2 x3.now) x4))) (said-0 x1 x2 x3 x4 r2) $ heard ! (r2 ≡ fetchOf (memory x1.now x2 x3.now) x4) (λ e3. split ! $
+        use1 𝓛 (later (some (λ (r : Fetched). ((‵ (flft κ0 q0) ⊛ ‵ (flft κ1 q1) ⊛ ‵ ftrue) ⊛ ‵ ((row-Fetched.the_row).own_val r (u1 ∷ []))) ⊛ raw (ensured 𝓛 c0.ended (c0.clauses 𝓛 mem run) (κ0, (κ1, tt)) (x1, (x2, (x3, (x4, tt)))) tt r)))) (id⊢ 𝓤 _) $ await ! tt $ choose ! (λ r2. split ! $ move ! (1 ∷ []) $ use1 𝓛 (raw (fact 𝓤 (r2 ≡ fetch_of (memory x1.now x2 x3.now) x4))) (said-0 x1 x2 x3 x4 r2) $ heard ! (r2 ≡ fetch_of (memory x1.now x2 x3.now) x4) (λ e3. split ! $
         split ! $ move ! (1 ∷ []) $ split ! $ move ! (1 ∷ []) $ drop ! $ move ! (2 ∷ []) $
         facts ! row-Fetched.the_row (Is row-Fetched.the_row) (shows 𝓛 row-Fetched.the_row) r2 (u1 ∷ []) (λ is4. land ! (from ! (stop !)) (init ! 10 refl ((EL.lawful row-Fetched.the_type law-Fetched.the_laws 𝓛 tt).typed r2 _ is4).0) $
         rewrite ! 10 (λ (u : Val). ‵ (fat full_share law-Fetched.mir l6 0 u)) (ap only (EL.tells row-Fetched.the_type law-Fetched.the_laws r2 _ is4)) refl $
@@ -196,10 +196,10 @@ module _ {M : Type 1} {𝓤 : Ura M} (𝓛 : Logic 𝓤) (mem : Memory → SProp
         use1 𝓛 (later (some (λ (r : Bool). (‵ ftrue ⊛ ‵ (Boolean.own r (u5 ∷ []))) ⊛ raw (ensured 𝓛 c1.ended (c1.clauses 𝓛 mem run) tt (x5, (r2, tt)) tt r)))) (id⊢ 𝓤 _) $ await ! tt $ choose ! (λ r6. split ! $ move ! (1 ∷ []) $ use1 𝓛 (raw (fact 𝓤 (r6 ≡ alone x5 r2))) (said-1 x5 r2 r6) $ heard ! (r6 ≡ alone x5 r2) (λ e7. split ! $
         drop ! $ facts ! Boolean (Is Boolean) (shows 𝓛 Boolean) r6 (u5 ∷ []) (λ is8. land ! (from ! (stop !)) (init ! 4 refl ((bool_Lawful 𝓛).typed r6 _ is8).0) $
         rewrite ! 4 (λ (u : Val). ‵ (fat full_share ty_bool l9 0 u)) (ap only (bool_Tells r6 _ is8)) refl $
-        leaves-if ! (load ! (from ! (stop !)) (look ! 4 refl))
+        leaves_if ! (load ! (from ! (stop !)) (look ! 4 refl))
         (λ h9. use0 𝓛 (raw ((C2 𝓛 mem run).pre (to-2 x4 (vint w32 x4) r2 (EL.val row-Fetched.the_type law-Fetched.the_laws r2)))) (goes-2 x4 (vint w32 x4) r2 (EL.val row-Fetched.the_type law-Fetched.the_laws r2) i4 (subst (Is row-Fetched.the_row r2) (EL.tells row-Fetched.the_type law-Fetched.the_laws r2 _ is4) is4)) $
         calls_at ! fm (C2 𝓛 mem run) known-2 (to-2 x4 (vint w32 x4) r2 (EL.val row-Fetched.the_type law-Fetched.the_laws r2)) (and_then ! (load ! (from ! (stop !)) (look ! 15 refl)) (and_then ! (load ! (from ! (stop !)) (look ! 11 refl)) (no_more !))) (λ u10.
-        use1 𝓛 (later (some (λ (r : Descriptor). (‵ ftrue ⊛ ‵ ((row-Descriptor.the_row).own_val r (u10 ∷ []))) ⊛ raw (ensured 𝓛 c2.ended (c2.clauses 𝓛 mem run) tt (x4, (r2, tt)) tt r)))) (id⊢ 𝓤 _) $ await ! tt $ choose ! (λ r11. split ! $ move ! (1 ∷ []) $ use1 𝓛 (raw (fact 𝓤 (r11 ≡ shownRead (short_of x4 r2)))) (said-2 x4 r2 r11) $ heard ! (r11 ≡ shownRead (short_of x4 r2)) (λ e12. split ! $
+        use1 𝓛 (later (some (λ (r : Descriptor). (‵ ftrue ⊛ ‵ ((row-Descriptor.the_row).own_val r (u10 ∷ []))) ⊛ raw (ensured 𝓛 c2.ended (c2.clauses 𝓛 mem run) tt (x4, (r2, tt)) tt r)))) (id⊢ 𝓤 _) $ await ! tt $ choose ! (λ r11. split ! $ move ! (1 ∷ []) $ use1 𝓛 (raw (fact 𝓤 (r11 ≡ shown_read (short_of x4 r2)))) (said-2 x4 r2 r11) $ heard ! (r11 ≡ shown_read (short_of x4 r2)) (λ e12. split ! $
         drop ! $
         facts ! row-Descriptor.the_row (Is row-Descriptor.the_row) (shows 𝓛 row-Descriptor.the_row) r11 (u10 ∷ []) (λ is13. land ! (from ! (stop !)) (init ! 22 refl ((EL.lawful row-Descriptor.the_type law-Descriptor.the_laws 𝓛 tt).typed r11 _ is13).0) $
         rewrite ! 22 (λ (u : Val). ‵ (fat full_share law-Descriptor.mir l0 0 u)) (ap only (EL.tells row-Descriptor.the_type law-Descriptor.the_laws r11 _ is13)) refl $
@@ -220,13 +220,13 @@ module _ {M : Type 1} {𝓤 : Ura M} (𝓛 : Logic 𝓤) (mem : Memory → SProp
         split ! $ move ! (5 ∷ 4 ∷ 2 ∷ 0 ∷ []) $ group ! 4 $
         use1 𝓛 (raw ((C0 𝓛 mem run).pre (to-0 x1 (slice_val x1.ref_ptr (length x1.now)) x2 (vint w32 x2) x3 (slice_val x3.ref_ptr (length x3.now)) r15 (vint w32 r15)))) (goes-0 x1 (slice_val x1.ref_ptr (length x1.now)) x2 (vint w32 x2) x3 (slice_val x3.ref_ptr (length x3.now)) r15 (vint w32 r15) i2 (subst (Is u32 r15) (uint_Tells w32 r15 _ is17) is17)) $
         calls_at ! fm (C0 𝓛 mem run) known-0 (to-0 x1 (slice_val x1.ref_ptr (length x1.now)) x2 (vint w32 x2) x3 (slice_val x3.ref_ptr (length x3.now)) r15 (vint w32 r15)) (and_then ! (load ! (from ! (stop !)) (look ! 19 refl)) (and_then ! (load ! (from ! (stop !)) (look ! 17 refl)) (and_then ! (load ! (from ! (stop !)) (look ! 15 refl)) (and_then ! (load ! (from ! (stop !)) (look ! 7 refl)) (no_more !))))) (λ u18.
-        use1 𝓛 (later (some (λ (r : Fetched). ((‵ (flft κ0 q0) ⊛ ‵ (flft κ1 q1) ⊛ ‵ ftrue) ⊛ ‵ ((row-Fetched.the_row).own_val r (u18 ∷ []))) ⊛ raw (ensured 𝓛 c0.ended (c0.clauses 𝓛 mem run) (κ0, (κ1, tt)) (x1, (x2, (x3, (r15, tt)))) tt r)))) (id⊢ 𝓤 _) $ await ! tt $ choose ! (λ r19. split ! $ move ! (1 ∷ []) $ use1 𝓛 (raw (fact 𝓤 (r19 ≡ fetchOf (memory x1.now x2 x3.now) r15))) (said-0 x1 x2 x3 r15 r19) $ heard ! (r19 ≡ fetchOf (memory x1.now x2 x3.now) r15) (λ e20. split ! $
+        use1 𝓛 (later (some (λ (r : Fetched). ((‵ (flft κ0 q0) ⊛ ‵ (flft κ1 q1) ⊛ ‵ ftrue) ⊛ ‵ ((row-Fetched.the_row).own_val r (u18 ∷ []))) ⊛ raw (ensured 𝓛 c0.ended (c0.clauses 𝓛 mem run) (κ0, (κ1, tt)) (x1, (x2, (x3, (r15, tt)))) tt r)))) (id⊢ 𝓤 _) $ await ! tt $ choose ! (λ r19. split ! $ move ! (1 ∷ []) $ use1 𝓛 (raw (fact 𝓤 (r19 ≡ fetch_of (memory x1.now x2 x3.now) r15))) (said-0 x1 x2 x3 r15 r19) $ heard ! (r19 ≡ fetch_of (memory x1.now x2 x3.now) r15) (λ e20. split ! $
         split ! $ move ! (1 ∷ []) $ split ! $ move ! (1 ∷ []) $ drop ! $ move ! (2 ∷ []) $
         facts ! row-Fetched.the_row (Is row-Fetched.the_row) (shows 𝓛 row-Fetched.the_row) r19 (u18 ∷ []) (λ is21. land ! (from ! (stop !)) (init ! 6 refl ((EL.lawful row-Fetched.the_type law-Fetched.the_laws 𝓛 tt).typed r19 _ is21).0) $
         rewrite ! 6 (λ (u : Val). ‵ (fat full_share law-Fetched.mir l8 0 u)) (ap only (EL.tells row-Fetched.the_type law-Fetched.the_laws r19 _ is21)) refl $
         use0 𝓛 (raw ((C4 𝓛 mem run).pre (to-4 x4 (vint w32 x4) r2 (EL.val row-Fetched.the_type law-Fetched.the_laws r2) r19 (EL.val row-Fetched.the_type law-Fetched.the_laws r19)))) (goes-4 x4 (vint w32 x4) r2 (EL.val row-Fetched.the_type law-Fetched.the_laws r2) r19 (EL.val row-Fetched.the_type law-Fetched.the_laws r19) i4 (subst (Is row-Fetched.the_row r2) (EL.tells row-Fetched.the_type law-Fetched.the_laws r2 _ is4) is4) (subst (Is row-Fetched.the_row r19) (EL.tells row-Fetched.the_type law-Fetched.the_laws r19 _ is21) is21)) $
         calls_at ! fm (C4 𝓛 mem run) known-4 (to-4 x4 (vint w32 x4) r2 (EL.val row-Fetched.the_type law-Fetched.the_laws r2) r19 (EL.val row-Fetched.the_type law-Fetched.the_laws r19)) (and_then ! (load ! (from ! (stop !)) (look ! 15 refl)) (and_then ! (load ! (from ! (stop !)) (look ! 11 refl)) (and_then ! (load ! (from ! (stop !)) (look ! 7 refl)) (no_more !)))) (λ u22.
-        use1 𝓛 (later (some (λ (r : Descriptor). (‵ ftrue ⊛ ‵ ((row-Descriptor.the_row).own_val r (u22 ∷ []))) ⊛ raw (ensured 𝓛 c4.ended (c4.clauses 𝓛 mem run) tt (x4, (r2, (r19, tt))) tt r)))) (id⊢ 𝓤 _) $ await ! tt $ choose ! (λ r23. split ! $ move ! (1 ∷ []) $ use1 𝓛 (raw (fact 𝓤 (r23 ≡ ofTwo x4 r2 r19))) (said-4 x4 r2 r19 r23) $ heard ! (r23 ≡ ofTwo x4 r2 r19) (λ e24. split ! $
+        use1 𝓛 (later (some (λ (r : Descriptor). (‵ ftrue ⊛ ‵ ((row-Descriptor.the_row).own_val r (u22 ∷ []))) ⊛ raw (ensured 𝓛 c4.ended (c4.clauses 𝓛 mem run) tt (x4, (r2, (r19, tt))) tt r)))) (id⊢ 𝓤 _) $ await ! tt $ choose ! (λ r23. split ! $ move ! (1 ∷ []) $ use1 𝓛 (raw (fact 𝓤 (r23 ≡ of_two x4 r2 r19))) (said-4 x4 r2 r19 r23) $ heard ! (r23 ≡ of_two x4 r2 r19) (λ e24. split ! $
         drop ! $
         facts ! row-Descriptor.the_row (Is row-Descriptor.the_row) (shows 𝓛 row-Descriptor.the_row) r23 (u22 ∷ []) (λ is25. land ! (from ! (stop !)) (init ! 22 refl ((EL.lawful row-Descriptor.the_type law-Descriptor.the_laws 𝓛 tt).typed r23 _ is25).0) $
         rewrite ! 22 (λ (u : Val). ‵ (fat full_share law-Descriptor.mir l0 0 u)) (ap only (EL.tells row-Descriptor.the_type law-Descriptor.the_laws r23 _ is25)) refl $
@@ -234,7 +234,7 @@ module _ {M : Type 1} {𝓤 : Ura M} (𝓛 : Logic 𝓤) (mem : Memory → SProp
         forget ! 8 refl $ forget ! 6 refl $ forget ! 4 refl $ move ! (22 ∷ 23 ∷ []) $ free1 ! $ move ! (20 ∷ 21 ∷ []) $ free1 ! $ move ! (18 ∷ 19 ∷ []) $ free1 ! $
         move ! (16 ∷ 17 ∷ []) $ free1 ! $ move ! (14 ∷ 15 ∷ []) $ free1 ! $ move ! (12 ∷ 13 ∷ []) $ free1 ! $ move ! (10 ∷ 11 ∷ []) $ free1 ! $ move ! (8 ∷ 9 ∷ []) $ free1 ! $
         move ! (6 ∷ 7 ∷ []) $ free1 ! $ move ! (4 ∷ 5 ∷ []) $ free1 ! $ free0 ! $ keep ! (1 ∷ 0 ∷ 3 ∷ 2 ∷ []) $
-        by ! (exits r23 (EL.val row-Descriptor.the_type law-Descriptor.the_laws r23) (subst (Is row-Descriptor.the_row r23) (EL.tells row-Descriptor.the_type law-Descriptor.the_laws r23 _ is25) is25) (law.read-two (memory x1.now x2 x3.now) x4 x5 e3 e7 h9 e16 e20 e24)))))))))))))))))))))))))))))))))
+        by ! (exits r23 (EL.val row-Descriptor.the_type law-Descriptor.the_laws r23) (subst (Is row-Descriptor.the_row r23) (EL.tells row-Descriptor.the_type law-Descriptor.the_laws r23 _ is25) is25) (law.read_two (memory x1.now x2 x3.now) x4 x5 e3 e7 h9 e16 e20 e24)))))))))))))))))))))))))))))))))
 
 module _ {M : Type 1} {𝓤 : Ura M} (𝓛 : Logic 𝓤) (mem : Memory → SProp 𝓤) (run : Routine → Fun 𝓤) (𝓣 : Tables 𝓤 𝓛.H) where
   open 𝓛 use {H}

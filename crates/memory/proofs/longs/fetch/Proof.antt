@@ -36,8 +36,8 @@ use denote.Triple.Table.{entered, cited}
 use denote.Triple.Walked.{says, Stays, stay_none, stay_none_slice, walk_of, Goes-none, Goes-none_slice, Walks as AllWalks, ends_at, walked, walk_Meets}
 use denote.Triple.Clauses.{ensured, lasts}
 use denote.Exit.{yes}
-use Rattle.definition.specs.Memory.{fetchOf, fetchWith, memory}
-use Rattle.definition.specs.Memory.{inRanges}
+use Rattle.definition.specs.Memory.{fetch_of, fetch_with, memory}
+use Rattle.definition.specs.Memory.{in_ranges}
 use Rattle.definition.specs.declared.Fetched.{Fetched}
 use Rattle.definition.specs.contracts.Fetched as row-Fetched
 use Rattle.definition.proofs.Fetched.TheLaws as law-Fetched
@@ -75,7 +75,7 @@ module _ {M : Type 1} {𝓤 : Ura M} (𝓛 : Logic 𝓤) (mem : Memory → SProp
   abbrev Post : Val → SProp 𝓤
   Post = (walk_of 𝓛 self.ended stayed (self.clauses 𝓛 mem run)).post (((κ0, (κ1, tt)), (q0, (q1, tt)), tt, (x1, (x2, (x3, (x4, tt)))), at_entry), tt)
 
-  exits : (r : Fetched) (u : Val) → Is row-Fetched.the_row r (u ∷ []) → (r ≡ fetchOf (memory x1.now x2 x3.now) x4) → ent 𝓤 (⋆ 𝓛 (‵ (flft κ0 q0) ∷ ‵ (flft κ1 q1) ∷ ‵ ((ShrSlice (named 0) κ0 u32).own_val x1 (slice_val x1.ref_ptr (length x1.now) ∷ [])) ∷ ‵ ((ShrSlice (named 1) κ1 row-Range.the_row).own_val x3 (slice_val x3.ref_ptr (length x3.now) ∷ [])) ∷ [])) (Post u)
+  exits : (r : Fetched) (u : Val) → Is row-Fetched.the_row r (u ∷ []) → (r ≡ fetch_of (memory x1.now x2 x3.now) x4) → ent 𝓤 (⋆ 𝓛 (‵ (flft κ0 q0) ∷ ‵ (flft κ1 q1) ∷ ‵ ((ShrSlice (named 0) κ0 u32).own_val x1 (slice_val x1.ref_ptr (length x1.now) ∷ [])) ∷ ‵ ((ShrSlice (named 1) κ1 row-Range.the_row).own_val x3 (slice_val x3.ref_ptr (length x3.now) ∷ [])) ∷ [])) (Post u)
   exits r u is e =
       qed 𝓛 (‵ (flft κ0 q0) ∷ ‵ (flft κ1 q1) ∷ ‵ ((ShrSlice (named 0) κ0 u32).own_val x1 (slice_val x1.ref_ptr (length x1.now) ∷ [])) ∷ ‵ ((ShrSlice (named 1) κ1 row-Range.the_row).own_val x3 (slice_val x3.ref_ptr (length x3.now) ∷ [])) ∷ []) ∵
       suffices ! _ (ends_at 𝓛 self.ended stayed (self.clauses 𝓛 mem run) (((κ0, (κ1, tt)), (q0, (q1, tt)), tt, (x1, (x2, (x3, (x4, tt)))), at_entry), tt) u r (tt, (tt, (tt, (tt, tt)))) (tt, (tt, (tt, (tt, tt))))) $ says ! e $
@@ -89,8 +89,8 @@ module _ {M : Type 1} {𝓤 : Ura M} (𝓛 : Logic 𝓤) (mem : Memory → SProp
   goes-0 a0 v0 a1 v1 i1 =
       qed 𝓛 (‵ (flft κ1 q1) ∷ ‵ ((ShrSlice (named 0) κ1 row-Range.the_row).own_val a0 (v0 ∷ [])) ∷ []) ∵ nothing ! $ owned ! u32 (Is u32) (uint_Makes 𝓛 w32) a1 _ i1 $ fjoin ! $ move ! (2 ∷ 0 ∷ []) $ fjoin ! $ nothing ! $ move ! (2 ∷ 0 ∷ []) $ join ! $ join ! $ frame ! $ done !
 
-  said-0 : (a0 : Bor (List Range)) (a1 : ℕ) (r : Bool) → ent 𝓤 (ensured 𝓛 c0.ended (c0.clauses 𝓛 mem run) (κ1, tt) (a0, (a1, tt)) tt r) (fact 𝓤 (r ≡ inRanges a0.now a1))
-  said-0 a0 a1 r = ex_e 𝓤 _ (λ ws. snd∗ 𝓤 (sem 𝓛 (lasts c0.ended (κ1, tt) (a0, (a1, tt)) ws)) (fact 𝓤 (r ≡ inRanges a0.now a1)))
+  said-0 : (a0 : Bor (List Range)) (a1 : ℕ) (r : Bool) → ent 𝓤 (ensured 𝓛 c0.ended (c0.clauses 𝓛 mem run) (κ1, tt) (a0, (a1, tt)) tt r) (fact 𝓤 (r ≡ in_ranges a0.now a1))
+  said-0 a0 a1 r = ex_e 𝓤 _ (λ ws. snd∗ 𝓤 (sem 𝓛 (lasts c0.ended (κ1, tt) (a0, (a1, tt)) ws)) (fact 𝓤 (r ≡ in_ranges a0.now a1)))
 
   -- the call of `longs.long_unless`: what it is passed, what it asks, and what is known of its result
   abbrev to-1 : (a0 : Bor (List ℕ)) (v0 : Val) (a1 : ℕ) (v1 : Val) (a2 : ℕ) (v2 : Val) (a3 : Bool) (v3 : Val) → (C1 𝓛 mem run).Ghost
@@ -100,8 +100,8 @@ module _ {M : Type 1} {𝓤 : Ura M} (𝓛 : Logic 𝓤) (mem : Memory → SProp
   goes-1 a0 v0 a1 v1 a2 v2 a3 v3 i1 i2 i3 =
       qed 𝓛 (‵ (flft κ0 q0) ∷ ‵ ((ShrSlice (named 0) κ0 u32).own_val a0 (v0 ∷ [])) ∷ []) ∵ nothing ! $ owned ! Boolean (Is Boolean) (bool_Makes 𝓛) a3 _ i3 $ fjoin ! $ owned ! u32 (Is u32) (uint_Makes 𝓛 w32) a2 _ i2 $ fjoin ! $ owned ! u32 (Is u32) (uint_Makes 𝓛 w32) a1 _ i1 $ fjoin ! $ move ! (2 ∷ 0 ∷ []) $ fjoin ! $ nothing ! $ move ! (2 ∷ 0 ∷ []) $ join ! $ join ! $ frame ! $ done !
 
-  said-1 : (a0 : Bor (List ℕ)) (a1 : ℕ) (a2 : ℕ) (a3 : Bool) (r : Fetched) → ent 𝓤 (ensured 𝓛 c1.ended (c1.clauses 𝓛 mem run) (κ0, tt) (a0, (a1, (a2, (a3, tt)))) tt r) (fact 𝓤 (r ≡ fetchWith a0.now a1 a2 a3))
-  said-1 a0 a1 a2 a3 r = ex_e 𝓤 _ (λ ws. snd∗ 𝓤 (sem 𝓛 (lasts c1.ended (κ0, tt) (a0, (a1, (a2, (a3, tt)))) ws)) (fact 𝓤 (r ≡ fetchWith a0.now a1 a2 a3)))
+  said-1 : (a0 : Bor (List ℕ)) (a1 : ℕ) (a2 : ℕ) (a3 : Bool) (r : Fetched) → ent 𝓤 (ensured 𝓛 c1.ended (c1.clauses 𝓛 mem run) (κ0, tt) (a0, (a1, (a2, (a3, tt)))) tt r) (fact 𝓤 (r ≡ fetch_with a0.now a1 a2 a3))
+  said-1 a0 a1 a2 a3 r = ex_e 𝓤 _ (λ ws. snd∗ 𝓤 (sem 𝓛 (lasts c1.ended (κ0, tt) (a0, (a1, (a2, (a3, tt)))) ws)) (fact 𝓤 (r ≡ fetch_with a0.now a1 a2 a3)))
 
   module _ (𝓣 : Tables 𝓤 H) (known-0 : Triple 𝓤 (𝓣.C #memory·ranges·hits) (C0 𝓛 mem run)) (known-1 : Triple 𝓤 (𝓣.C #memory·longs·long-unless) (C1 𝓛 mem run)) where
     abbrev C : Calls 𝓤 H
@@ -124,7 +124,7 @@ module _ {M : Type 1} {𝓤 : Ura M} (𝓛 : Logic 𝓤) (mem : Memory → SProp
         split ! $ move ! (2 ∷ 0 ∷ []) $ group ! 2 $
         use1 𝓛 (raw ((C0 𝓛 mem run).pre (to-0 x3 (slice_val x3.ref_ptr (length x3.now)) x4 (vint w32 x4)))) (goes-0 x3 (slice_val x3.ref_ptr (length x3.now)) x4 (vint w32 x4) i4) $
         calls_at ! fm (C0 𝓛 mem run) known-0 (to-0 x3 (slice_val x3.ref_ptr (length x3.now)) x4 (vint w32 x4)) (and_then ! (load ! (from ! (stop !)) (look ! 8 refl)) (and_then ! (load ! (from ! (stop !)) (look ! 6 refl)) (no_more !))) (λ u1.
-        use1 𝓛 (later (some (λ (r : Bool). ((‵ (flft κ1 q1) ⊛ ‵ ftrue) ⊛ ‵ (Boolean.own r (u1 ∷ []))) ⊛ raw (ensured 𝓛 c0.ended (c0.clauses 𝓛 mem run) (κ1, tt) (x3, (x4, tt)) tt r)))) (id⊢ 𝓤 _) $ await ! tt $ choose ! (λ r2. split ! $ move ! (1 ∷ []) $ use1 𝓛 (raw (fact 𝓤 (r2 ≡ inRanges x3.now x4))) (said-0 x3 x4 r2) $ heard ! (r2 ≡ inRanges x3.now x4) (λ e3. split ! $
+        use1 𝓛 (later (some (λ (r : Bool). ((‵ (flft κ1 q1) ⊛ ‵ ftrue) ⊛ ‵ (Boolean.own r (u1 ∷ []))) ⊛ raw (ensured 𝓛 c0.ended (c0.clauses 𝓛 mem run) (κ1, tt) (x3, (x4, tt)) tt r)))) (id⊢ 𝓤 _) $ await ! tt $ choose ! (λ r2. split ! $ move ! (1 ∷ []) $ use1 𝓛 (raw (fact 𝓤 (r2 ≡ in_ranges x3.now x4))) (said-0 x3 x4 r2) $ heard ! (r2 ≡ in_ranges x3.now x4) (λ e3. split ! $
         split ! $ move ! (1 ∷ []) $ drop ! $ move ! (1 ∷ []) $
         facts ! Boolean (Is Boolean) (shows 𝓛 Boolean) r2 (u1 ∷ []) (λ is4. land ! (from ! (stop !)) (init ! 4 refl ((bool_Lawful 𝓛).typed r2 _ is4).0) $
         rewrite ! 4 (λ (u : Val). ‵ (fat full_share ty_bool l5 0 u)) (ap only (bool_Tells r2 _ is4)) refl $ move ! (3 ∷ []) $
@@ -132,14 +132,14 @@ module _ {M : Type 1} {𝓤 : Ura M} (𝓛 : Logic 𝓤) (mem : Memory → SProp
         split ! $ move ! (4 ∷ 0 ∷ []) $ group ! 2 $
         use1 𝓛 (raw ((C1 𝓛 mem run).pre (to-1 x1 (slice_val x1.ref_ptr (length x1.now)) x2 (vint w32 x2) x4 (vint w32 x4) r2 (vbool r2)))) (goes-1 x1 (slice_val x1.ref_ptr (length x1.now)) x2 (vint w32 x2) x4 (vint w32 x4) r2 (vbool r2) i2 i4 (subst (Is Boolean r2) (bool_Tells r2 _ is4) is4)) $
         calls_at ! fm (C1 𝓛 mem run) known-1 (to-1 x1 (slice_val x1.ref_ptr (length x1.now)) x2 (vint w32 x2) x4 (vint w32 x4) r2 (vbool r2)) (and_then ! (load ! (from ! (stop !)) (look ! 12 refl)) (and_then ! (load ! (from ! (stop !)) (look ! 10 refl)) (and_then ! (load ! (from ! (stop !)) (look ! 6 refl)) (and_then ! (load ! (from ! (stop !)) (look ! 4 refl)) (no_more !))))) (λ u5.
-        use1 𝓛 (later (some (λ (r : Fetched). ((‵ (flft κ0 q0) ⊛ ‵ ftrue) ⊛ ‵ ((row-Fetched.the_row).own_val r (u5 ∷ []))) ⊛ raw (ensured 𝓛 c1.ended (c1.clauses 𝓛 mem run) (κ0, tt) (x1, (x2, (x4, (r2, tt)))) tt r)))) (id⊢ 𝓤 _) $ await ! tt $ choose ! (λ r6. split ! $ move ! (1 ∷ []) $ use1 𝓛 (raw (fact 𝓤 (r6 ≡ fetchWith x1.now x2 x4 r2))) (said-1 x1 x2 x4 r2 r6) $ heard ! (r6 ≡ fetchWith x1.now x2 x4 r2) (λ e7. split ! $
+        use1 𝓛 (later (some (λ (r : Fetched). ((‵ (flft κ0 q0) ⊛ ‵ ftrue) ⊛ ‵ ((row-Fetched.the_row).own_val r (u5 ∷ []))) ⊛ raw (ensured 𝓛 c1.ended (c1.clauses 𝓛 mem run) (κ0, tt) (x1, (x2, (x4, (r2, tt)))) tt r)))) (id⊢ 𝓤 _) $ await ! tt $ choose ! (λ r6. split ! $ move ! (1 ∷ []) $ use1 𝓛 (raw (fact 𝓤 (r6 ≡ fetch_with x1.now x2 x4 r2))) (said-1 x1 x2 x4 r2 r6) $ heard ! (r6 ≡ fetch_with x1.now x2 x4 r2) (λ e7. split ! $
         split ! $ move ! (1 ∷ []) $ drop ! $ move ! (1 ∷ []) $
         facts ! row-Fetched.the_row (Is row-Fetched.the_row) (shows 𝓛 row-Fetched.the_row) r6 (u5 ∷ []) (λ is8. land ! (from ! (stop !)) (init ! 14 refl ((EL.lawful row-Fetched.the_type law-Fetched.the_laws 𝓛 tt).typed r6 _ is8).0) $
         rewrite ! 14 (λ (u : Val). ‵ (fat full_share law-Fetched.mir l0 0 u)) (ap only (EL.tells row-Fetched.the_type law-Fetched.the_laws r6 _ is8)) refl $
         returns ! (look ! 14 refl) $ forget ! 14 refl $ forget ! 12 refl $ forget ! 10 refl $ forget ! 8 refl $ forget ! 6 refl $ forget ! 4 refl $ move ! (14 ∷ 15 ∷ []) $ free1 ! $
         move ! (12 ∷ 13 ∷ []) $ free1 ! $ move ! (10 ∷ 11 ∷ []) $ free1 ! $ move ! (8 ∷ 9 ∷ []) $ free1 ! $ move ! (6 ∷ 7 ∷ []) $ free1 ! $ move ! (4 ∷ 5 ∷ []) $ free1 ! $ free0 ! $
         keep ! (0 ∷ 2 ∷ 1 ∷ 3 ∷ []) $
-        by ! (exits r6 (EL.val row-Fetched.the_type law-Fetched.the_laws r6) (subst (Is row-Fetched.the_row r6) (EL.tells row-Fetched.the_type law-Fetched.the_laws r6 _ is8) is8) (e7 ∙ ap (fetchWith x1.now x2 x4) e3))))))))))))))))
+        by ! (exits r6 (EL.val row-Fetched.the_type law-Fetched.the_laws r6) (subst (Is row-Fetched.the_row r6) (EL.tells row-Fetched.the_type law-Fetched.the_laws r6 _ is8) is8) (e7 ∙ ap (fetch_with x1.now x2 x4) e3))))))))))))))))
 
 module _ {M : Type 1} {𝓤 : Ura M} (𝓛 : Logic 𝓤) (mem : Memory → SProp 𝓤) (run : Routine → Fun 𝓤) (𝓣 : Tables 𝓤 𝓛.H) where
   open 𝓛 use {H}

@@ -6,15 +6,15 @@ use mathlib.Core.List.{List}
 use borrow.Author.Rules.{rules}
 use native.Mathlib.Omega.{arith}
 use lib.ListN.{length, get_or, drop, drop_of_length-le}
-use Rattle.definition.specs.Walk030.{is_of, used, widthsOf, sum_of}
+use Rattle.definition.specs.Walk030.{is_of, used, widths_of, sum_of}
 use Rattle.memory.proofs.Widths as law
 use Rattle.memory.proofs.page030.consumed.Statement.{statement}
 use Rattle.memory.proofs.page030.consumed.Tie as tie
 
 abbrev invariant-loop : tie.invariant-loop
 invariant-loop tc ws sum₀ k₀ sum k =
-    (ws ≡ widthsOf tc) × (length ws ≡ 4) × (k ≤ 4) × (sum ≤ 15 + 15 * k)
-    × (sum + sum_of (used (drop k ws)) ≡ is_of tc + sum_of (used (widthsOf tc)))
+    (ws ≡ widths_of tc) × (length ws ≡ 4) × (k ≤ 4) × (sum ≤ 15 + 15 * k)
+    × (sum + sum_of (used (drop k ws)) ≡ is_of tc + sum_of (used (widths_of tc)))
 
 abbrev decreases-loop : tie.decreases-loop
 decreases-loop tc ws sum₀ k₀ sum k = 4 - k
@@ -35,7 +35,7 @@ returns : tie.Need-returns invariant-loop decreases-loop
 returns c =
     let ws = c.before.before.before.widths.result in
     let k = c.before.before.loop.k in
-    omega (arith, ap sum_of (law.used-stop ws k (omega arith) c.if1.true))
+    omega (arith, ap sum_of (law.used_stop ws k (omega arith) c.if1.true))
 
 mul-sum : tie.Need-overflow-mul-sum invariant-loop decreases-loop
 mul-sum c = search rules
@@ -44,7 +44,7 @@ array-read-sum : tie.Need-array-read-sum invariant-loop decreases-loop
 array-read-sum c = search rules
 
 -- the width that a turn adds
-width : (ws : List ℕ) (tc k : ℕ) → ws ≡ widthsOf tc → get_or ws k 0 < 16
+width : (ws : List ℕ) (tc k : ℕ) → ws ≡ widths_of tc → get_or ws k 0 < 16
 width ws tc k e = rw e (law.width_small tc k)
 
 add-sum : tie.Need-overflow-add-sum invariant-loop decreases-loop
@@ -66,7 +66,7 @@ loop-again c =
     let ws = c.before.before.before.widths.result in
     let k = c.before.before.loop.k in
     let inv = c.before.before.loop.invariant in
-    (inv.0, inv.1, omega arith, omega (arith, width ws tc k inv.0), omega (arith, ap sum_of (law.used-more ws k (omega arith) c.if1.false), inv.4))
+    (inv.0, inv.1, omega arith, omega (arith, width ws tc k inv.0), omega (arith, ap sum_of (law.used_more ws k (omega arith) c.if1.false), inv.4))
 
 returns-2 : tie.Need-returns-2 invariant-loop decreases-loop
 returns-2 c =

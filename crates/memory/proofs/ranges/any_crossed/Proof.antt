@@ -43,7 +43,7 @@ use denote.Triple.Table.{entered, cited}
 use denote.Triple.Walked.{says, Stays, stay_none_slice, walk_of, Goes-none_slice, Walks as AllWalks, ends_at, walked, walk_Meets}
 use denote.Triple.Clauses.{ensured, lasts}
 use denote.Exit.{yes}
-use Rattle.memory.proofs.Branching.{stays-if}
+use Rattle.memory.proofs.Branching.{stays_if}
 use Rattle.memory.proofs.Searching as law
 use Rattle.definition.specs.Refusal.{crossed}
 use Rattle.definition.specs.Words.{any_of}
@@ -131,8 +131,8 @@ module _ {M : Type 1} {𝓤 : Ura M} (𝓛 : Logic 𝓤) (mem : Memory → SProp
       turns t =
           assigns ! (of_opd ! (load ! (from ! (fld ! refl (stop !))) (look_in ! 1 (sub ! 1 refl (whole !))))) (from ! (stop !)) (init ! 6 refl ((uint_Lawful 𝓛 w64).typed (length x1.now) _ (refl, i1.0.1.0)).0) $
           assigns ! (bin ! (load ! (from ! (stop !)) (look ! 3 refl)) (load ! (from ! (stop !)) (look ! 6 refl)) tt) (from ! (stop !)) (init ! 7 refl ((bool_Lawful 𝓛).typed (ltb t.0.i (length x1.now)) _ refl).0) $
-          stays-if ! (load ! (from ! (stop !)) (look ! 7 refl))
-          (λ h1. assigns ! (bin ! (load ! (from ! (stop !)) (look ! 3 refl)) (lit ! tt) (record { fits = law.mul-fits t.0 h1 i1.0.1.1 })) (from ! (stop !)) (store ! 6 refl ((uint_Lawful 𝓛 w64).typed (t.0.i * 8) _ (refl, law.mul-fits t.0 h1 i1.0.1.1)).0) $
+          stays_if ! (load ! (from ! (stop !)) (look ! 7 refl))
+          (λ h1. assigns ! (bin ! (load ! (from ! (stop !)) (look ! 3 refl)) (lit ! tt) (record { fits = law.mul_fits t.0 h1 i1.0.1.1 })) (from ! (stop !)) (store ! 6 refl ((uint_Lawful 𝓛 w64).typed (t.0.i * 8) _ (refl, law.mul_fits t.0 h1 i1.0.1.1)).0) $
           assigns ! (bin ! (load ! (from ! (fld ! refl (stop !))) (look_in ! 1 (sub ! 0 refl (whole !)))) (load ! (from ! (stop !)) (look ! 6 refl)) tt) (from ! (stop !)) (init ! 8 refl (tt, tt)) $
           rewrite ! 8 (λ (p : ℕ). ‵ (fat full_share ty_ptr l8 0 (vptr x1.ptr.0 p))) (sym (place_is 8 x1.ptr.1 t.0.i)) refl $ move ! (21 ∷ []) $
           use1 𝓛 (‵ ((ShrSlice (named 0) κ0 row-Range.the_row).own_val x1 (slice_val x1.ref_ptr (length x1.now) ∷ [])) ⊛ ‵ ((ShrSlice (named 0) κ0 row-Range.the_row).own_val x1 (slice_val x1.ref_ptr (length x1.now) ∷ []))) ((shr_slice_copy 𝓛 (named 0) κ0 row-Range.the_row).twice x1 _) $
@@ -143,7 +143,7 @@ module _ {M : Type 1} {𝓤 : Ura M} (𝓛 : Logic 𝓤) (mem : Memory → SProp
           use1 𝓛 (‵ (cell_at s2 (row-Range.the_row).mir (LL.val row-Range.the_type law-Range.the_laws (get_or x1.now t.0.i law.none) ∷ []) x1.ref_ptr.0 (place 8 x1.ref_ptr.1 t.0.i))) (𝓛.laws.at_raw s2 law-Range.mir x1.ref_ptr.0 (place 8 x1.ref_ptr.1 t.0.i) (LL.val row-Range.the_type law-Range.the_laws (get_or x1.now t.0.i law.none))) $
           elem_back ! row-Range.the_row s2 x1.now t.0.i law.none (LL.val row-Range.the_type law-Range.the_laws (get_or x1.now t.0.i law.none) ∷ []) x1.ref_ptr.0 x1.ref_ptr.1 (law.inside t.0 h1) $
           shuts_slice ! tt row-Range.the_row s2 x1.now x1.ref_ptr.0 x1.ref_ptr.1 $ move ! (1 ∷ []) $ drop ! $
-          assigns ! (bin ! (load ! (from ! (stop !)) (look ! 5 refl)) (lit ! tt) (record { fits = law.mul-fits t.0 h1 i1.0.1.1 })) (from ! (stop !)) (store ! 8 refl ((uint_Lawful 𝓛 w64).typed (t.0.i * 8) _ (refl, law.mul-fits t.0 h1 i1.0.1.1)).0) $
+          assigns ! (bin ! (load ! (from ! (stop !)) (look ! 5 refl)) (lit ! tt) (record { fits = law.mul_fits t.0 h1 i1.0.1.1 })) (from ! (stop !)) (store ! 8 refl ((uint_Lawful 𝓛 w64).typed (t.0.i * 8) _ (refl, law.mul_fits t.0 h1 i1.0.1.1)).0) $
           assigns ! (bin ! (load ! (from ! (fld ! refl (stop !))) (look_in ! 3 (sub ! 0 refl (whole !)))) (load ! (from ! (stop !)) (look ! 8 refl)) tt) (from ! (stop !)) (init ! 11 refl (tt, tt)) $
           rewrite ! 11 (λ (p : ℕ). ‵ (fat full_share ty_ptr l9 0 (vptr x1.ptr.0 p))) (sym (place_is 8 x1.ptr.1 t.0.i)) refl $ move ! (1 ∷ []) $
           use1 𝓛 (‵ ((ShrSlice (named 0) κ0 row-Range.the_row).own_val x1 (slice_val x1.ref_ptr (length x1.now) ∷ [])) ⊛ ‵ ((ShrSlice (named 0) κ0 row-Range.the_row).own_val x1 (slice_val x1.ref_ptr (length x1.now) ∷ []))) ((shr_slice_copy 𝓛 (named 0) κ0 row-Range.the_row).twice x1 _) $
@@ -159,10 +159,10 @@ module _ {M : Type 1} {𝓤 : Ura M} (𝓛 : Logic 𝓤) (mem : Memory → SProp
           use1 𝓛 (later (some (λ (r : Bool). (‵ ftrue ⊛ ‵ (Boolean.own r (u6 ∷ []))) ⊛ raw (ensured 𝓛 c0.ended (c0.clauses 𝓛 mem run) tt (t.0.hit, ((get_or x1.now t.0.i law.none).first, ((get_or x1.now t.0.i law.none).last, tt))) tt r)))) (id⊢ 𝓤 _) $ await ! tt $ choose ! (λ r7. split ! $ move ! (1 ∷ []) $ use1 𝓛 (raw (fact 𝓤 (r7 ≡ (t.0.hit || ltb (get_or x1.now t.0.i law.none).last (get_or x1.now t.0.i law.none).first)))) (said-0 t.0.hit (get_or x1.now t.0.i law.none).first (get_or x1.now t.0.i law.none).last r7) $ heard ! (r7 ≡ (t.0.hit || ltb (get_or x1.now t.0.i law.none).last (get_or x1.now t.0.i law.none).first)) (λ e8. split ! $
           drop ! $ facts ! Boolean (Is Boolean) (shows 𝓛 Boolean) r7 (u6 ∷ []) (λ is9. land ! (from ! (stop !)) (store ! 4 refl ((bool_Lawful 𝓛).typed r7 _ is9).0) $
           rewrite ! 4 (λ (u : Val). ‵ (fat full_share ty_bool l2 0 u)) (ap only (bool_Tells r7 _ is9)) refl $
-          assigns_last ! (bin ! (load ! (from ! (stop !)) (look ! 5 refl)) (lit ! tt) (record { fits = law.add-fits t.0 h1 i1.0.1.0 })) (from ! (stop !)) (store ! 5 refl ((uint_Lawful 𝓛 w64).typed (t.0.i + 1) _ (refl, law.add-fits t.0 h1 i1.0.1.0)).0) $
+          assigns_last ! (bin ! (load ! (from ! (stop !)) (look ! 5 refl)) (lit ! tt) (record { fits = law.add_fits t.0 h1 i1.0.1.0 })) (from ! (stop !)) (store ! 5 refl ((uint_Lawful 𝓛 w64).typed (t.0.i + 1) _ (refl, law.add_fits t.0 h1 i1.0.1.0)).0) $
           forget ! 6 refl $ forget ! 7 refl $ forget ! 8 refl $ forget ! 9 refl $ forget ! 10 refl $ forget ! 11 refl $
           keep ! (2 ∷ 3 ∷ 4 ∷ 5 ∷ 6 ∷ 7 ∷ 8 ∷ 9 ∷ 10 ∷ 11 ∷ 12 ∷ 13 ∷ 14 ∷ 15 ∷ 16 ∷ 17 ∷ 18 ∷ 19 ∷ 20 ∷ 21 ∷ 0 ∷ 1 ∷ []) $
-          again ! Nearer At t (law.next t.0 h1 r7 e8, ((refl, law.add-fits t.0 h1 i1.0.1.0), ((subst (Is Boolean r7) (bool_Tells r7 _ is9) is9), tt))) (law.less t.0 h1))))))))))
+          again ! Nearer At t (law.next t.0 h1 r7 e8, ((refl, law.add_fits t.0 h1 i1.0.1.0), ((subst (Is Boolean r7) (bool_Tells r7 _ is9) is9), tt))) (law.less t.0 h1))))))))))
           (λ h1. jumps ! $ exec ! C Λ En Rest (at_ret En Post) $
           assigns ! (of_opd ! (load ! (from ! (stop !)) (look ! 2 refl))) (from ! (stop !)) (init ! 0 refl ((bool_Lawful 𝓛).typed t.0.hit _ t.1.1.0).0) $
           returns ! (look ! 0 refl) $ forget ! 0 refl $ forget ! 1 refl $ forget ! 2 refl $ forget ! 3 refl $ forget ! 6 refl $ forget ! 7 refl $ move ! (0 ∷ 10 ∷ []) $ free1 ! $

@@ -43,9 +43,9 @@ use denote.Triple.Table.{entered, cited}
 use denote.Triple.Walked.{says, Stays, stay_none, stay_none_slice, walk_of, Goes-none, Goes-none_slice, Walks as AllWalks, ends_at, walked, walk_Meets}
 use denote.Triple.Clauses.{ensured, lasts}
 use denote.Exit.{yes}
-use Rattle.memory.proofs.Branching.{stays-if}
+use Rattle.memory.proofs.Branching.{stays_if}
 use Rattle.memory.proofs.Searching as law
-use Rattle.definition.specs.Memory.{touchesOf, inRanges}
+use Rattle.definition.specs.Memory.{touches_of, in_ranges}
 use Rattle.definition.specs.declared.Range.{Range}
 use Rattle.definition.specs.contracts.Range as row-Range
 use Rattle.definition.proofs.Range.TheLaws as law-Range
@@ -75,7 +75,7 @@ module _ {M : Type 1} {𝓤 : Ura M} (𝓛 : Logic 𝓤) (mem : Memory → SProp
   abbrev Post : Val → SProp 𝓤
   Post = (walk_of 𝓛 self.ended stayed (self.clauses 𝓛 mem run)).post (((κ0, tt), (q0, tt), tt, (x1, (x2, tt)), at_entry), tt)
 
-  exits : (r : Bool) (u : Val) → Is Boolean r (u ∷ []) → (r ≡ inRanges x1.now x2) → ent 𝓤 (⋆ 𝓛 (‵ (flft κ0 q0) ∷ ‵ ((ShrSlice (named 0) κ0 row-Range.the_row).own_val x1 (slice_val x1.ref_ptr (length x1.now) ∷ [])) ∷ [])) (Post u)
+  exits : (r : Bool) (u : Val) → Is Boolean r (u ∷ []) → (r ≡ in_ranges x1.now x2) → ent 𝓤 (⋆ 𝓛 (‵ (flft κ0 q0) ∷ ‵ ((ShrSlice (named 0) κ0 row-Range.the_row).own_val x1 (slice_val x1.ref_ptr (length x1.now) ∷ [])) ∷ [])) (Post u)
   exits r u is e =
       qed 𝓛 (‵ (flft κ0 q0) ∷ ‵ ((ShrSlice (named 0) κ0 row-Range.the_row).own_val x1 (slice_val x1.ref_ptr (length x1.now) ∷ [])) ∷ []) ∵
       suffices ! _ (ends_at 𝓛 self.ended stayed (self.clauses 𝓛 mem run) (((κ0, tt), (q0, tt), tt, (x1, (x2, tt)), at_entry), tt) u r (tt, (tt, tt)) (tt, (tt, tt))) $ says ! e $
@@ -89,12 +89,12 @@ module _ {M : Type 1} {𝓤 : Ura M} (𝓛 : Logic 𝓤) (mem : Memory → SProp
   goes-0 a0 v0 a1 v1 a2 v2 a3 v3 i0 i1 i2 i3 =
       qed 𝓛 ([]) ∵ nothing ! $ owned ! u32 (Is u32) (uint_Makes 𝓛 w32) a3 _ i3 $ fjoin ! $ owned ! u32 (Is u32) (uint_Makes 𝓛 w32) a2 _ i2 $ fjoin ! $ owned ! u32 (Is u32) (uint_Makes 𝓛 w32) a1 _ i1 $ fjoin ! $ owned ! Boolean (Is Boolean) (bool_Makes 𝓛) a0 _ i0 $ fjoin ! $ nothing ! $ join ! $ frame ! $ done !
 
-  said-0 : (a0 : Bool) (a1 : ℕ) (a2 : ℕ) (a3 : ℕ) (r : Bool) → ent 𝓤 (ensured 𝓛 c0.ended (c0.clauses 𝓛 mem run) tt (a0, (a1, (a2, (a3, tt)))) tt r) (fact 𝓤 (r ≡ (a0 || touchesOf a1 a2 a3)))
-  said-0 a0 a1 a2 a3 r = ex_e 𝓤 _ (λ ws. snd∗ 𝓤 (sem 𝓛 (lasts c0.ended tt (a0, (a1, (a2, (a3, tt)))) ws)) (fact 𝓤 (r ≡ (a0 || touchesOf a1 a2 a3))))
+  said-0 : (a0 : Bool) (a1 : ℕ) (a2 : ℕ) (a3 : ℕ) (r : Bool) → ent 𝓤 (ensured 𝓛 c0.ended (c0.clauses 𝓛 mem run) tt (a0, (a1, (a2, (a3, tt)))) tt r) (fact 𝓤 (r ≡ (a0 || touches_of a1 a2 a3)))
+  said-0 a0 a1 a2 a3 r = ex_e 𝓤 _ (λ ws. snd∗ 𝓤 (sem 𝓛 (lasts c0.ended tt (a0, (a1, (a2, (a3, tt)))) ws)) (fact 𝓤 (r ≡ (a0 || touches_of a1 a2 a3))))
 
   -- the loop's variant: what is known at its head, of the locals that change, ordered by what is left
   abbrev Turn : Type 0
-  Turn = (t : law.Seen (λ (r : Range). touchesOf r.first r.last x2) x1.now) × (Is u64 t.i (vint w64 t.i ∷ []) × (Is Boolean t.hit (vbool t.hit ∷ []) × Unit {0}))
+  Turn = (t : law.Seen (λ (r : Range). touches_of r.first r.last x2) x1.now) × (Is u64 t.i (vint w64 t.i ∷ []) × (Is Boolean t.hit (vbool t.hit ∷ []) × Unit {0}))
 
   abbrev Nearer : Turn → Turn → Type 0
   Nearer s t = length x1.now - s.0.i < length x1.now - t.0.i
@@ -130,8 +130,8 @@ module _ {M : Type 1} {𝓤 : Ura M} (𝓛 : Logic 𝓤) (mem : Memory → SProp
       turns t =
           assigns ! (of_opd ! (load ! (from ! (fld ! refl (stop !))) (look_in ! 1 (sub ! 1 refl (whole !))))) (from ! (stop !)) (init ! 7 refl ((uint_Lawful 𝓛 w64).typed (length x1.now) _ (refl, i1.0.1.0)).0) $
           assigns ! (bin ! (load ! (from ! (stop !)) (look ! 4 refl)) (load ! (from ! (stop !)) (look ! 7 refl)) tt) (from ! (stop !)) (init ! 8 refl ((bool_Lawful 𝓛).typed (ltb t.0.i (length x1.now)) _ refl).0) $
-          stays-if ! (load ! (from ! (stop !)) (look ! 8 refl))
-          (λ h1. assigns ! (bin ! (load ! (from ! (stop !)) (look ! 4 refl)) (lit ! tt) (record { fits = law.mul-fits t.0 h1 i1.0.1.1 })) (from ! (stop !)) (store ! 7 refl ((uint_Lawful 𝓛 w64).typed (t.0.i * 8) _ (refl, law.mul-fits t.0 h1 i1.0.1.1)).0) $
+          stays_if ! (load ! (from ! (stop !)) (look ! 8 refl))
+          (λ h1. assigns ! (bin ! (load ! (from ! (stop !)) (look ! 4 refl)) (lit ! tt) (record { fits = law.mul_fits t.0 h1 i1.0.1.1 })) (from ! (stop !)) (store ! 7 refl ((uint_Lawful 𝓛 w64).typed (t.0.i * 8) _ (refl, law.mul_fits t.0 h1 i1.0.1.1)).0) $
           assigns ! (bin ! (load ! (from ! (fld ! refl (stop !))) (look_in ! 1 (sub ! 0 refl (whole !)))) (load ! (from ! (stop !)) (look ! 7 refl)) tt) (from ! (stop !)) (init ! 9 refl (tt, tt)) $
           rewrite ! 9 (λ (p : ℕ). ‵ (fat full_share ty_ptr l9 0 (vptr x1.ptr.0 p))) (sym (place_is 8 x1.ptr.1 t.0.i)) refl $ move ! (23 ∷ []) $
           use1 𝓛 (‵ ((ShrSlice (named 0) κ0 row-Range.the_row).own_val x1 (slice_val x1.ref_ptr (length x1.now) ∷ [])) ⊛ ‵ ((ShrSlice (named 0) κ0 row-Range.the_row).own_val x1 (slice_val x1.ref_ptr (length x1.now) ∷ []))) ((shr_slice_copy 𝓛 (named 0) κ0 row-Range.the_row).twice x1 _) $
@@ -142,7 +142,7 @@ module _ {M : Type 1} {𝓤 : Ura M} (𝓛 : Logic 𝓤) (mem : Memory → SProp
           use1 𝓛 (‵ (cell_at s2 (row-Range.the_row).mir (LL.val row-Range.the_type law-Range.the_laws (get_or x1.now t.0.i law.none) ∷ []) x1.ref_ptr.0 (place 8 x1.ref_ptr.1 t.0.i))) (𝓛.laws.at_raw s2 law-Range.mir x1.ref_ptr.0 (place 8 x1.ref_ptr.1 t.0.i) (LL.val row-Range.the_type law-Range.the_laws (get_or x1.now t.0.i law.none))) $
           elem_back ! row-Range.the_row s2 x1.now t.0.i law.none (LL.val row-Range.the_type law-Range.the_laws (get_or x1.now t.0.i law.none) ∷ []) x1.ref_ptr.0 x1.ref_ptr.1 (law.inside t.0 h1) $
           shuts_slice ! tt row-Range.the_row s2 x1.now x1.ref_ptr.0 x1.ref_ptr.1 $ move ! (1 ∷ []) $ drop ! $
-          assigns ! (bin ! (load ! (from ! (stop !)) (look ! 6 refl)) (lit ! tt) (record { fits = law.mul-fits t.0 h1 i1.0.1.1 })) (from ! (stop !)) (store ! 9 refl ((uint_Lawful 𝓛 w64).typed (t.0.i * 8) _ (refl, law.mul-fits t.0 h1 i1.0.1.1)).0) $
+          assigns ! (bin ! (load ! (from ! (stop !)) (look ! 6 refl)) (lit ! tt) (record { fits = law.mul_fits t.0 h1 i1.0.1.1 })) (from ! (stop !)) (store ! 9 refl ((uint_Lawful 𝓛 w64).typed (t.0.i * 8) _ (refl, law.mul_fits t.0 h1 i1.0.1.1)).0) $
           assigns ! (bin ! (load ! (from ! (fld ! refl (stop !))) (look_in ! 3 (sub ! 0 refl (whole !)))) (load ! (from ! (stop !)) (look ! 9 refl)) tt) (from ! (stop !)) (init ! 12 refl (tt, tt)) $
           rewrite ! 12 (λ (p : ℕ). ‵ (fat full_share ty_ptr l10 0 (vptr x1.ptr.0 p))) (sym (place_is 8 x1.ptr.1 t.0.i)) refl $ move ! (1 ∷ []) $
           use1 𝓛 (‵ ((ShrSlice (named 0) κ0 row-Range.the_row).own_val x1 (slice_val x1.ref_ptr (length x1.now) ∷ [])) ⊛ ‵ ((ShrSlice (named 0) κ0 row-Range.the_row).own_val x1 (slice_val x1.ref_ptr (length x1.now) ∷ []))) ((shr_slice_copy 𝓛 (named 0) κ0 row-Range.the_row).twice x1 _) $
@@ -155,13 +155,13 @@ module _ {M : Type 1} {𝓤 : Ura M} (𝓛 : Logic 𝓤) (mem : Memory → SProp
           shuts_slice ! tt row-Range.the_row s4 x1.now x1.ref_ptr.0 x1.ref_ptr.1 $ move ! (1 ∷ []) $ drop ! $
           use0 𝓛 (raw ((C0 𝓛 mem run).pre (to-0 t.0.hit (vbool t.0.hit) (get_or x1.now t.0.i law.none).first (vint w32 (get_or x1.now t.0.i law.none).first) (get_or x1.now t.0.i law.none).last (vint w32 (get_or x1.now t.0.i law.none).last) x2 (vint w32 x2)))) (goes-0 t.0.hit (vbool t.0.hit) (get_or x1.now t.0.i law.none).first (vint w32 (get_or x1.now t.0.i law.none).first) (get_or x1.now t.0.i law.none).last (vint w32 (get_or x1.now t.0.i law.none).last) x2 (vint w32 x2) t.1.1.0 (LL.owed row-Range.the_type law-Range.the_laws (get_or x1.now t.0.i law.none) (LL.val row-Range.the_type law-Range.the_laws (get_or x1.now t.0.i law.none) ∷ []) g3).0 (LL.owed row-Range.the_type law-Range.the_laws (get_or x1.now t.0.i law.none) (LL.val row-Range.the_type law-Range.the_laws (get_or x1.now t.0.i law.none) ∷ []) g5).1.0 i2) $
           calls_at ! fm (C0 𝓛 mem run) known-0 (to-0 t.0.hit (vbool t.0.hit) (get_or x1.now t.0.i law.none).first (vint w32 (get_or x1.now t.0.i law.none).first) (get_or x1.now t.0.i law.none).last (vint w32 (get_or x1.now t.0.i law.none).last) x2 (vint w32 x2)) (and_then ! (load ! (from ! (stop !)) (look ! 6 refl)) (and_then ! (load ! (from ! (stop !)) (look ! 8 refl)) (and_then ! (load ! (from ! (stop !)) (look ! 9 refl)) (and_then ! (load ! (from ! (stop !)) (look ! 5 refl)) (no_more !))))) (λ u6.
-          use1 𝓛 (later (some (λ (r : Bool). (‵ ftrue ⊛ ‵ (Boolean.own r (u6 ∷ []))) ⊛ raw (ensured 𝓛 c0.ended (c0.clauses 𝓛 mem run) tt (t.0.hit, ((get_or x1.now t.0.i law.none).first, ((get_or x1.now t.0.i law.none).last, (x2, tt)))) tt r)))) (id⊢ 𝓤 _) $ await ! tt $ choose ! (λ r7. split ! $ move ! (1 ∷ []) $ use1 𝓛 (raw (fact 𝓤 (r7 ≡ (t.0.hit || touchesOf (get_or x1.now t.0.i law.none).first (get_or x1.now t.0.i law.none).last x2)))) (said-0 t.0.hit (get_or x1.now t.0.i law.none).first (get_or x1.now t.0.i law.none).last x2 r7) $ heard ! (r7 ≡ (t.0.hit || touchesOf (get_or x1.now t.0.i law.none).first (get_or x1.now t.0.i law.none).last x2)) (λ e8. split ! $
+          use1 𝓛 (later (some (λ (r : Bool). (‵ ftrue ⊛ ‵ (Boolean.own r (u6 ∷ []))) ⊛ raw (ensured 𝓛 c0.ended (c0.clauses 𝓛 mem run) tt (t.0.hit, ((get_or x1.now t.0.i law.none).first, ((get_or x1.now t.0.i law.none).last, (x2, tt)))) tt r)))) (id⊢ 𝓤 _) $ await ! tt $ choose ! (λ r7. split ! $ move ! (1 ∷ []) $ use1 𝓛 (raw (fact 𝓤 (r7 ≡ (t.0.hit || touches_of (get_or x1.now t.0.i law.none).first (get_or x1.now t.0.i law.none).last x2)))) (said-0 t.0.hit (get_or x1.now t.0.i law.none).first (get_or x1.now t.0.i law.none).last x2 r7) $ heard ! (r7 ≡ (t.0.hit || touches_of (get_or x1.now t.0.i law.none).first (get_or x1.now t.0.i law.none).last x2)) (λ e8. split ! $
           drop ! $ facts ! Boolean (Is Boolean) (shows 𝓛 Boolean) r7 (u6 ∷ []) (λ is9. land ! (from ! (stop !)) (store ! 5 refl ((bool_Lawful 𝓛).typed r7 _ is9).0) $
           rewrite ! 5 (λ (u : Val). ‵ (fat full_share ty_bool l3 0 u)) (ap only (bool_Tells r7 _ is9)) refl $
-          assigns_last ! (bin ! (load ! (from ! (stop !)) (look ! 6 refl)) (lit ! tt) (record { fits = law.add-fits t.0 h1 i1.0.1.0 })) (from ! (stop !)) (store ! 6 refl ((uint_Lawful 𝓛 w64).typed (t.0.i + 1) _ (refl, law.add-fits t.0 h1 i1.0.1.0)).0) $
+          assigns_last ! (bin ! (load ! (from ! (stop !)) (look ! 6 refl)) (lit ! tt) (record { fits = law.add_fits t.0 h1 i1.0.1.0 })) (from ! (stop !)) (store ! 6 refl ((uint_Lawful 𝓛 w64).typed (t.0.i + 1) _ (refl, law.add_fits t.0 h1 i1.0.1.0)).0) $
           forget ! 7 refl $ forget ! 8 refl $ forget ! 9 refl $ forget ! 10 refl $ forget ! 11 refl $ forget ! 12 refl $
           keep ! (2 ∷ 3 ∷ 4 ∷ 5 ∷ 6 ∷ 7 ∷ 8 ∷ 9 ∷ 10 ∷ 11 ∷ 12 ∷ 13 ∷ 14 ∷ 15 ∷ 16 ∷ 17 ∷ 18 ∷ 19 ∷ 20 ∷ 21 ∷ 22 ∷ 23 ∷ 0 ∷ 1 ∷ []) $
-          again ! Nearer At t (law.next t.0 h1 r7 e8, ((refl, law.add-fits t.0 h1 i1.0.1.0), ((subst (Is Boolean r7) (bool_Tells r7 _ is9) is9), tt))) (law.less t.0 h1))))))))))
+          again ! Nearer At t (law.next t.0 h1 r7 e8, ((refl, law.add_fits t.0 h1 i1.0.1.0), ((subst (Is Boolean r7) (bool_Tells r7 _ is9) is9), tt))) (law.less t.0 h1))))))))))
           (λ h1. jumps ! $ exec ! C Λ En Rest (at_ret En Post) $
           assigns ! (of_opd ! (load ! (from ! (stop !)) (look ! 3 refl))) (from ! (stop !)) (init ! 0 refl ((bool_Lawful 𝓛).typed t.0.hit _ t.1.1.0).0) $
           returns ! (look ! 0 refl) $ forget ! 0 refl $ forget ! 1 refl $ forget ! 2 refl $ forget ! 3 refl $ forget ! 4 refl $ forget ! 7 refl $ forget ! 8 refl $

@@ -58,9 +58,9 @@ use Rattle.mmu.specs.ByValue.{LoadedBy}
 use Rattle.definition.specs.Refusal.{crossed}
 use Rattle.definition.specs.Words.{any_of}
 use Rattle.definition.specs.Cache040.{Cache040}
-use Rattle.cache.specs.Atc030.{cacheOf}
-use Rattle.cache.specs.Pair.{pairWith}
-use Rattle.load.specs.Loaded.{loadGiven, shownLoaded, LoadedIn}
+use Rattle.cache.specs.Atc030.{cache_of}
+use Rattle.cache.specs.Pair.{pair_with}
+use Rattle.load.specs.Loaded.{load_given, shown_loaded, LoadedIn}
 use Rattle.cache.specs.declared.CachePair.{CachePair}
 use Rattle.cache.specs.contracts.CachePair as row-CachePair
 use Rattle.cache.proofs.CachePair.TheLaws as law-CachePair
@@ -234,7 +234,7 @@ module _ {M : Type 1} {𝓤 : Ura M} (𝓛 : Logic 𝓤) (mem : Memory → SProp
         split ! $ move ! (6 ∷ 8 ∷ 7 ∷ 4 ∷ 2 ∷ 0 ∷ []) $ group ! 6 $
         use1 𝓛 (raw ((C3 𝓛 mem run).pre (to-3 (α2 ∷ []) full_share (record { ref_ptr = (l10, 0); ghost_name = δ13; now = r6 }) (vptr l10 0) x1 (slice_val x1.ref_ptr (length x1.now)) x2 (vint w32 x2) x3 (slice_val x3.ref_ptr (length x3.now)) r2 (vbool r2) x4 (LL.val row-Registers.the_type law-Registers.the_laws x4) x5 (vint w32 x5) x6 (vbool x6) x7 (vint w32 x7)))) (goes-3 (α2 ∷ []) full_share (record { ref_ptr = (l10, 0); ghost_name = δ13; now = r6 }) (vptr l10 0) x1 (slice_val x1.ref_ptr (length x1.now)) x2 (vint w32 x2) x3 (slice_val x3.ref_ptr (length x3.now)) r2 (vbool r2) x4 (LL.val row-Registers.the_type law-Registers.the_laws x4) x5 (vint w32 x5) x6 (vbool x6) x7 (vint w32 x7) i2 (subst (Is Boolean r2) (bool_Tells r2 _ is4) is4) i4 i5 i6 i7) $
         calls_at ! fm (C3 𝓛 mem run) known-3 (to-3 (α2 ∷ []) full_share (record { ref_ptr = (l10, 0); ghost_name = δ13; now = r6 }) (vptr l10 0) x1 (slice_val x1.ref_ptr (length x1.now)) x2 (vint w32 x2) x3 (slice_val x3.ref_ptr (length x3.now)) r2 (vbool r2) x4 (LL.val row-Registers.the_type law-Registers.the_laws x4) x5 (vint w32 x5) x6 (vbool x6) x7 (vint w32 x7)) (and_then ! (load ! (from ! (stop !)) (look ! 4 refl)) (and_then ! (load ! (from ! (stop !)) (look ! 29 refl)) (and_then ! (load ! (from ! (stop !)) (look ! 27 refl)) (and_then ! (load ! (from ! (stop !)) (look ! 25 refl)) (and_then ! (load ! (from ! (stop !)) (look ! 13 refl)) (and_then ! (load ! (from ! (stop !)) (look ! 23 refl)) (and_then ! (load ! (from ! (stop !)) (look ! 21 refl)) (and_then ! (load ! (from ! (stop !)) (look ! 19 refl)) (and_then ! (load ! (from ! (stop !)) (look ! 17 refl)) (no_more !)))))))))) (λ val14.
-        use1 𝓛 (later (some (λ (r : LoadOutcome). ((‵ (flft (α2 ∷ []) full_share) ⊛ ‵ (flft κ0 q0) ⊛ ‵ (flft κ1 q1) ⊛ ‵ ftrue) ⊛ ‵ ((row-LoadOutcome.the_row).own_val r (val14 ∷ []))) ⊛ raw (ensured 𝓛 c3.ended (c3.clauses 𝓛 mem run) ((α2 ∷ []), (κ0, (κ1, tt))) ((record { ref_ptr = (l10, 0); ghost_name = δ13; now = r6 }), (x1, (x2, (x3, (r2, (x4, (x5, (x6, (x7, tt))))))))) tt r)))) (id⊢ 𝓤 _) $ await ! tt $ choose ! (λ r15. split ! $ move ! (1 ∷ []) $ use1 𝓛 (some (λ (ws : Lasts c3.ended ((α2 ∷ []), (κ0, (κ1, tt))) ((record { ref_ptr = (l10, 0); ghost_name = δ13; now = r6 }), (x1, (x2, (x3, (r2, (x4, (x5, (x6, (x7, tt)))))))))). ‵ (lasts c3.ended ((α2 ∷ []), (κ0, (κ1, tt))) ((record { ref_ptr = (l10, 0); ghost_name = δ13; now = r6 }), (x1, (x2, (x3, (r2, (x4, (x5, (x6, (x7, tt))))))))) ws) ⊛ raw (fact 𝓤 (((k : Cache040) → LoadedIn (shownLoaded (loadGiven r2 x4 x5 x6 x7 (memory x1.now x2 x3.now) (pairWith (cacheOf (record { ref_ptr = (l10, 0); ghost_name = δ13; now = r6 }).now) k))) r15.answer r15.count (ws.0)))))) (id⊢ 𝓤 _) $ choose ! (λ ws18. split ! $ move ! (1 ∷ []) $ heard ! (((k : Cache040) → LoadedIn (shownLoaded (loadGiven r2 x4 x5 x6 x7 (memory x1.now x2 x3.now) (pairWith (cacheOf (record { ref_ptr = (l10, 0); ghost_name = δ13; now = r6 }).now) k))) r15.answer r15.count (ws18.0))) (λ e16.
+        use1 𝓛 (later (some (λ (r : LoadOutcome). ((‵ (flft (α2 ∷ []) full_share) ⊛ ‵ (flft κ0 q0) ⊛ ‵ (flft κ1 q1) ⊛ ‵ ftrue) ⊛ ‵ ((row-LoadOutcome.the_row).own_val r (val14 ∷ []))) ⊛ raw (ensured 𝓛 c3.ended (c3.clauses 𝓛 mem run) ((α2 ∷ []), (κ0, (κ1, tt))) ((record { ref_ptr = (l10, 0); ghost_name = δ13; now = r6 }), (x1, (x2, (x3, (r2, (x4, (x5, (x6, (x7, tt))))))))) tt r)))) (id⊢ 𝓤 _) $ await ! tt $ choose ! (λ r15. split ! $ move ! (1 ∷ []) $ use1 𝓛 (some (λ (ws : Lasts c3.ended ((α2 ∷ []), (κ0, (κ1, tt))) ((record { ref_ptr = (l10, 0); ghost_name = δ13; now = r6 }), (x1, (x2, (x3, (r2, (x4, (x5, (x6, (x7, tt)))))))))). ‵ (lasts c3.ended ((α2 ∷ []), (κ0, (κ1, tt))) ((record { ref_ptr = (l10, 0); ghost_name = δ13; now = r6 }), (x1, (x2, (x3, (r2, (x4, (x5, (x6, (x7, tt))))))))) ws) ⊛ raw (fact 𝓤 (((k : Cache040) → LoadedIn (shown_loaded (load_given r2 x4 x5 x6 x7 (memory x1.now x2 x3.now) (pair_with (cache_of (record { ref_ptr = (l10, 0); ghost_name = δ13; now = r6 }).now) k))) r15.answer r15.count (ws.0)))))) (id⊢ 𝓤 _) $ choose ! (λ ws18. split ! $ move ! (1 ∷ []) $ heard ! (((k : Cache040) → LoadedIn (shown_loaded (load_given r2 x4 x5 x6 x7 (memory x1.now x2 x3.now) (pair_with (cache_of (record { ref_ptr = (l10, 0); ghost_name = δ13; now = r6 }).now) k))) r15.answer r15.count (ws18.0))) (λ e16.
         fsplit ! $ move ! (1 ∷ []) $ fsplit ! $ drop ! $ fsplit ! $ drop ! $ fsplit ! $ drop ! $ fsplit ! $ drop ! $ fsplit ! $ drop ! $ fsplit ! $ drop ! $ fsplit ! $ drop ! $
         fsplit ! $ drop ! $ drop ! $ move ! (1 ∷ []) $ split ! $ split ! $ move ! (1 ∷ []) $ split ! $ move ! (1 ∷ []) $ split ! $ move ! (1 ∷ []) $ drop ! $ move ! (3 ∷ []) $
         facts ! row-LoadOutcome.the_row (Is row-LoadOutcome.the_row) (shows 𝓛 row-LoadOutcome.the_row) r15 (val14 ∷ []) (λ is17. land ! (from ! (stop !)) (init ! 11 refl ((LL.lawful row-LoadOutcome.the_type law-LoadOutcome.the_laws 𝓛).typed r15 _ is17).0) $

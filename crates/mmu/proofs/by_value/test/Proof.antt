@@ -39,10 +39,10 @@ use denote.Exit.{yes}
 use Rattle.mmu.proofs.ByValue as law
 use Rattle.definition.specs.Memory.{memory}
 use Rattle.definition.specs.Test.{test as test_of}
-use Rattle.test.specs.Tested.{shownTested, TestedIn}
+use Rattle.test.specs.Tested.{shown_tested, TestedIn}
 use Rattle.definition.specs.Refusal.{crossed}
 use Rattle.definition.specs.Words.{any_of}
-use Rattle.test.specs.Tested.{testGiven}
+use Rattle.test.specs.Tested.{test_given}
 use Rattle.definition.specs.declared.Range.{Range}
 use Rattle.definition.specs.contracts.Range as row-Range
 use Rattle.definition.specs.declared.Registers.{Registers}
@@ -83,7 +83,7 @@ module _ {M : Type 1} {𝓤 : Ura M} (𝓛 : Logic 𝓤) (mem : Memory → SProp
   abbrev Post : Val → SProp 𝓤
   Post = (walk_of 𝓛 self.ended stayed (self.clauses 𝓛 mem run)).post (((κ0, (κ1, tt)), (q0, (q1, tt)), tt, (x1, (x2, (x3, (x4, (x5, (x6, (x7, (x8, tt)))))))), at_entry), tt)
 
-  exits : (r : TestOutcome) (u : Val) → Is row-TestOutcome.the_row r (u ∷ []) → (TestedIn (shownTested (test_of x4 x5 x6 x7 x8 (memory x1.now x2 x3.now))) r.answer r.count) → ent 𝓤 (⋆ 𝓛 (‵ (flft κ0 q0) ∷ ‵ (flft κ1 q1) ∷ ‵ ((ShrSlice (named 0) κ0 u32).own_val x1 (slice_val x1.ref_ptr (length x1.now) ∷ [])) ∷ ‵ ((ShrSlice (named 1) κ1 row-Range.the_row).own_val x3 (slice_val x3.ref_ptr (length x3.now) ∷ [])) ∷ [])) (Post u)
+  exits : (r : TestOutcome) (u : Val) → Is row-TestOutcome.the_row r (u ∷ []) → (TestedIn (shown_tested (test_of x4 x5 x6 x7 x8 (memory x1.now x2 x3.now))) r.answer r.count) → ent 𝓤 (⋆ 𝓛 (‵ (flft κ0 q0) ∷ ‵ (flft κ1 q1) ∷ ‵ ((ShrSlice (named 0) κ0 u32).own_val x1 (slice_val x1.ref_ptr (length x1.now) ∷ [])) ∷ ‵ ((ShrSlice (named 1) κ1 row-Range.the_row).own_val x3 (slice_val x3.ref_ptr (length x3.now) ∷ [])) ∷ [])) (Post u)
   exits r u is e =
       qed 𝓛 (‵ (flft κ0 q0) ∷ ‵ (flft κ1 q1) ∷ ‵ ((ShrSlice (named 0) κ0 u32).own_val x1 (slice_val x1.ref_ptr (length x1.now) ∷ [])) ∷ ‵ ((ShrSlice (named 1) κ1 row-Range.the_row).own_val x3 (slice_val x3.ref_ptr (length x3.now) ∷ [])) ∷ []) ∵
       suffices ! _ (ends_at 𝓛 self.ended stayed (self.clauses 𝓛 mem run) (((κ0, (κ1, tt)), (q0, (q1, tt)), tt, (x1, (x2, (x3, (x4, (x5, (x6, (x7, (x8, tt)))))))), at_entry), tt) u r (tt, (tt, (tt, (tt, (tt, (tt, (tt, (tt, tt)))))))) (tt, (tt, (tt, (tt, (tt, (tt, (tt, (tt, tt))))))))) $ says ! e $
@@ -108,8 +108,8 @@ module _ {M : Type 1} {𝓤 : Ura M} (𝓛 : Logic 𝓤) (mem : Memory → SProp
   goes-1 a0 v0 a1 v1 a2 v2 a3 v3 a4 v4 a5 v5 a6 v6 a7 v7 a8 v8 i1 i3 i4 i5 i6 i7 i8 =
       qed 𝓛 (‵ (flft κ0 q0) ∷ ‵ (flft κ1 q1) ∷ ‵ ((ShrSlice (named 0) κ0 u32).own_val a0 (v0 ∷ [])) ∷ ‵ ((ShrSlice (named 1) κ1 row-Range.the_row).own_val a2 (v2 ∷ [])) ∷ []) ∵ nothing ! $ owned ! u32 (Is u32) (uint_Makes 𝓛 w32) a8 _ i8 $ fjoin ! $ owned ! u32 (Is u32) (uint_Makes 𝓛 w32) a7 _ i7 $ fjoin ! $ owned ! Boolean (Is Boolean) (bool_Makes 𝓛) a6 _ i6 $ fjoin ! $ owned ! u32 (Is u32) (uint_Makes 𝓛 w32) a5 _ i5 $ fjoin ! $ owned ! row-Registers.the_row (Is row-Registers.the_row) (LL.makes row-Registers.the_type law-Registers.the_plain 𝓛) a4 _ i4 $ fjoin ! $ owned ! Boolean (Is Boolean) (bool_Makes 𝓛) a3 _ i3 $ fjoin ! $ move ! (4 ∷ 0 ∷ []) $ fjoin ! $ owned ! u32 (Is u32) (uint_Makes 𝓛 w32) a1 _ i1 $ fjoin ! $ move ! (3 ∷ 0 ∷ []) $ fjoin ! $ nothing ! $ move ! (3 ∷ 0 ∷ []) $ join ! $ move ! (2 ∷ 0 ∷ []) $ join ! $ join ! $ frame ! $ done !
 
-  said-1 : (a0 : Bor (List ℕ)) (a1 : ℕ) (a2 : Bor (List Range)) (a3 : Bool) (a4 : Registers) (a5 : ℕ) (a6 : Bool) (a7 : ℕ) (a8 : ℕ) (r : TestOutcome) → ent 𝓤 (ensured 𝓛 c1.ended (c1.clauses 𝓛 mem run) (κ0, (κ1, tt)) (a0, (a1, (a2, (a3, (a4, (a5, (a6, (a7, (a8, tt))))))))) tt r) (fact 𝓤 (TestedIn (shownTested (testGiven a3 a4 a5 a6 a7 a8 (memory a0.now a1 a2.now))) r.answer r.count))
-  said-1 a0 a1 a2 a3 a4 a5 a6 a7 a8 r = ex_e 𝓤 _ (λ ws. snd∗ 𝓤 (sem 𝓛 (lasts c1.ended (κ0, (κ1, tt)) (a0, (a1, (a2, (a3, (a4, (a5, (a6, (a7, (a8, tt))))))))) ws)) (fact 𝓤 (TestedIn (shownTested (testGiven a3 a4 a5 a6 a7 a8 (memory a0.now a1 a2.now))) r.answer r.count)))
+  said-1 : (a0 : Bor (List ℕ)) (a1 : ℕ) (a2 : Bor (List Range)) (a3 : Bool) (a4 : Registers) (a5 : ℕ) (a6 : Bool) (a7 : ℕ) (a8 : ℕ) (r : TestOutcome) → ent 𝓤 (ensured 𝓛 c1.ended (c1.clauses 𝓛 mem run) (κ0, (κ1, tt)) (a0, (a1, (a2, (a3, (a4, (a5, (a6, (a7, (a8, tt))))))))) tt r) (fact 𝓤 (TestedIn (shown_tested (test_given a3 a4 a5 a6 a7 a8 (memory a0.now a1 a2.now))) r.answer r.count))
+  said-1 a0 a1 a2 a3 a4 a5 a6 a7 a8 r = ex_e 𝓤 _ (λ ws. snd∗ 𝓤 (sem 𝓛 (lasts c1.ended (κ0, (κ1, tt)) (a0, (a1, (a2, (a3, (a4, (a5, (a6, (a7, (a8, tt))))))))) ws)) (fact 𝓤 (TestedIn (shown_tested (test_given a3 a4 a5 a6 a7 a8 (memory a0.now a1 a2.now))) r.answer r.count)))
 
   module _ (𝓣 : Tables 𝓤 H) (known-0 : Triple 𝓤 (𝓣.C #memory·ranges·any-crossed) (C0 𝓛 mem run)) (known-1 : Triple 𝓤 (𝓣.C #test·test) (C1 𝓛 mem run)) where
     abbrev C : Calls 𝓤 H
@@ -142,7 +142,7 @@ module _ {M : Type 1} {𝓤 : Ura M} (𝓛 : Logic 𝓤) (mem : Memory → SProp
         split ! $ move ! (5 ∷ 4 ∷ 2 ∷ 0 ∷ []) $ group ! 4 $
         use1 𝓛 (raw ((C1 𝓛 mem run).pre (to-1 x1 (slice_val x1.ref_ptr (length x1.now)) x2 (vint w32 x2) x3 (slice_val x3.ref_ptr (length x3.now)) r2 (vbool r2) x4 (LL.val row-Registers.the_type law-Registers.the_laws x4) x5 (vint w32 x5) x6 (vbool x6) x7 (vint w32 x7) x8 (vint w32 x8)))) (goes-1 x1 (slice_val x1.ref_ptr (length x1.now)) x2 (vint w32 x2) x3 (slice_val x3.ref_ptr (length x3.now)) r2 (vbool r2) x4 (LL.val row-Registers.the_type law-Registers.the_laws x4) x5 (vint w32 x5) x6 (vbool x6) x7 (vint w32 x7) x8 (vint w32 x8) i2 (subst (Is Boolean r2) (bool_Tells r2 _ is4) is4) i4 i5 i6 i7 i8) $
         calls_at ! fm (C1 𝓛 mem run) known-1 (to-1 x1 (slice_val x1.ref_ptr (length x1.now)) x2 (vint w32 x2) x3 (slice_val x3.ref_ptr (length x3.now)) r2 (vbool r2) x4 (LL.val row-Registers.the_type law-Registers.the_laws x4) x5 (vint w32 x5) x6 (vbool x6) x7 (vint w32 x7) x8 (vint w32 x8)) (and_then ! (load ! (from ! (stop !)) (look ! 19 refl)) (and_then ! (load ! (from ! (stop !)) (look ! 17 refl)) (and_then ! (load ! (from ! (stop !)) (look ! 15 refl)) (and_then ! (load ! (from ! (stop !)) (look ! 3 refl)) (and_then ! (load ! (from ! (stop !)) (look ! 13 refl)) (and_then ! (load ! (from ! (stop !)) (look ! 11 refl)) (and_then ! (load ! (from ! (stop !)) (look ! 9 refl)) (and_then ! (load ! (from ! (stop !)) (look ! 7 refl)) (and_then ! (load ! (from ! (stop !)) (look ! 5 refl)) (no_more !)))))))))) (λ val5.
-        use1 𝓛 (later (some (λ (r : TestOutcome). ((‵ (flft κ0 q0) ⊛ ‵ (flft κ1 q1) ⊛ ‵ ftrue) ⊛ ‵ ((row-TestOutcome.the_row).own_val r (val5 ∷ []))) ⊛ raw (ensured 𝓛 c1.ended (c1.clauses 𝓛 mem run) (κ0, (κ1, tt)) (x1, (x2, (x3, (r2, (x4, (x5, (x6, (x7, (x8, tt))))))))) tt r)))) (id⊢ 𝓤 _) $ await ! tt $ choose ! (λ r6. split ! $ move ! (1 ∷ []) $ use1 𝓛 (raw (fact 𝓤 (TestedIn (shownTested (testGiven r2 x4 x5 x6 x7 x8 (memory x1.now x2 x3.now))) r6.answer r6.count))) (said-1 x1 x2 x3 r2 x4 x5 x6 x7 x8 r6) $ heard ! (TestedIn (shownTested (testGiven r2 x4 x5 x6 x7 x8 (memory x1.now x2 x3.now))) r6.answer r6.count) (λ e7. split ! $
+        use1 𝓛 (later (some (λ (r : TestOutcome). ((‵ (flft κ0 q0) ⊛ ‵ (flft κ1 q1) ⊛ ‵ ftrue) ⊛ ‵ ((row-TestOutcome.the_row).own_val r (val5 ∷ []))) ⊛ raw (ensured 𝓛 c1.ended (c1.clauses 𝓛 mem run) (κ0, (κ1, tt)) (x1, (x2, (x3, (r2, (x4, (x5, (x6, (x7, (x8, tt))))))))) tt r)))) (id⊢ 𝓤 _) $ await ! tt $ choose ! (λ r6. split ! $ move ! (1 ∷ []) $ use1 𝓛 (raw (fact 𝓤 (TestedIn (shown_tested (test_given r2 x4 x5 x6 x7 x8 (memory x1.now x2 x3.now))) r6.answer r6.count))) (said-1 x1 x2 x3 r2 x4 x5 x6 x7 x8 r6) $ heard ! (TestedIn (shown_tested (test_given r2 x4 x5 x6 x7 x8 (memory x1.now x2 x3.now))) r6.answer r6.count) (λ e7. split ! $
         split ! $ move ! (1 ∷ []) $ split ! $ move ! (1 ∷ []) $ drop ! $ move ! (2 ∷ []) $
         facts ! row-TestOutcome.the_row (Is row-TestOutcome.the_row) (shows 𝓛 row-TestOutcome.the_row) r6 (val5 ∷ []) (λ is8. land ! (from ! (stop !)) (init ! 22 refl ((LL.lawful row-TestOutcome.the_type law-TestOutcome.the_laws 𝓛).typed r6 _ is8).0) $
         rewrite ! 22 (λ (u : Val). ‵ (fat full_share law-TestOutcome.mir l0 0 u)) (ap only (LL.tells row-TestOutcome.the_type law-TestOutcome.the_laws r6 _ is8)) refl $

@@ -57,8 +57,8 @@ use Rattle.cache.specs.Pair.{pair_of}
 use Rattle.mmu.specs.ByValue.{TranslatedBy}
 use Rattle.definition.specs.Refusal.{crossed}
 use Rattle.definition.specs.Words.{any_of}
-use Rattle.cache.specs.Pair.{cachesOf}
-use Rattle.translate.specs.Stages.{shownTranslated, translateGiven}
+use Rattle.cache.specs.Pair.{caches_of}
+use Rattle.translate.specs.Stages.{shown_translated, translate_given}
 use Rattle.translate.specs.InPlace.{AnsweredIn}
 use Rattle.cache.specs.declared.CachePair.{CachePair}
 use Rattle.cache.specs.contracts.CachePair as row-CachePair
@@ -241,7 +241,7 @@ module _ {M : Type 1} {𝓤 : Ura M} (𝓛 : Logic 𝓤) (mem : Memory → SProp
         split ! $ move ! (9 ∷ 6 ∷ 11 ∷ 10 ∷ 7 ∷ 4 ∷ 2 ∷ 0 ∷ []) $ group ! 8 $
         use1 𝓛 (raw ((C3 𝓛 mem run).pre (to-3 (α2 ∷ []) full_share (α3 ∷ []) full_share (record { ref_ptr = (l8, 0); ghost_name = δ13; now = r6 }) (vptr l8 0) (record { ref_ptr = (l9, 0); ghost_name = δ14; now = r10 }) (vptr l9 0) x1 (slice_val x1.ref_ptr (length x1.now)) x2 (vint w32 x2) x3 (slice_val x3.ref_ptr (length x3.now)) r2 (vbool r2) x4 (LL.val row-Registers.the_type law-Registers.the_laws x4) x5 (LL.val row-Access.the_type law-Access.the_laws x5)))) (goes-3 (α2 ∷ []) full_share (α3 ∷ []) full_share (record { ref_ptr = (l8, 0); ghost_name = δ13; now = r6 }) (vptr l8 0) (record { ref_ptr = (l9, 0); ghost_name = δ14; now = r10 }) (vptr l9 0) x1 (slice_val x1.ref_ptr (length x1.now)) x2 (vint w32 x2) x3 (slice_val x3.ref_ptr (length x3.now)) r2 (vbool r2) x4 (LL.val row-Registers.the_type law-Registers.the_laws x4) x5 (LL.val row-Access.the_type law-Access.the_laws x5) i2 (subst (Is Boolean r2) (bool_Tells r2 _ is4) is4) i4 i5) $
         calls_at ! fm (C3 𝓛 mem run) known-3 (to-3 (α2 ∷ []) full_share (α3 ∷ []) full_share (record { ref_ptr = (l8, 0); ghost_name = δ13; now = r6 }) (vptr l8 0) (record { ref_ptr = (l9, 0); ghost_name = δ14; now = r10 }) (vptr l9 0) x1 (slice_val x1.ref_ptr (length x1.now)) x2 (vint w32 x2) x3 (slice_val x3.ref_ptr (length x3.now)) r2 (vbool r2) x4 (LL.val row-Registers.the_type law-Registers.the_laws x4) x5 (LL.val row-Access.the_type law-Access.the_laws x5)) (and_then ! (load ! (from ! (stop !)) (look ! 7 refl)) (and_then ! (load ! (from ! (stop !)) (look ! 5 refl)) (and_then ! (load ! (from ! (stop !)) (look ! 29 refl)) (and_then ! (load ! (from ! (stop !)) (look ! 27 refl)) (and_then ! (load ! (from ! (stop !)) (look ! 25 refl)) (and_then ! (load ! (from ! (stop !)) (look ! 17 refl)) (and_then ! (load ! (from ! (stop !)) (look ! 23 refl)) (and_then ! (load ! (from ! (stop !)) (look ! 21 refl)) (no_more !))))))))) (λ val15.
-        use1 𝓛 (later (some (λ (r : Outcome). ((‵ (flft (α2 ∷ []) full_share) ⊛ ‵ (flft (α3 ∷ []) full_share) ⊛ ‵ (flft κ0 q0) ⊛ ‵ (flft κ1 q1) ⊛ ‵ ftrue) ⊛ ‵ ((row-Outcome.the_row).own_val r (val15 ∷ []))) ⊛ raw (ensured 𝓛 c3.ended (c3.clauses 𝓛 mem run) ((α2 ∷ []), ((α3 ∷ []), (κ0, (κ1, tt)))) ((record { ref_ptr = (l8, 0); ghost_name = δ13; now = r6 }), ((record { ref_ptr = (l9, 0); ghost_name = δ14; now = r10 }), (x1, (x2, (x3, (r2, (x4, (x5, tt)))))))) tt r)))) (id⊢ 𝓤 _) $ await ! tt $ choose ! (λ r16. split ! $ move ! (1 ∷ []) $ use1 𝓛 (some (λ (ws : Lasts c3.ended ((α2 ∷ []), ((α3 ∷ []), (κ0, (κ1, tt)))) ((record { ref_ptr = (l8, 0); ghost_name = δ13; now = r6 }), ((record { ref_ptr = (l9, 0); ghost_name = δ14; now = r10 }), (x1, (x2, (x3, (r2, (x4, (x5, tt))))))))). ‵ (lasts c3.ended ((α2 ∷ []), ((α3 ∷ []), (κ0, (κ1, tt)))) ((record { ref_ptr = (l8, 0); ghost_name = δ13; now = r6 }), ((record { ref_ptr = (l9, 0); ghost_name = δ14; now = r10 }), (x1, (x2, (x3, (r2, (x4, (x5, tt)))))))) ws) ⊛ raw (fact 𝓤 (AnsweredIn (shownTranslated (translateGiven r2 x4 x5 (memory x1.now x2 x3.now) (cachesOf (record { ref_ptr = (l8, 0); ghost_name = δ13; now = r6 }).now (record { ref_ptr = (l9, 0); ghost_name = δ14; now = r10 }).now))) r16.answer r16.count (ws.0) (ws.1.0))))) (id⊢ 𝓤 _) $ choose ! (λ ws19. split ! $ move ! (1 ∷ []) $ heard ! (AnsweredIn (shownTranslated (translateGiven r2 x4 x5 (memory x1.now x2 x3.now) (cachesOf (record { ref_ptr = (l8, 0); ghost_name = δ13; now = r6 }).now (record { ref_ptr = (l9, 0); ghost_name = δ14; now = r10 }).now))) r16.answer r16.count (ws19.0) (ws19.1.0)) (λ e17.
+        use1 𝓛 (later (some (λ (r : Outcome). ((‵ (flft (α2 ∷ []) full_share) ⊛ ‵ (flft (α3 ∷ []) full_share) ⊛ ‵ (flft κ0 q0) ⊛ ‵ (flft κ1 q1) ⊛ ‵ ftrue) ⊛ ‵ ((row-Outcome.the_row).own_val r (val15 ∷ []))) ⊛ raw (ensured 𝓛 c3.ended (c3.clauses 𝓛 mem run) ((α2 ∷ []), ((α3 ∷ []), (κ0, (κ1, tt)))) ((record { ref_ptr = (l8, 0); ghost_name = δ13; now = r6 }), ((record { ref_ptr = (l9, 0); ghost_name = δ14; now = r10 }), (x1, (x2, (x3, (r2, (x4, (x5, tt)))))))) tt r)))) (id⊢ 𝓤 _) $ await ! tt $ choose ! (λ r16. split ! $ move ! (1 ∷ []) $ use1 𝓛 (some (λ (ws : Lasts c3.ended ((α2 ∷ []), ((α3 ∷ []), (κ0, (κ1, tt)))) ((record { ref_ptr = (l8, 0); ghost_name = δ13; now = r6 }), ((record { ref_ptr = (l9, 0); ghost_name = δ14; now = r10 }), (x1, (x2, (x3, (r2, (x4, (x5, tt))))))))). ‵ (lasts c3.ended ((α2 ∷ []), ((α3 ∷ []), (κ0, (κ1, tt)))) ((record { ref_ptr = (l8, 0); ghost_name = δ13; now = r6 }), ((record { ref_ptr = (l9, 0); ghost_name = δ14; now = r10 }), (x1, (x2, (x3, (r2, (x4, (x5, tt)))))))) ws) ⊛ raw (fact 𝓤 (AnsweredIn (shown_translated (translate_given r2 x4 x5 (memory x1.now x2 x3.now) (caches_of (record { ref_ptr = (l8, 0); ghost_name = δ13; now = r6 }).now (record { ref_ptr = (l9, 0); ghost_name = δ14; now = r10 }).now))) r16.answer r16.count (ws.0) (ws.1.0))))) (id⊢ 𝓤 _) $ choose ! (λ ws19. split ! $ move ! (1 ∷ []) $ heard ! (AnsweredIn (shown_translated (translate_given r2 x4 x5 (memory x1.now x2 x3.now) (caches_of (record { ref_ptr = (l8, 0); ghost_name = δ13; now = r6 }).now (record { ref_ptr = (l9, 0); ghost_name = δ14; now = r10 }).now))) r16.answer r16.count (ws19.0) (ws19.1.0)) (λ e17.
         fsplit ! $ move ! (1 ∷ []) $ fsplit ! $ move ! (1 ∷ []) $ fsplit ! $ drop ! $ fsplit ! $ drop ! $ fsplit ! $ drop ! $ fsplit ! $ drop ! $ fsplit ! $ drop ! $ fsplit ! $
         drop ! $ drop ! $ move ! (2 ∷ []) $ split ! $ split ! $ move ! (1 ∷ []) $ split ! $ move ! (1 ∷ []) $ split ! $ move ! (1 ∷ []) $ split ! $ move ! (1 ∷ []) $ drop ! $
         move ! (4 ∷ []) $

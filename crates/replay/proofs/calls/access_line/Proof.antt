@@ -10,7 +10,7 @@ translation-line-requires : tie.Need-translation-line-requires
 translation-line-requires c κs = search rules
 
 returns : tie.Need-returns
-returns c = law.of-translate _ _ _ _ _ c.before.translate.ensures c.translation-line.ensures
+returns c = law.of_translate _ _ _ _ _ c.before.translate.ensures c.translation-line.ensures
 
 pub access-line-spec : {M : Type 1} → statement M
 access-line-spec = tie.close (tie.spec translate-requires translation-line-requires returns)

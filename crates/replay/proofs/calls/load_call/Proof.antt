@@ -11,7 +11,7 @@ load-line-requires : tie.Need-load-line-requires
 load-line-requires c κs = search rules
 
 returns : tie.Need-returns
-returns c = law.of-load _ _ _ _ _ _ _ _ refl (c.before.load.ensures _) c.Load-Line.ensures
+returns c = law.of_load _ _ _ _ _ _ _ _ refl (c.before.load.ensures _) c.Load-Line.ensures
 
 pub load-call-spec : {M : Type 1} → statement M
 load-call-spec = tie.close (tie.spec load-requires load-line-requires returns)

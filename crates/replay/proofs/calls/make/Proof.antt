@@ -67,19 +67,19 @@ returns-2 : tie.Need-returns-2
 returns-2 c = law.by_call _ _ _ _ c.before.before.call2.given.1 (law.tested _ _ _ _ _ c.test-call.ensures)
 
 returns-3 : tie.Need-returns-3
-returns-3 c = law.by_call _ _ _ _ c.before.before.before.before.enum_told.given.1 (law.of-flush-all _ _ _ _ c.before.flush-all-in.ensures c.flush-line.ensures)
+returns-3 c = law.by_call _ _ _ _ c.before.before.before.before.enum_told.given.1 (law.of_flush_all _ _ _ _ c.before.flush-all-in.ensures c.flush-line.ensures)
 
 returns-4 : tie.Need-returns-4
-returns-4 c = law.by_call _ _ _ _ c.before.before.before.before.call3.given.1 (law.of-flush-code _ _ _ _ _ _ (c.before.flush-code-in.ensures _) c.flush-line2.ensures)
+returns-4 c = law.by_call _ _ _ _ c.before.before.before.before.call3.given.1 (law.of_flush_code _ _ _ _ _ _ (c.before.flush-code-in.ensures _) c.flush-line2.ensures)
 
 returns-5 : tie.Need-returns-5
-returns-5 c = law.by_call _ _ _ _ c.before.before.before.before.call4.given.1 (law.of-flush-page _ _ _ _ _ _ _ (c.before.flush-page-in.ensures _) c.flush-line3.ensures)
+returns-5 c = law.by_call _ _ _ _ c.before.before.before.before.call4.given.1 (law.of_flush_page _ _ _ _ _ _ _ (c.before.flush-page-in.ensures _) c.flush-line3.ensures)
 
 returns-6 : tie.Need-returns-6
-returns-6 c = law.by_call _ _ _ _ c.before.before.before.before.call5.given.1 (law.of-flush-frame _ _ _ _ _ (c.before.flush-frame-in.ensures _) c.flush-line4.ensures)
+returns-6 c = law.by_call _ _ _ _ c.before.before.before.before.call5.given.1 (law.of_flush_frame _ _ _ _ _ (c.before.flush-frame-in.ensures _) c.flush-line4.ensures)
 
 returns-7 : tie.Need-returns-7
-returns-7 c = law.by_call _ _ _ _ c.before.before.before.before.before.call6.given.1 (law.of-probe _ _ _ _ _ _ _ _ _ c.before.probe.ensures c.probe-line.ensures)
+returns-7 c = law.by_call _ _ _ _ c.before.before.before.before.before.call6.given.1 (law.of_probe _ _ _ _ _ _ _ _ _ c.before.probe.ensures c.probe-line.ensures)
 
 pub make_spec : {M : Type 1} → statement M
 make_spec =

@@ -10,7 +10,7 @@ sub-left : tie.Need-overflow-sub-left
 sub-left c = search rules
 
 returns : tie.Need-returns
-returns c = law.front-few _ _ c.if1.true
+returns c = law.front_few _ _ c.if1.true
 
 shared-slice-read-n : tie.Need-shared-slice-read-n
 shared-slice-read-n c = search rules
@@ -43,7 +43,7 @@ add-t14 : tie.Need-overflow-add-t14
 add-t14 c = search rules
 
 returns-3 : tie.Need-returns-3
-returns-3 c = law.front-whole _ _ c.before.before.before.if1.false _ refl c.if2.false
+returns-3 c = law.front_whole _ _ c.before.before.before.if1.false _ refl c.if2.false
 
 pub front-spec : {M : Type 1} → statement M
 front-spec =

@@ -25,16 +25,16 @@ add-range-requires : tie.Need-add-range-requires
 add-range-requires c κs = search rules
 
 returns : tie.Need-returns
-returns c = (λ c030 c040. law.by-setting _ c.before.before.setting.given.1 (c.set-registers.ensures.0 _ c030 c040), ap (any_of crossed) c.set-registers.ensures.1)
+returns c = (λ c030 c040. law.by_setting _ c.before.before.setting.given.1 (c.set-registers.ensures.0 _ c030 c040), ap (any_of crossed) c.set-registers.ensures.1)
 
 same_length : tie.Need-same-length
 same_length c = search rules
 
 returns-2 : tie.Need-returns-2
-returns-2 c = (λ c030 c040. law.by-setting _ c.before.before.before.before.before.setting2.given.1 (law.stored _ _ _ _ c.before.before.store.ensures), refl)
+returns-2 c = (λ c030 c040. law.by_setting _ c.before.before.before.before.before.setting2.given.1 (law.stored _ _ _ _ c.before.before.store.ensures), refl)
 
 returns-3 : tie.Need-returns-3
-returns-3 c = (λ c030 c040. law.by-setting _ c.before.before.setting3.given.1 (c.add-range.ensures.0 _ c030 c040), c.add-range.ensures.1)
+returns-3 c = (λ c030 c040. law.by_setting _ c.before.before.setting3.given.1 (c.add-range.ensures.0 _ c030 c040), c.add-range.ensures.1)
 
 pub set_spec : {M : Type 1} → statement M
 set_spec =

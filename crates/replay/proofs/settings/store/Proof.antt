@@ -4,13 +4,13 @@ use Rattle.replay.proofs.settings.store.Statement.{statement}
 use Rattle.replay.proofs.settings.store.Tie as tie
 
 returns : tie.Need-returns
-returns c = law.store-odd _ _ _ c.if1.true
+returns c = law.store_odd _ _ _ c.if1.true
 
 cast-i : tie.Need-overflow-cast-i
 cast-i c = search rules
 
 returns-2 : tie.Need-returns-2
-returns-2 c = law.store-outside _ _ _ c.before.if1.false c.if2.true
+returns-2 c = law.store_outside _ _ _ c.before.if1.false c.if2.true
 
 mul-longs : tie.Need-overflow-mul-longs
 mul-longs c = search rules

@@ -17,7 +17,7 @@ returns : tie.Need-returns
 returns c = law.concludes _ c.before.found.given.1
 
 returns-2 : tie.Need-returns-2
-returns-2 c = law.concludes-030 _ c.before.before.found2.given.1 c.status.ensures
+returns-2 c = law.concludes_030 _ c.before.before.found2.given.1 c.status.ensures
 
 pub concluded-spec : {M : Type 1} → statement M
 concluded-spec =

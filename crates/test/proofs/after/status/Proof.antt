@@ -22,7 +22,7 @@ add-result-3 : tie.Need-overflow-add-result-3
 add-result-3 c = search rules
 
 returns : tie.Need-returns
-returns c = law.status-is c.before.before.before.before.before.args.code c.before.before.before.before.before.args.w c.before.before.before.before.end-flags.ensures c.before.before.flag-of.ensures c.before.flag-of2.ensures
+returns c = law.status_is c.before.before.before.before.before.args.code c.before.before.before.before.before.args.w c.before.before.before.before.end-flags.ensures c.before.before.flag-of.ensures c.before.flag-of2.ensures
 
 pub status-spec : {M : Type 1} → statement M
 status-spec =

@@ -19,7 +19,7 @@ first-refusal-requires : tie.Need-first-refusal-requires
 first-refusal-requires c κs = search rules
 
 returns : tie.Need-returns
-returns c = law.test-refused _ _ _ _ _ _ _ (law.test-refusal-is _ _ _ _ _ c.before.before.before.before.before.no-family.ensures c.before.before.before.before.not-030.ensures c.before.before.before.above-seven.ensures c.before.before.above-seven2.ensures c.before.first-refusal.ensures) c.if1.true
+returns c = law.test_refused _ _ _ _ _ _ _ (law.test_refusal_is _ _ _ _ _ c.before.before.before.before.before.no-family.ensures c.before.before.before.before.not-030.ensures c.before.before.before.above-seven.ensures c.before.before.above-seven2.ensures c.before.first-refusal.ensures) c.if1.true
 
 transparent-030-requires : tie.Need-transparent-030-requires
 transparent-030-requires c κs = search rules
@@ -28,10 +28,10 @@ flag-of-requires : tie.Need-flag-of-requires
 flag-of-requires c κs = search rules
 
 returns-2 : tie.Need-returns-2
-returns-2 c = law.test-level-0 _ _ _ _ _ _ _ (law.test-refusal-is _ _ _ _ _ c.before.before.before.before.before.before.before.before.no-family.ensures c.before.before.before.before.before.before.before.not-030.ensures c.before.before.before.before.before.before.above-seven.ensures c.before.before.before.before.before.above-seven2.ensures c.before.before.before.before.first-refusal.ensures) c.before.before.before.if1.false c.before.before.if2.true c.before.transparent-030.ensures c.flag-of.ensures
+returns-2 c = law.test_level_0 _ _ _ _ _ _ _ (law.test_refusal_is _ _ _ _ _ c.before.before.before.before.before.before.before.before.no-family.ensures c.before.before.before.before.before.before.before.not-030.ensures c.before.before.before.before.before.before.above-seven.ensures c.before.before.before.before.before.above-seven2.ensures c.before.before.before.before.first-refusal.ensures) c.before.before.before.if1.false c.before.before.if2.true c.before.transparent-030.ensures c.flag-of.ensures
 
 returns-3 : tie.Need-returns-3
-returns-3 c = law.test-walks _ _ _ _ _ _ _ (law.test-refusal-is _ _ _ _ _ c.before.before.before.before.before.before.no-family.ensures c.before.before.before.before.before.not-030.ensures c.before.before.before.before.above-seven.ensures c.before.before.before.above-seven2.ensures c.before.before.first-refusal.ensures) c.before.if1.false c.if2.false
+returns-3 c = law.test_walks _ _ _ _ _ _ _ (law.test_refusal_is _ _ _ _ _ c.before.before.before.before.before.before.no-family.ensures c.before.before.before.before.before.not-030.ensures c.before.before.before.before.above-seven.ensures c.before.before.before.above-seven2.ensures c.before.before.first-refusal.ensures) c.before.if1.false c.if2.false
 
 pub plan-test-spec : {M : Type 1} → statement M
 plan-test-spec =

@@ -27,10 +27,10 @@ returns : tie.Need-returns
 returns c = law.concludes _ _ (search rules) c.before.found.given.1 refl refl
 
 returns-2 : tie.Need-returns-2
-returns-2 c = law.concludes-030 _ _ (search rules) c.before.before.before.found2.given.1 c.by-030.ensures
+returns-2 c = law.concludes_030 _ _ (search rules) c.before.before.before.found2.given.1 c.by_030.ensures
 
 returns-3 : tie.Need-returns-3
-returns-3 c = law.concludes-040 _ _ (search rules) c.before.before.before.found3.given.1 c.by-040.ensures
+returns-3 c = law.concludes_040 _ _ (search rules) c.before.before.before.found3.given.1 c.by_040.ensures
 
 pub concluded-spec : {M : Type 1} → statement M
 concluded-spec =

@@ -22,13 +22,13 @@ bus-fault-requires : tie.Need-bus-fault-requires
 bus-fault-requires c κs = search rules
 
 returns : tie.Need-returns
-returns c = law.end-resident _ _ _ _ _ c.before.before.before.end.given.1 c.resident.ensures
+returns c = law.end_resident _ _ _ _ _ c.before.before.before.end.given.1 c.resident.ensures
 
 returns-2 : tie.Need-returns-2
-returns-2 c = law.end-absent _ _ _ _ c.before.before.end2.given.1 c.fault.ensures c.before.before.before.before.requires
+returns-2 c = law.end_absent _ _ _ _ c.before.before.end2.given.1 c.fault.ensures c.before.before.before.before.requires
 
 returns-3 : tie.Need-returns-3
-returns-3 c = law.end-lost _ _ _ _ c.before.before.end3.given.1 c.bus-fault.ensures c.before.before.before.before.requires
+returns-3 c = law.end_lost _ _ _ _ c.before.before.end3.given.1 c.bus-fault.ensures c.before.before.before.before.requires
 
 pub end-040-spec : {M : Type 1} → statement M
 end-040-spec =

@@ -15,7 +15,7 @@ enum_told : tie.Need-enum-told
 enum_told c = search rules
 
 returns : tie.Need-returns
-returns c = rw (c.before.before.before.hit.given.1, ← c.before.joined-040.ensures) c.at_address.ensures
+returns c = rw (c.before.before.before.hit.given.1, ← c.before.joined_040.ensures) c.at_address.ensures
 
 returns-2 : tie.Need-returns-2
 returns-2 c = rw c.enum_told.given.1

@@ -28,10 +28,10 @@ looked-requires : tie.Need-looked-requires
 looked-requires c κs = search rules
 
 returns : tie.Need-returns
-returns c = law.plan-none _ _ c.before.before.page-shift.ensures _ _ c.enum_told.given.1 (search rules)
+returns c = law.plan_none _ _ c.before.before.page-shift.ensures _ _ c.enum_told.given.1 (search rules)
 
 returns-2 : tie.Need-returns-2
-returns-2 c = law.plan-look _ _ c.before.before.before.before.before.before.page-shift.ensures _ _ (mod-lt _ (omega arith)) c.before.before.before.before.shift.given.1 c.before.look.ensures c.looked.ensures
+returns-2 c = law.plan_look _ _ c.before.before.before.before.before.before.page-shift.ensures _ _ (mod-lt _ (omega arith)) c.before.before.before.before.shift.given.1 c.before.look.ensures c.looked.ensures
 
 pub plan-030-spec : {M : Type 1} → statement M
 plan-030-spec =

@@ -16,7 +16,7 @@ looked-040-requires : tie.Need-looked-040-requires
 looked-040-requires c κs = search rules
 
 returns : tie.Need-returns
-returns c = rw (← c.before.before.page-bits.ensures, ← c.before.look-040.ensures) c.looked-040.ensures
+returns c = rw (← c.before.before.page-bits.ensures, ← c.before.look-040.ensures) c.looked_040.ensures
 
 pub plan-040-spec : {M : Type 1} → statement M
 plan-040-spec =

@@ -16,7 +16,7 @@ at-address-requires : tie.Need-at-address-requires
 at-address-requires c κs = search rules
 
 returns : tie.Need-returns
-returns c = rw c.at_address.ensures (law.plan-transparent _ _ c.before.before.before.before.before.requires c.before.before.before.before.compared-code.ensures c.before.before.before.as-instruction.ensures c.before.before.is-transparent.ensures c.before.if1.true)
+returns c = rw c.at_address.ensures (law.plan_transparent _ _ c.before.before.before.before.before.requires c.before.before.before.before.compared-code.ensures c.before.before.before.as-instruction.ensures c.before.before.is-transparent.ensures c.before.if1.true)
 
 walk-code-requires : tie.Need-walk-code-requires
 walk-code-requires c κs = search rules
@@ -25,7 +25,7 @@ plan-030-requires : tie.Need-plan-030-requires
 plan-030-requires c κs = search rules
 
 returns-2 : tie.Need-returns-2
-returns-2 c = law.plan-by-030 _ _ c.before.before.before.before.before.before.before.before.before.requires c.before.before.before.before.before.before.before.before.compared-code.ensures c.before.before.before.before.before.before.before.as-instruction.ensures c.before.before.before.before.before.before.is-transparent.ensures c.before.before.before.before.before.if1.false c.before.before.before.if2.true c.before.before.Walk-Code.ensures c.plan-030.ensures
+returns-2 c = law.plan_by_030 _ _ c.before.before.before.before.before.before.before.before.before.requires c.before.before.before.before.before.before.before.before.compared-code.ensures c.before.before.before.before.before.before.before.as-instruction.ensures c.before.before.before.before.before.before.is-transparent.ensures c.before.before.before.before.before.if1.false c.before.before.before.if2.true c.before.before.Walk-Code.ensures c.plan-030.ensures
 
 as-supervisor-requires : tie.Need-as-supervisor-requires
 as-supervisor-requires c κs = search rules
@@ -34,7 +34,7 @@ plan-040-requires : tie.Need-plan-040-requires
 plan-040-requires c κs = search rules
 
 returns-3 : tie.Need-returns-3
-returns-3 c = law.plan-by-040 _ _ c.before.before.before.before.before.before.before.before.requires c.before.before.before.before.before.before.before.compared-code.ensures c.before.before.before.before.before.before.as-instruction.ensures c.before.before.before.before.before.is-transparent.ensures c.before.before.before.before.if1.false c.before.before.if2.false c.before.as-supervisor.ensures c.plan-040.ensures
+returns-3 c = law.plan_by_040 _ _ c.before.before.before.before.before.before.before.before.requires c.before.before.before.before.before.before.before.compared-code.ensures c.before.before.before.before.before.before.as-instruction.ensures c.before.before.before.before.before.is-transparent.ensures c.before.before.before.before.if1.false c.before.before.if2.false c.before.as-supervisor.ensures c.plan-040.ensures
 
 pub plan-on-spec : {M : Type 1} → statement M
 plan-on-spec = tie.close (tie.spec compared-code-requires as-instruction-requires is-transparent-requires at-address-requires returns walk-code-requires plan-030-requires returns-2 as-supervisor-requires plan-040-requires returns-3)

@@ -6,7 +6,7 @@ use lib.ListN.{length, drop, drop_of_length-le}
 use borrow.Author.Rules.{rules}
 use native.Mathlib.Omega.{arith}
 use Rattle.definition.specs.Walk030.{used}
-use Rattle.memory.proofs.Widths.{used-stop, used-more}
+use Rattle.memory.proofs.Widths.{used_stop, used_more}
 use Rattle.walk030.proofs.machine.level_count.Statement.{statement}
 use Rattle.walk030.proofs.machine.level_count.Tie as tie
 
@@ -28,7 +28,7 @@ array-read-if1 c = search rules
 returns : tie.Need-returns invariant-loop decreases-loop
 returns c =
     let l = c.before.before.before.args.t1 in
-    omega (arith, ap length (used-stop l c.before.before.loop.n (omega arith) c.if1.true))
+    omega (arith, ap length (used_stop l c.before.before.loop.n (omega arith) c.if1.true))
 
 add-n : tie.Need-overflow-add-n invariant-loop decreases-loop
 add-n c = search rules
@@ -39,7 +39,7 @@ loop-less c = search rules
 loop-again : tie.Need-loop-preserved invariant-loop decreases-loop
 loop-again c =
     let l = c.before.before.before.args.t1 in
-    let more = used-more l c.before.before.loop.n (omega arith) c.if1.false in
+    let more = used_more l c.before.before.loop.n (omega arith) c.if1.false in
     (search rules, search rules, omega (arith, ap length more))
 
 returns-2 : tie.Need-returns-2 invariant-loop decreases-loop

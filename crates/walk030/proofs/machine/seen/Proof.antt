@@ -1,7 +1,7 @@
 -- `walk030::machine::seen` meets its contract. Assumes nothing.
 use borrow.Author.Rules.{rules}
 use native.Mathlib.Omega.{arith}
-use Rattle.walk030.specs.Machine.{seenOf}
+use Rattle.walk030.specs.Machine.{seen_of}
 use Rattle.walk030.proofs.machine.seen.Statement.{statement}
 use Rattle.walk030.proofs.machine.seen.Tie as tie
 
@@ -24,11 +24,11 @@ add-t-2 : tie.Need-overflow-add-t-2
 add-t-2 c = let q = rw c.before.before.before.before.before.before.d2.given.1 at c.before.before.before.before.before.before.before.before.requires.2 in omega (arith, c.before.before.before.before.before.before.before.before.requires.1, q)
 
 returns : tie.Need-returns
-unfolding seenOf
+unfolding seen_of
 returns c = rw c.before.before.d.given.1
 
 returns-2 : tie.Need-returns-2
-unfolding seenOf
+unfolding seen_of
 returns-2 c = rw (c.before.before.before.before.before.before.d2.given.1, c.before.before.before.before.adds.ensures, c.before.before.before.levels-with.ensures)
 
 pub seen-spec : {M : Type 1} → statement M
