@@ -1,5 +1,7 @@
 // Tries the audit on each kind of damage and on each harmless kind, in both caches, on its refusals, and what is said of an entry.
 // What must be written stands in the file stdout, from document 01 by hand: `e` an entry of the 68030, `d` a slot of the 68040.
+#![tactic(auto)]
+
 use audit::sixteen::{audit_kept, finding_kept};
 use cache::atc030::{Atc030, PAGES, RECENT, SHIFT};
 use cache::atc040::Atc040;

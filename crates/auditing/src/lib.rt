@@ -1,5 +1,7 @@
 // The driver of the players and of the auditors: standard input through a buffer, and what is written of each record through another.
 // It is proved that of the bytes that stand in the buffer no record is lost and none is played twice.
+#![tactic(auto)]
+
 mod audits;
 
 ghost use Rattle.std.specs.Prelude.{◌≡◌, true, false, ◌≤◌, ◌-◌, length, take, drop};

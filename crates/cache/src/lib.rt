@@ -1,4 +1,6 @@
 // The two caches of document 01. The functions take them as arrays of numbers that are lent and changed in place; specs/ says which cache these are.
+#![tactic(auto)]
+
 pub mod atc030;
 pub mod atc040;
 mod packed;

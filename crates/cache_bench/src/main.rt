@@ -2,6 +2,8 @@
 // Each three arguments, FAMILY PAGES COUNT, are a run of COUNT look-ups over so many pages. Pages that all fit are inserted first and
 // then only looked up, as a warm cache is; others are inserted at each miss. A run is told in a line with a sum over all answers,
 // by which the two programs are compared.
+#![tactic(auto)]
+
 ghost use Rattle.std.specs.Prelude.{◌<◌};
 
 use cache::atc030::Atc030;

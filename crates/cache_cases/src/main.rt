@@ -1,6 +1,8 @@
 // Runs operations on the original's two caches, with their answers, through the proved ones, and says how many differ.
 // The rows on standard input are those of `differential cacheops 1 5000` (differential/README.md):
 // operation a b c d e hit base sum, where `sum` is a number for the whole cache after the operation.
+#![tactic(auto)]
+
 mod sums;
 
 use cache::atc030::Atc030;

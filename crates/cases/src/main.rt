@@ -1,6 +1,8 @@
 // Replays the stored traces of data/ record by record, and compares every line, and both caches after each record, with the
 // original Rust's (differential/README.md, 'Stored cases').
 // The arguments name the cases: NAME.trace is the trace, and NAME.states has the original's lines and state lines.
+#![tactic(auto)]
+
 use cache::atc030::Atc030;
 use cache::atc040::Atc040;
 use replay::run::Why;

@@ -1,4 +1,6 @@
 // What the calls of document 01 share: the checks behind the numbers of refusal, and the codes of an access.
+#![tactic(auto)]
+
 ghost use Rattle.std.specs.Prelude.{◌≡◌, []};
 ghost use Rattle.definition.specs.Memory.{memory};
 ghost use Rattle.definition.specs.Registers.{on, code_of, supervisor_by, instruction_by, compared_by, as_supervisor, as_instruction, walk_code, compared_code};

@@ -94,6 +94,7 @@ module _ (g : Registers) where
 
   from_allowed : (l : List Moment) (c : Caches) (since : List Source) → All Allowed (watches_from c since (turns_of g l)) → Unchecked l
   unfolding watches_from
+  from_allowed [] c since t a m x'' = elim x'' [ ]
   from_allowed (watched b k ∷ rest) c since t a m (inl e) =
       let same : a ≡ b = cc in
       let over : m ≡ k = cc in

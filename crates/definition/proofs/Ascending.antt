@@ -159,12 +159,12 @@ unfolding ranges_from
 resumes [] y ys (cons l b) =
     let p = pow_pos (32 - y.consumed) in
     rw (lt-ltb y.first (end_of y) (omega arith)) (ap (λ (zs : List Mapped). y ∷ zs) (kept y.first (omega arith) b))
-resumes (x ∷ xs) y ys (cons l b) = rw (le-ltb y.first (end_of x) (past xs b)) (resumes xs y ys b)
+resumes {lo = lo} {hi = hi} (x ∷ xs) y ys (cons l b) = rw (le-ltb y.first (end_of x) (past xs b)) (resumes {lo = end_of x} xs y ys b)
   where
     past : {lo hi : ℕ} (xs : List Mapped) → Between lo (xs ++ (y ∷ ys)) hi → lo ≤ y.first
     past [] (cons l b) = l
-    past (z ∷ zs) (cons l b) =
-        let r = past zs b in
+    past {lo = lo'} {hi = hi'} (z ∷ zs) (cons l b) =
+        let r = past {lo = end_of z} zs b in
         omega arith
 
 -- a part of the list from a start on is the list's own end
@@ -175,7 +175,7 @@ record Ending (from : ℕ) (items : List Mapped) : Type 0 where
 ending : {lo hi : ℕ} (from : ℕ) (items : List Mapped) → Between lo items hi → Ending from items
 unfolding ranges_from
 ending from [] b = record { gone = []; is = refl }
-ending from (x ∷ xs) (cons l b) = go (ending from xs b) (dec_le (end_of x) from)
+ending {lo = lo} {hi = hi} from (x ∷ xs) (cons l b) = go (ending {lo = end_of x} from xs b) (dec_le (end_of x) from)
   where
     go : Ending from xs → Dec (end_of x ≤ from) → Ending from (x ∷ xs)
     go r (yes q) =

@@ -44,11 +44,11 @@ entry_keeps m tables a page asked i =
 pointer_keeps : (m : Memory) (tc address root : ℕ) → Keeps (λ pointer asked. on_pointer m tc address root pointer asked)
 pointer_keeps m tc address root a pointer asked i =
     if_both (Has a) (ltb (pointer % 4) 2) _ _ i
-    (asks_keeps m a (page_at tc pointer address) asked _ (entry_keeps m (bit_of root 2 || bit_of pointer 2)) i)
+    (asks_keeps m a (page_at tc pointer address) asked (λ page asked. on_entry m (bit_of root 2 || bit_of pointer 2) page asked) (entry_keeps m (bit_of root 2 || bit_of pointer 2)) i)
 
 root_keeps : (m : Memory) (tc address : ℕ) → Keeps (λ root asked. on_root m tc address root asked)
 root_keeps m tc address a root asked i =
-    if_both (Has a) (ltb (root % 4) 2) _ _ i (asks_keeps m a (pointer_at root address) asked _ (pointer_keeps m tc address root) i)
+    if_both (Has a) (ltb (root % 4) 2) _ _ i (asks_keeps m a (pointer_at root address) asked (λ pointer asked. on_pointer m tc address root pointer asked) (pointer_keeps m tc address root) i)
 
 -- ---- each long and each level ends alike
 module _ (m m' : Memory) where

@@ -44,6 +44,7 @@ abbrev SuitsAt : Made → Turn → Type 0
 SuitsAt w t = Suits w (source (registers_in t) (memory_in t))
 
 made_suits : (t : Turn) (w : Made) → In w (made_in t) → SuitsAt w t
+made_suits (under g (watched a m)) w (inr x4) = elim x4 [ ]
 made_suits (under g (watched a m)) w (inl e) = record { registers = ap (λ (v : Made). v.registers) (sym e); reads = λ at i. rw e }
 made_suits (under g (other call m)) w i = absurd i
 

@@ -93,6 +93,7 @@ page_answers tc code address field consumed write wp sup asked = go (sup && not 
 
 in_covering : (a : ℕ) (x : Mapped) (xs : List Mapped) → In x xs → covers a x ≡ true → In x (covering a xs)
 unfolding covering
+in_covering a x [] x3 c = elim x3 [ ]
 in_covering a x (y ∷ ys) (inl e) c = subst (λ (z : Mapped). In x (if covers a z then z ∷ covering a ys else covering a ys)) e (rw c (inl refl))
 in_covering a x (y ∷ ys) (inr i) c = go (covers a y) (in_covering a x ys i c)
   where

@@ -14,6 +14,7 @@ use Rattle.definition.proofs.Choice.{and_left, and_right}
 
 -- ---- one of them
 pub in_left : {X : Type 0} (x : X) (l r : List X) → In x l → In x (l ++ r)
+in_left {X = X} x [] r x'' = elim x'' [ ]
 in_left x (y ∷ l) r (inl e) = inl e
 in_left x (y ∷ l) r (inr i) = inr (in_left x l r i)
 
@@ -63,6 +64,7 @@ module _ {X : Type 0} (P : X → Type 0) where
   all_both (x ∷ l) r a b = (a.0, all_both l r a.1 b)
 
   pub all_at : (l : List X) (x : X) → In x l → All P l → P x
+  all_at [] x x4 a = elim x4 [ ]
   all_at (y ∷ l) x (inl e) a = rw e a.0
   all_at (y ∷ l) x (inr i) a = all_at l x i a.1
 
@@ -109,6 +111,7 @@ module _ {X : Type 0} (p : X → Bool) where
 
   pub first_within : (l : List X) (x : X) → In x l → p x ≡ true → first_of p l < length l
   unfolding first_of
+  first_within [] x x4 t = elim x4 [ ]
   first_within (y ∷ l) x (inl e) t = rw (← e, t) (suc-le-suc zero-le)
   first_within (y ∷ l) x (inr i) t = go (p y) (first_within l x i t)
     where
@@ -156,6 +159,7 @@ module _ {X : Type 0} (number : X → ℕ) where
   least_one x = record { one = inl refl; lowest = below }
     where
       below : (y : X) → In y (x ∷ []) → number x ≤ number y
+      below y (inr x'') = elim x'' [ ]
       below y (inl e) = rw e (le_refl (number x))
 
   least_new : (x y : X) (l : List X) → number x ≤ number y → Least number l y → Least number (x ∷ l) x

@@ -15,7 +15,7 @@ use lib.ListN.{length, get_or, set, replicate}
 use Rattle.definition.specs.Words.{if◌then◌else◌, bit_of, first_of}
 use Rattle.definition.specs.Registers.{on}
 use Rattle.definition.specs.Memory.{Memory, in_ranges, inside, fetch_of}
-use Rattle.definition.specs.Walk040.{Outcome040, on_long, root_at, pointer_at, page_at, on_page, on_entry, walk040, page_bits, frame_of}
+use Rattle.definition.specs.Walk040.{Outcome040, ended040, asks, on_long, root_at, pointer_at, page_at, on_page, on_entry, on_pointer, on_root, walk040, page_bits, frame_of}
 use Rattle.definition.specs.Cache030.{Entry, Cache030, no_entry, empty030, matches, matching, stamped, rested, touched, found, after_hit, dropped, shifted, victim, inserted, drop_if}
 use Rattle.definition.specs.Cache040.{Slot, Cache040, empty040}
 use Rattle.definition.specs.Translate.{Caches}
@@ -35,6 +35,7 @@ use Rattle.definition.proofs.Entries030.{Keeps030, free_030}
 use Rattle.definition.proofs.Entries040.{free_040, OfSlots, New040, Sound040, empty_sound, sound_keeps}
 use Rattle.definition.proofs.Entries.{Both, Keeps, calling_keeps}
 use Rattle.definition.proofs.Stale.{Wrong, entry_at, named_030, stale_is_wrong, slot_in, named_040, stale_is_wrong_040}
+use Rattle.definition.specs.declared.FaultCause.TheVariants as cause
 
 -- ---- the entry at i
 abbrev at : List Entry → ℕ → Entry
@@ -238,21 +239,30 @@ module _ (m : Memory) (l : Longs32 m) where
   entry_fits : (tables : Bool) (page : ℕ) (asked : List ℕ) → page < 2 ^ 32 → Ends (on_entry m tables page asked)
   entry_fits tables page asked f =
       if_both Ends (eqb (page % 4) 2) _ _
-      (long_fits (page / 4 * 4) asked _ (λ x asked f. page_fits tables _ x asked f) (fetch_of m (page / 4 * 4)) (fetch_fits (page / 4 * 4)))
-      (page_fits tables _ page asked f)
+      (long_fits (page / 4 * 4) asked (λ target asked. on_page tables cause.Indirect target asked) (λ x asked f. page_fits tables cause.Indirect x asked f) (fetch_of m (page / 4 * 4)) (fetch_fits (page / 4 * 4)))
+      (page_fits tables cause.PageFault page asked f)
+
+  pointer_fits : (tc address root pointer : ℕ) (asked : List ℕ) → Ends (on_pointer m tc address root pointer asked)
+  pointer_fits tc address root pointer asked =
+      if_both Ends (ltb (pointer % 4) 2) (ended040 (Absent cause.PointerB) asked)
+      (asks m (page_at tc pointer address) asked (λ page asked. on_entry m (bit_of root 2 || bit_of pointer 2) page asked)) tt
+      (long_fits (page_at tc pointer address) asked (λ page asked. on_entry m (bit_of root 2 || bit_of pointer 2) page asked)
+      (λ page asked f. entry_fits (bit_of root 2 || bit_of pointer 2) page asked f)
+      (fetch_of m (page_at tc pointer address)) (fetch_fits (page_at tc pointer address)))
+
+  root_fits : (tc address root : ℕ) (asked : List ℕ) → Ends (on_root m tc address root asked)
+  root_fits tc address root asked =
+      if_both Ends (ltb (root % 4) 2) (ended040 (Absent cause.PointerA) asked)
+      (asks m (pointer_at root address) asked (λ pointer asked. on_pointer m tc address root pointer asked)) tt
+      (long_fits (pointer_at root address) asked (λ pointer asked. on_pointer m tc address root pointer asked)
+      (λ pointer asked f. pointer_fits tc address root pointer asked)
+      (fetch_of m (pointer_at root address)) (fetch_fits (pointer_at root address)))
 
   walk_fits : (g : Registers) (address : ℕ) (supervisor : Bool) → Ends (walk040 m g address supervisor)
   unfolding walk040
   walk_fits g address supervisor =
-      long_fits (root_at g supervisor address) [] _
-      (λ root asked f.
-      if_both Ends (ltb (root % 4) 2) _ _ tt
-      (long_fits (pointer_at root address) asked _
-      (λ pointer asked f.
-      if_both Ends (ltb (pointer % 4) 2) _ _ tt
-      (long_fits (page_at g.tc pointer address) asked _ (λ page asked f. entry_fits (bit_of root 2 || bit_of pointer 2) page asked f)
-      (fetch_of m (page_at g.tc pointer address)) (fetch_fits (page_at g.tc pointer address))))
-      (fetch_of m (pointer_at root address)) (fetch_fits (pointer_at root address))))
+      long_fits (root_at g supervisor address) [] (λ root asked. on_root m g.tc address root asked)
+      (λ root asked f. root_fits g.tc address root asked)
       (fetch_of m (root_at g supervisor address)) (fetch_fits (root_at g supervisor address))
 
 frame_small : (tc field : ℕ) → field < 2 ^ 32 → frame_of tc field < 2 ^ 32

@@ -112,6 +112,7 @@ step_not_four s Malformed h e = let z : ◌≡◌ {A = ℕ} 7 4 = cc in omega ar
 
 lines_not_four : (s : State) (l : List Record) → Fit s.caches → In (R 4) (lines_from s l) → ⊥
 unfolding lines_from
+lines_not_four s [] h x'' = elim x'' [ ]
 lines_not_four s (r ∷ l) h (inl e) = step_not_four s r h (sym e)
 lines_not_four s (r ∷ l) h (inr i) = lines_not_four (step_of s r).state l (step_fit s r h) i
 

@@ -75,6 +75,7 @@ first_or_none (k ∷ ks) = go k.applies refl (first_or_none ks)
     go false e rest = ⊎_elim (λ f. inl (later e f)) (λ n. inr (passed e n.0, n.1)) rest
 
 first_is : (ks : List Check) (n : ℕ) → First ks n → first_that ks ≡ n
+first_is [] n x' = elim x' [ ]
 first_is (k ∷ ks) _ (here e) = rw e
 first_is (k ∷ ks) n (later e f) = rw e (first_is ks n f)
 
@@ -83,6 +84,7 @@ none_is [] none = refl
 none_is (k ∷ ks) (passed e f) = rw e (none_is ks f)
 
 first_in : (ks : List Check) (n : ℕ) → First ks n → In n (map (λ (c : Check). c.number) ks)
+first_in [] n x' = elim x' [ ]
 first_in (k ∷ ks) _ (here e) = inl refl
 first_in (k ∷ ks) n (later e f) = inr (first_in ks n f)
 

@@ -202,6 +202,7 @@ module _ (g : Registers) (m : Memory) (c : Caches) where
 
   -- what is named is stale, and none is named twice: those after it are above it
   pub only_stale : {from : ℕ} {l : List ℕ} → Goes g m c from l → (j : ℕ) → In j l → (from ≤ j) × (stale_at g m c j ≡ true)
+  only_stale (over {from = from} _) j x5 = elim x5 [ ]
   only_stale {from} (next {i = i} e more) j (inl is) = let n = names_by from i e in (rw is n.above, rw is n.stale)
   only_stale {from} (next {i = i} e more) j (inr k) =
       let n = names_by from i e in

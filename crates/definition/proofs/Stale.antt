@@ -56,6 +56,7 @@ NoAddress (translation.Fault kind cause address) = Unit {0}
 NoAddress (translation.Refused n) = Unit {0}
 
 apart : (x : ℕ) (t : Translation) → NoAddress t → Translation.Address x ≡ t → ⊥
+apart x (translation.Address _) n e = elim n [ ]
 apart x (translation.Fault kind cause address) n e = let z : ◌≡◌ {A = ℕ} 0 1 = cc in omega arith
 apart x (translation.Refused k) n e = let z : ◌≡◌ {A = ℕ} 0 1 = cc in omega arith
 

@@ -46,6 +46,7 @@ pairs_of (other call m ∷ rest) = pairs_of rest
 
 in_pairs : (l : List Moment) (a : Access) (m : Memory) → In (watched a m) l → In (a, m) (pairs_of l)
 unfolding pairs_of
+in_pairs [] a m x' = elim x' [ ]
 in_pairs (watched b n ∷ rest) a m (inl e) = let p : ◌≡◌ {A = Pair} (a, m) (b, n) = cc in inl p
 in_pairs (watched b n ∷ rest) a m (inr i) = inr (in_pairs rest a m i)
 in_pairs (other call n ∷ rest) a m (inl e) = let z : ◌≡◌ {A = ℕ} 0 1 = cc in absurd (omega arith)

@@ -1,4 +1,6 @@
 // What a call is given and what it answers: the structs and enums that every crate shares. Their meaning is in specs/.
+#![tactic(auto)]
+
 ghost use Rattle.std.specs.Prelude.{◌≡◌};
 ghost use Rattle.definition.specs.Answers.{kind_number, cause_number};
 

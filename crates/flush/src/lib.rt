@@ -1,4 +1,6 @@
 // The four flushes of document 01 in place, over arrays that the caller keeps: all of both caches, by code and mask, by code, mask and page, and a 68040 frame.
+#![tactic(auto)]
+
 ghost use Rattle.definition.specs.Cache030.{Cache030};
 ghost use Rattle.definition.specs.Cache040.{Cache040};
 ghost use Rattle.definition.specs.Flush.{flush_all, flush_code, flush_page, flush_frame};

@@ -1,5 +1,7 @@
 // The host's call of the lister, for C or Rust to link: a library of its own, as the audit's is, so that the calls' library has one caller
 // of what they are made of.
+#![tactic(auto)]
+
 ghost use Rattle.std.specs.Prelude.{◌≡◌, length};
 ghost use Rattle.definition.specs.Memory.{memory};
 ghost use Rattle.definition.specs.List.{list as list_of};

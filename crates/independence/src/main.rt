@@ -2,6 +2,8 @@
 // replays'). The arguments name the pairs: NAME_1.trace and NAME_2.trace are the replays. NAME.watched says first whether the
 // pair is steady; then, for each watched access, which record of either replay it is and what the original answers it with both
 // caches empty, without the count.
+#![tactic(auto)]
+
 mod sides;
 
 use sides::{AnswerLine, Side};

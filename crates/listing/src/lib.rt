@@ -1,5 +1,7 @@
 // What the table tree of a dump maps: a line for each range, FIRST-LAST PHYSICAL flags, and a last line that counts them.
 // The program's arguments are the function code, in decimal, and the address to start at, in hex.
+#![tactic(auto)]
+
 use definition::{Listed, Range, Registers};
 use states::put_hex;
 use streams::{put, put_decimal, put_text, shown};

@@ -1,4 +1,6 @@
 // What a host's numbers are: registers, an access, and an answer. A host hands in and is told numbers alone; specs/ says which number means what.
+#![tactic(auto)]
+
 ghost use Rattle.std.specs.Prelude.{◌≡◌, [], ◌∷◌};
 ghost use Rattle.definition.specs.Trace.{override_of};
 ghost use Rattle.numbers.specs.Numbers.{registers_of, access_of, translation_numbers, load_numbers, test_numbers, probe_numbers, audit_numbers, held_of, walked_of, finding_numbers, flush_number};

@@ -1,4 +1,6 @@
 // Plays the trace on standard input, and writes its lines to standard output.
+#![tactic(auto)]
+
 fn main() {
     playing::play(false);
 }

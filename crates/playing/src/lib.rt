@@ -1,5 +1,7 @@
 // The driver of the players: standard input through a buffer, the replay's lines through another, and with `states` also both
 // caches after each record. It is proved that of the bytes that stand in the buffer no record is lost and none is played twice.
+#![tactic(auto)]
+
 ghost use Rattle.std.specs.Prelude.{◌≡◌, true, false, ◌≤◌, ◌-◌, length, take, drop};
 ghost use Rattle.definition.specs.Words.{any_of};
 ghost use Rattle.definition.specs.Refusal.{crossed};

@@ -1,4 +1,6 @@
 // Probe in place: 'answers from a transparent match or an unrecorded hit, else nothing; off, nothing. It uses the CPU's own state as supervisor and no override.'
+#![tactic(auto)]
+
 ghost use Rattle.std.specs.Prelude.{◌≡◌, ℕ, ◌<◌};
 ghost use Rattle.definition.specs.Walk030.{shift_of};
 ghost use Rattle.definition.specs.Translate.{hit_address, joined};

@@ -1,4 +1,6 @@
 // The replay: what each record of a trace does and prints, over state that the caller keeps. No input and no output.
+#![tactic(auto)]
+
 mod calls;
 pub mod run;
 mod settings;

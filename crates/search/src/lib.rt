@@ -1,4 +1,6 @@
 // What the end of a 68030 walk gives, in place: translate and load share it. A code has three bits.
+#![tactic(auto)]
+
 ghost use Rattle.std.specs.Prelude.{length, ◌≡◌, ◌%◌, ◌<◌};
 ghost use Rattle.definition.specs.Words.{if◌then◌else◌};
 ghost use Rattle.definition.specs.Walk030.{shift_of};

@@ -1,4 +1,6 @@
 // The state line: S m=MRU c=CLOCK s=SHIFT eI=V,FC,PAGE,PHYS,WP,STAMP .. dI=V,TAG,PHYS,WP,SUP .., entries of zeros left out.
+#![tactic(auto)]
+
 use cache::atc030::{Atc030, CLOCK, PAGES, RECENT, SHIFT, STAMPS};
 use cache::atc040::{Atc040, BASES};
 use streams::{put, put_decimal, put_text};

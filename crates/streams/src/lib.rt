@@ -1,4 +1,6 @@
 // Bytes in and out: a buffer filled from a descriptor, a buffer written to standard output, and text put into a buffer.
+#![tactic(auto)]
+
 ghost use Rattle.streams.specs.Filled.{Filled};
 
 use libc::{STDERR_FILENO, STDOUT_FILENO};

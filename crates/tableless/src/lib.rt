@@ -1,5 +1,7 @@
 // The calls of document 01 by value that read no tables: probe and the four flushes.
 // Each copies the pair's arrays, lends them to a function in place and builds the pair anew.
+#![tactic(auto)]
+
 ghost use Rattle.std.specs.Prelude.{◌≡◌};
 ghost use Rattle.definition.specs.Probe.{probe as probeOf};
 ghost use Rattle.definition.specs.Flush.{flush_all, flush_code, flush_page, flush_frame};

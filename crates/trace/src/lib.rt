@@ -1,4 +1,6 @@
 // The trace: one record's body as the definition's record, and one line as its bytes.
+#![tactic(auto)]
+
 ghost use Rattle.std.specs.Prelude.{◌≡◌, ◌+◌, ◌%◌, ◌≤◌, ◌<◌, [], ◌∷◌, ◌++◌, ltb, length, get_or};
 ghost use Rattle.definition.specs.Words.{bit_of};
 ghost use Rattle.definition.specs.Trace.{be, override_of, kind01, kind02, kind03, kind04, kind05, kind06, kind07, kind08, kind0_b, by_trace_kind, record_of, hex_digit, hex, digit, decimal, spaced, newline, text, ending, opening};

@@ -1,4 +1,6 @@
 // The transparent registers: TT0 and TT1 of the 68030, ITT0, ITT1, DTT0 and DTT1 of the 68040.
+#![tactic(auto)]
+
 ghost use Rattle.std.specs.Prelude.{◌≡◌};
 ghost use Rattle.definition.specs.Words.{bit_of, agrees};
 ghost use Rattle.definition.specs.Transparent.{covers, directed, matches030, privilege, matches040, transparent030, transparent};

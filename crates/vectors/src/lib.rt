@@ -1,5 +1,7 @@
 // Rows of decimal numbers out of a file, over a buffer that does not grow with the file, and a tally of rows that differ.
 // A row is numbers below 2^32, one space between two, and a line's end after the last.
+#![tactic(auto)]
+
 ghost use Rattle.std.specs.Prelude.{◌≡◌, ◌+◌, ◌≤◌, length, take, drop};
 ghost use Rattle.vectors.specs.Rows.{digit_of, closed_by, number_at, Ahead, row_at, shown, Within};
 

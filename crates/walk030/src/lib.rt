@@ -1,4 +1,6 @@
 // The 68030 walk over lent longs and lent bus-error ranges.
+#![tactic(auto)]
+
 mod machine;
 
 ghost use Rattle.std.specs.Prelude.{◌≡◌};

@@ -2,6 +2,8 @@
 // The rows on standard input are those of `differential walks 1 500` (differential/README.md): registers, access and base, the
 // longs that are not 0, the bus-error ranges, what the original's translation from empty caches answers, and for family 30 what
 // its PTEST answers at the levels 1 to 7.
+#![tactic(auto)]
+
 mod answers;
 mod rows;
 

@@ -1,4 +1,6 @@
 // A whole trace in memory, from the state that a replay starts from.
+#![tactic(auto)]
+
 ghost use Rattle.std.specs.Prelude.{◌++◌, take};
 ghost use Rattle.definition.specs.Trace.{first_state, play_from, play as Trace·play};
 ghost use Rattle.whole.specs.Shown.{Shows, refused, finished, Closes};
