@@ -25,7 +25,7 @@ use cache::atc040::Atc040;
 use definition::{Audit, End, End040, Range, Registers, Shift};
 
 // Where an audit stands between two entries: it is over with this answer, or entry `i` is next.
-#[derive(Drop)]
+#[derive(Clone, Copy)]
 struct Auditing {
     over: bool,
     answer: Audit,
@@ -134,7 +134,7 @@ fn begin(c030: &Atc030, c040: &Atc040, two: bool, three: bool, g: Registers, fro
 // ---- Entry i.
 
 // What the family's cache has at i, a 68030 entry's tag and page, or a 68040 slot's key and base, and the shift of its page. Past the end stands the empty entry.
-#[derive(Drop)]
+#[derive(Clone, Copy)]
 struct Cached {
     key: u64,
     page: u64,

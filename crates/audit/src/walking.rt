@@ -9,7 +9,7 @@ use walk030::Walked;
 use walk040::Walked040;
 
 // None, or a 68030 walk of every level in a code's space, or a 68040 walk.
-#[derive(Drop)]
+#[derive(Clone, Copy)]
 pub enum Way {
     Idle,
     By030 { code: u32 },
@@ -17,7 +17,7 @@ pub enum Way {
 }
 
 // How it ended.
-#[derive(Drop)]
+#[derive(Clone, Copy)]
 pub enum Walks {
     Idle,
     By030(Walked),

@@ -8,7 +8,7 @@ use states::put_hex;
 use streams::{put, put_decimal, put_text, shown};
 
 // The lines so far: how many bytes they are, how many stale entries they name, and the refusal's number where there is one.
-#[derive(Drop)]
+#[derive(Clone, Copy)]
 struct Named {
     to: usize,
     n: u64,

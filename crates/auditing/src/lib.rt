@@ -18,7 +18,7 @@ use replay::run::Why;
 use streams::{Got, shown, written};
 
 // Where the driver stands: what the replay keeps, how many bytes of the buffer wait, and whether it goes on.
-#[derive(Drop)]
+#[derive(Clone, Copy)]
 struct Waiting {
     kept: Kept,
     have: usize,
@@ -27,7 +27,7 @@ struct Waiting {
 
 // What is written: each record's line, or both caches after it too; or what an audit says of the caches, at the end or after
 // each record; or what the table tree maps, at the end.
-#[derive(Drop)]
+#[derive(Clone, Copy)]
 pub enum How {
     Lines,
     States,
@@ -109,7 +109,7 @@ fn shifted(buffer: &mut [u8], from: usize, have: usize) -> usize
 }
 
 // Where a run over the waiting bytes leaves off: there is more to run, more input is wanted, or it is over.
-#[derive(Drop)]
+#[derive(Clone, Copy)]
 enum Next {
     More,
     Input,
@@ -117,7 +117,7 @@ enum Next {
 }
 
 // What a run leaves: what is kept, how many bytes it read, and what is next.
-#[derive(Drop)]
+#[derive(Clone, Copy)]
 struct Played {
     kept: Kept,
     read: usize,

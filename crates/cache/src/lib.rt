@@ -13,7 +13,7 @@ use crate::atc030::Atc030;
 use crate::atc040::Atc040;
 
 // The pair of caches by value.
-#[derive(Drop)]
+#[derive(Clone, Copy)]
 pub struct CachePair {
     pub c030: Atc030,
     pub c040: Atc040,

@@ -39,14 +39,14 @@ fn others(wp: u64, stamp: u64) -> Atc030 {
 }
 
 // The tags of entries 3 and 7.
-#[derive(Drop)]
+#[derive(Clone, Copy)]
 struct Tags {
     third: u64,
     seventh: u64,
 }
 
 // The stamps: one number, with two others at 3 and at 7.
-#[derive(Drop)]
+#[derive(Clone, Copy)]
 struct Stamps {
     all: u64,
     third: u64,

@@ -2,7 +2,7 @@
 use definition::{Access, Override, Range, Registers, Root};
 
 // What a call is tried with; `fit` has nothing that is refused, and each case spoils some of it.
-#[derive(Drop)]
+#[derive(Clone, Copy)]
 pub struct Trial {
     pub family: u32,
     pub enabled: bool,
@@ -15,7 +15,7 @@ pub struct Trial {
 }
 
 // What a call gave: the refusal's number (0: none), and whether the count was 0 and the caches stayed.
-#[derive(Drop)]
+#[derive(Clone, Copy)]
 pub struct Given {
     pub number: u32,
     pub kept: bool,

@@ -12,7 +12,7 @@ use streams::{put_decimal, put_text};
 use trace::Line;
 
 // What was compared so far: lines, state lines, and how many of both differ.
-#[derive(Drop)]
+#[derive(Clone, Copy)]
 struct Counts {
     lines: u64,
     states: u64,
@@ -20,7 +20,7 @@ struct Counts {
 }
 
 // The cases so far: what was compared, how many could not be; and how many bytes of the report wait.
-#[derive(Drop)]
+#[derive(Clone, Copy)]
 struct Tally {
     cases: u64,
     counts: Counts,
@@ -29,7 +29,7 @@ struct Tally {
 }
 
 // One case so far: what was compared, where its next expected line starts; and how many bytes of the report wait.
-#[derive(Drop)]
+#[derive(Clone, Copy)]
 struct Compared {
     counts: Counts,
     from: usize,
@@ -37,7 +37,7 @@ struct Compared {
 }
 
 // Which line: a record's or the frame's, or the caches after a record.
-#[derive(Drop)]
+#[derive(Clone, Copy)]
 enum Which {
     Line,
     State,

@@ -5,14 +5,14 @@ ghost use Rattle.std.specs.Prelude.{◌≡◌};
 ghost use Rattle.definition.specs.Answers.{kind_number, cause_number};
 
 // A root pointer: its limit long, whose low two bits are its type, and its address long.
-#[derive(Drop)]
+#[derive(Clone, Copy)]
 pub struct Root {
     pub limit: u32,
     pub address: u32,
 }
 
 // The registers. `present` is has-PMMU.
-#[derive(Drop)]
+#[derive(Clone, Copy)]
 pub struct Registers {
     pub family: u32,
     pub present: bool,
@@ -29,14 +29,14 @@ pub struct Registers {
 }
 
 // A function-code override: none, or the code.
-#[derive(Drop)]
+#[derive(Clone, Copy)]
 pub enum Override {
     Plain,
     Code(u32),
 }
 
 // An access. `own` is the CPU's own supervisor state, `recorded` whether hits record a use.
-#[derive(Drop)]
+#[derive(Clone, Copy)]
 pub struct Access {
     pub address: u32,
     pub write: bool,
@@ -49,21 +49,21 @@ pub struct Access {
 
 // A bus-error range: both addresses are inside. Its layout is C's: a host lends a slice of them.
 #[repr(C)]
-#[derive(Drop)]
+#[derive(Clone, Copy)]
 pub struct Range {
     pub first: u32,
     pub last: u32,
 }
 
 // What asking for one long gives.
-#[derive(Drop)]
+#[derive(Clone, Copy)]
 pub enum Fetched {
     Long(u32),
     Failed,
 }
 
 // How a 68030 walk ends.
-#[derive(Drop)]
+#[derive(Clone, Copy)]
 pub enum End {
     Page { field: u32, consumed: u32 },
     Invalid { indirect: bool },
@@ -73,7 +73,7 @@ pub enum End {
 }
 
 // How a 68040 walk ends: a page's descriptor with W of the levels and S of the page, an invalid one, or a long that failed.
-#[derive(Drop)]
+#[derive(Clone, Copy)]
 pub enum End040 {
     Resident { field: u32, wp: bool, sup: bool },
     Absent(FaultCause),
@@ -81,21 +81,21 @@ pub enum End040 {
 }
 
 // The page shift that TC gives, where it gives one.
-#[derive(Drop)]
+#[derive(Clone, Copy)]
 pub enum Shift {
     Bits(u32),
     NoPage,
 }
 
 // What a look into a cache gives: the page's base, or nothing.
-#[derive(Drop)]
+#[derive(Clone, Copy)]
 pub enum Hit {
     At(u64),
     Miss,
 }
 
 // Fault kinds and causes, in the order of `mod.rs`.
-#[derive(Drop)]
+#[derive(Clone, Copy)]
 pub enum FaultKind {
     ConfigurationError,
     IllegalOperation,
@@ -103,7 +103,7 @@ pub enum FaultKind {
     BusError,
 }
 
-#[derive(Drop)]
+#[derive(Clone, Copy)]
 pub enum FaultCause {
     PointerA,
     PointerB,
@@ -116,7 +116,7 @@ pub enum FaultCause {
 }
 
 // The answers of the calls. A refusal carries its number alone.
-#[derive(Drop)]
+#[derive(Clone, Copy)]
 pub enum Translation {
     Address(u32),
     Fault {
@@ -127,33 +127,33 @@ pub enum Translation {
     Refused(u32),
 }
 
-#[derive(Drop)]
+#[derive(Clone, Copy)]
 pub enum Load {
     Loaded,
     Refused(u32),
 }
 
-#[derive(Drop)]
+#[derive(Clone, Copy)]
 pub enum Test {
     Status { mmusr: u32, address: u32 },
     Refused(u32),
 }
 
-#[derive(Drop)]
+#[derive(Clone, Copy)]
 pub enum Probe {
     Address(u32),
     Nothing,
     Refused(u32),
 }
 
-#[derive(Drop)]
+#[derive(Clone, Copy)]
 pub enum Flush {
     Flushed,
     Refused(u32),
 }
 
 // What an audit of the caches says: every entry gives what the tables give, or the index of the first that doesn't, in the one cache or the other.
-#[derive(Drop)]
+#[derive(Clone, Copy)]
 pub enum Audit {
     Clean,
     Stale030(u32),
@@ -162,7 +162,7 @@ pub enum Audit {
 }
 
 // What is said of one entry, for a read or a write: its page's first address and its code, what the cache gives, and what the tables give.
-#[derive(Drop)]
+#[derive(Clone, Copy)]
 pub enum Finding {
     Says {
         address: u32,
@@ -174,7 +174,7 @@ pub enum Finding {
 }
 
 // A range that a 68030 tree maps: its first address, the bits consumed, its physical start, WP and S. Lost: its descriptor can't be fetched.
-#[derive(Drop)]
+#[derive(Clone, Copy)]
 pub struct Mapped {
     pub first: u32,
     pub consumed: u32,
@@ -186,7 +186,7 @@ pub struct Mapped {
 
 // A table of a tree, or an entry of one: where it stands, whether its descriptors are long, the first address of its stretch, the bits consumed
 // up to it, and what WP and S of the descriptors above it add up to.
-#[derive(Drop)]
+#[derive(Clone, Copy)]
 pub struct Node {
     pub at: u32,
     pub long: bool,
@@ -197,7 +197,7 @@ pub struct Node {
 }
 
 // What an entry of a table is: nothing to list, a range, or a table of its own.
-#[derive(Drop)]
+#[derive(Clone, Copy)]
 pub enum Seen {
     Nothing,
     One(Mapped),
@@ -205,7 +205,7 @@ pub enum Seen {
 }
 
 // What a list answers: so many ranges, which are all, or so many and the first address of the next.
-#[derive(Drop)]
+#[derive(Clone, Copy)]
 pub enum Listed {
     All(usize),
     More { count: usize, next: u32 },

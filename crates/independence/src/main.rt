@@ -15,7 +15,7 @@ use vectors::{Cursor, Number};
 // What the watched accesses of a pair show: how many there are, how many are answered alike, how many by the cacheless walk's
 // answer in both replays, how many alike with other counts, and how many not alike or not so; and how many bytes of the report
 // wait.
-#[derive(Drop)]
+#[derive(Clone, Copy)]
 struct Shown {
     watched: u64,
     alike: u64,
@@ -26,7 +26,7 @@ struct Shown {
 }
 
 // All pairs of a sort: how many, their watched accesses, and how many of these differ.
-#[derive(Drop)]
+#[derive(Clone, Copy)]
 struct Sum {
     pairs: u64,
     watched: u64,
@@ -34,7 +34,7 @@ struct Sum {
 }
 
 // All pairs so far: those that are steady, the others, those that failed; and how many bytes of the report wait.
-#[derive(Drop)]
+#[derive(Clone, Copy)]
 struct Tally {
     steady: Sum,
     other: Sum,
@@ -53,7 +53,7 @@ fn plus(n: u64, so: bool) -> u64 {
 // ---- A watched access.
 
 // A row: the record of the first and of the second replay, and where the walk's answer starts.
-#[derive(Drop)]
+#[derive(Clone, Copy)]
 enum Row {
     Watched { one: u32, two: u32, from: usize },
     Malformed,

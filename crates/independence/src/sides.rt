@@ -4,7 +4,7 @@ use stored::{files, lines};
 use whole::Played;
 
 // A replay: how many bytes its trace and its lines have; or why it could not be played to its end.
-#[derive(Drop)]
+#[derive(Clone, Copy)]
 pub enum Side {
     Played { bytes: usize, lines: usize },
     Unheld(Held),
@@ -122,7 +122,7 @@ pub fn same_access(first: &[u8], one: u32, second: &[u8], two: u32) -> bool {
 }
 
 // An access's line: what it is answered stands from `from` up to `count`, and its count from there up to `to`.
-#[derive(Drop)]
+#[derive(Clone, Copy)]
 pub struct AnswerLine {
     pub from: usize,
     pub count: usize,

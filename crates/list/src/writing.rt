@@ -6,7 +6,7 @@ ghost use Rattle.list.specs.Writing.{written, put as put_of, answer_of};
 use definition::{Listed, Mapped};
 
 // How many are written; whether one found no room, and its first address.
-#[derive(Drop)]
+#[derive(Clone, Copy)]
 pub struct Progress {
     pub count: usize,
     pub full: bool,

@@ -143,7 +143,7 @@ fn put_refusal(out: &mut [u8], number: u32) -> usize {
 // ---- The list.
 
 // What was listed so far, where to go on, and whether it goes on.
-#[derive(Drop)]
+#[derive(Clone, Copy)]
 struct Listing {
     ranges: u64,
     bytes: u64,

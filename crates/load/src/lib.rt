@@ -20,21 +20,21 @@ use memory::registers::tc_of;
 use walk030::Walked;
 
 // What is settled before the tables are asked: the answer itself, or the walk to make.
-#[derive(Drop)]
+#[derive(Clone, Copy)]
 pub enum Plan {
     Settled(Load),
     Walk030 { code: u32 },
 }
 
 // The walk that the plan asked for is made: the answer itself, or how the walk ended.
-#[derive(Drop)]
+#[derive(Clone, Copy)]
 pub enum Found {
     Settled(Load),
     By030 { code: u32, walk: Walked },
 }
 
 // An answer with its count.
-#[derive(Drop)]
+#[derive(Clone, Copy)]
 pub struct LoadOutcome {
     pub answer: Load,
     pub count: u32,

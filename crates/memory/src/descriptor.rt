@@ -9,7 +9,7 @@ use crate::longs::fetch;
 use definition::{Fetched, Range};
 
 // What reading one 68030 descriptor gives, with the number of longs asked for. Lost: the long at `at` failed.
-#[derive(Drop)]
+#[derive(Clone, Copy)]
 pub enum Descriptor {
     Whole {
         kind: u32,

@@ -19,7 +19,7 @@ use test::TestOutcome;
 use translate::Outcome;
 
 // An answer, its count and the next caches.
-#[derive(Drop)]
+#[derive(Clone, Copy)]
 pub struct Translated {
     pub answer: Translation,
     pub count: u32,
@@ -27,7 +27,7 @@ pub struct Translated {
 }
 
 // The same of a load.
-#[derive(Drop)]
+#[derive(Clone, Copy)]
 pub struct Loaded {
     pub answer: Load,
     pub count: u32,

@@ -161,7 +161,7 @@ pub fn tell_audit(out: &mut [u32; 5], a: Audit)
 }
 
 // What a cache gives: 0 and the base's low and high 32 bits, or 3 for nothing.
-#[derive(Drop)]
+#[derive(Clone, Copy)]
 struct Held {
     what: u32,
     low: u32,
@@ -186,7 +186,7 @@ fn held_of(h: Hit) -> Held
 }
 
 // What the tables give: a translation's numbers without the count.
-#[derive(Drop)]
+#[derive(Clone, Copy)]
 struct Walked {
     what: u32,
     number: u32,

@@ -11,7 +11,7 @@ ghost use Rattle.definition.specs.Trace.{first_registers};
 use definition::{Range, Registers, Root};
 
 // What the program keeps beside the caches and the longs: the registers, and the first `n` of sixteen ranges.
-#[derive(Drop)]
+#[derive(Clone, Copy)]
 pub struct Kept {
     pub registers: Registers,
     pub list: [Range; 16],

@@ -10,14 +10,14 @@ use cache::atc040::Atc040;
 use trace::{Record, Seen};
 
 // A whole record at a place of the buffer: where its body starts and ends.
-#[derive(Drop)]
+#[derive(Clone, Copy)]
 pub enum Whole {
     Body { start: usize, end: usize },
     Nothing,
 }
 
 // Why a run stopped: no whole record is left, the next one is malformed, or there is no room for a line.
-#[derive(Drop)]
+#[derive(Clone, Copy)]
 pub enum Why {
     Input,
     Malformed,
@@ -25,7 +25,7 @@ pub enum Why {
 }
 
 // What is kept after a run, how many bytes it read and wrote, and why it stopped.
-#[derive(Drop)]
+#[derive(Clone, Copy)]
 pub struct Ran {
     pub kept: Kept,
     pub read: usize,

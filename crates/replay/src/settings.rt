@@ -11,7 +11,7 @@ use definition::{Range, Registers};
 use trace::{Line, Setting};
 
 // A line, with what is kept after it.
-#[derive(Drop)]
+#[derive(Clone, Copy)]
 pub struct Step {
     pub line: Line,
     pub kept: Kept,

@@ -2,7 +2,7 @@
 use streams::Got;
 
 // What a file gave: so many bytes, or why not.
-#[derive(Drop)]
+#[derive(Clone, Copy)]
 pub enum Held {
     Bytes(usize),
     Unopened,

@@ -8,7 +8,7 @@ use libc::{STDERR_FILENO, STDOUT_FILENO};
 // ---- In.
 
 // What a read gave: how many bytes wait with those that came, or that the input ended, or that it failed.
-#[derive(Drop)]
+#[derive(Clone, Copy)]
 pub enum Got {
     Waiting(usize),
     Ended,

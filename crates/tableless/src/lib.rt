@@ -12,7 +12,7 @@ use cache::CachePair;
 use definition::{Flush, Probe, Registers};
 
 // An answer and the next caches.
-#[derive(Drop)]
+#[derive(Clone, Copy)]
 pub struct Flushed {
     pub answer: Flush,
     pub caches: CachePair,

@@ -16,21 +16,21 @@ use memory::registers::tc_of;
 use walk030::Walked;
 
 // What is settled before the tables are asked: the answer itself, or the walk to make.
-#[derive(Drop)]
+#[derive(Clone, Copy)]
 pub enum Plan {
     Settled(Test),
     Walk030,
 }
 
 // The walk that the plan asked for is made: the answer itself, or how the walk ended.
-#[derive(Drop)]
+#[derive(Clone, Copy)]
 pub enum Found {
     Settled(Test),
     By030(Walked),
 }
 
 // An answer with its count.
-#[derive(Drop)]
+#[derive(Clone, Copy)]
 pub struct TestOutcome {
     pub answer: Test,
     pub count: u32,

@@ -10,14 +10,14 @@ ghost use Rattle.trace.specs.Lines.{line_in, Wrote, RoomFor, Put};
 use definition::{Access, Override, Range, Registers, Root};
 
 // An access, or another record.
-#[derive(Drop)]
+#[derive(Clone, Copy)]
 pub enum Seen {
     Access(Access),
     Other,
 }
 
 // A call that a record makes which is no access.
-#[derive(Drop)]
+#[derive(Clone, Copy)]
 pub enum Call {
     Load {
         code: u32,
@@ -52,7 +52,7 @@ pub enum Call {
 }
 
 // What a record sets for the calls after it: the registers, a long of the tables, one more range.
-#[derive(Drop)]
+#[derive(Clone, Copy)]
 pub enum Setting {
     Registers(Registers),
     Long { address: u32, value: u32 },
@@ -60,7 +60,7 @@ pub enum Setting {
 }
 
 // What a record's body says.
-#[derive(Drop)]
+#[derive(Clone, Copy)]
 pub enum Record {
     Call(Call),
     Set(Setting),
@@ -68,7 +68,7 @@ pub enum Record {
 }
 
 // A line of the output.
-#[derive(Drop)]
+#[derive(Clone, Copy)]
 pub enum Line {
     A {
         address: u32,

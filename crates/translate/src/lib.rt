@@ -21,7 +21,7 @@ use walk030::Walked;
 use walk040::Walked040;
 
 // What is settled before the tables are asked: the answer itself, or the walk to make.
-#[derive(Drop)]
+#[derive(Clone, Copy)]
 pub enum Plan {
     Settled(Translation),
     Walk030 { code: u32 },
@@ -29,14 +29,14 @@ pub enum Plan {
 }
 
 // An answer with its count: how many longs were asked for.
-#[derive(Drop)]
+#[derive(Clone, Copy)]
 pub struct Outcome {
     pub answer: Translation,
     pub count: u32,
 }
 
 // The walk that the plan asked for is made: the answer itself, or how the walk ended.
-#[derive(Drop)]
+#[derive(Clone, Copy)]
 pub enum Found {
     Settled(Translation),
     By030 { code: u32, walk: Walked },

@@ -10,13 +10,13 @@ use libc::STDOUT_FILENO;
 // ---- A text.
 
 // Where the next number of a text starts.
-#[derive(Drop)]
+#[derive(Clone, Copy)]
 pub struct Cursor {
     pub at: usize,
 }
 
 // What stands at a cursor: a number, the row's last where a line's end comes after it. End: the text ends before the number does.
-#[derive(Drop)]
+#[derive(Clone, Copy)]
 pub enum Number {
     Is {
         value: u32,
@@ -28,7 +28,7 @@ pub enum Number {
 }
 
 // What stands at a cursor: a row of so many numbers. End: the text ends before the row does.
-#[derive(Drop)]
+#[derive(Clone, Copy)]
 pub enum Row {
     Whole { count: usize, next: Cursor },
     End,
@@ -115,14 +115,14 @@ fn read_row(text: &[u8], c: Cursor, numbers: &mut [u32]) -> Row
 // ---- A file, a buffer at a time.
 
 // The bytes of a buffer that are read and not used yet: from `from` up to `to`.
-#[derive(Drop)]
+#[derive(Clone, Copy)]
 pub struct Window {
     pub from: usize,
     pub to: usize,
 }
 
 // The next row of a file, with what is left of the buffer. End: there is none.
-#[derive(Drop)]
+#[derive(Clone, Copy)]
 enum Next {
     Row { count: usize, rest: Window },
     End,
@@ -200,7 +200,7 @@ fn next_row(fd: i32, buf: &mut [u8; 65536], w: Window, numbers: &mut [u32; 128])
 
 // How far it is: whether there is a row to judge, and of how many numbers; what is left of the buffer; how many rows were
 // judged, and how many of them differ.
-#[derive(Drop)]
+#[derive(Clone, Copy)]
 pub struct Progress {
     pub on: bool,
     pub count: usize,

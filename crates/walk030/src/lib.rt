@@ -16,7 +16,7 @@ use memory::page030::widths;
 use memory::registers::tc_of;
 
 // How a 68030 walk ended, with WP and S, the levels, the last descriptor's address and the number of longs asked for.
-#[derive(Drop)]
+#[derive(Clone, Copy)]
 pub struct Walked {
     pub end: End,
     pub wp: bool,

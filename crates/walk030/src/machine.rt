@@ -11,7 +11,7 @@ use memory::descriptor::{Descriptor, entry, kind_of, table_of, target_of};
 
 // Where a 68030 walk stands before a descriptor. `target`: the next is the target of an indirect one. `coded`: the
 // function-code level is next. `k` is the number of widths consumed, `last` the last descriptor asked for or the next.
-#[derive(Drop)]
+#[derive(Clone, Copy)]
 pub struct Walking030 {
     target: bool,
     coded: bool,

@@ -14,7 +14,7 @@ use memory::longs::fetch;
 use memory::registers::tc_of;
 
 // How a 68040 walk ended, and the number of longs asked for.
-#[derive(Drop)]
+#[derive(Clone, Copy)]
 pub struct Walked040 {
     pub end: End040,
     pub asked: u32,

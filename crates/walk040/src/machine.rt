@@ -10,7 +10,7 @@ use memory::bits::bit;
 use memory::descriptor::{entry, target_of};
 
 // What a long of a 68040 walk is: an entry of one of the three tables, or the target of an indirect one.
-#[derive(Drop)]
+#[derive(Clone, Copy)]
 enum Level {
     Root,
     Pointer,
@@ -19,7 +19,7 @@ enum Level {
 }
 
 // Where a 68040 walk stands before a long: the one at `at` is next, `wp` is W of the levels above it, `asked` the number of those before it.
-#[derive(Drop)]
+#[derive(Clone, Copy)]
 pub struct Walking040 {
     level: Level,
     wp: bool,

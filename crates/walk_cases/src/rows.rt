@@ -6,14 +6,14 @@ ghost use Rattle.walk_cases.specs.Rows.{Room};
 use definition::{Range, Registers, Root};
 
 // How many pairs and ranges a row has, if it has a row's length.
-#[derive(Drop)]
+#[derive(Clone, Copy)]
 pub enum Parts {
     Are { pairs: usize, ranges: usize },
     Malformed,
 }
 
 // A case: what a walk is given, but for the longs.
-#[derive(Drop)]
+#[derive(Clone, Copy)]
 pub struct Case {
     pub registers: Registers,
     pub address: u32,

@@ -9,7 +9,7 @@ use replay::run::Why;
 use trace::Line;
 
 // The lines are so many bytes at the start of the output; or there was no room for them.
-#[derive(Drop)]
+#[derive(Clone, Copy)]
 pub enum Played {
     Lines(usize),
     NoRoom,
