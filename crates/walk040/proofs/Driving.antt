@@ -5,12 +5,11 @@ use mathlib.Core.List.{List, [], ◌∷◌, ◌++◌}
 use mathlib.Core.Bool.{Bool, true, false, not, ◌||◌}
 use native.Mathlib.Omega.{arith}
 use borrow.Author.Tests.{eqb-true}
-use lib.Dec.{T, ltb, eqb}
+use lib.Dec.{ltb, eqb}
 use lib.ListN.{length, length-append}
 use Rattle.definition.specs.Words.{if◌then◌else◌, bit_of}
 use Rattle.definition.specs.Memory.{Memory, fetch_of}
-use Rattle.definition.specs.Walk040.{Outcome040, ended040, asks, root_at, pointer_at, page_at, on_page, on_entry, walk040, walk040_from}
-use Rattle.definition.specs.declared.Registers.{Registers}
+use Rattle.definition.specs.Walk040.{Outcome040, ended040, asks, pointer_at, page_at, on_page, on_entry, walk040_from}
 use Rattle.definition.specs.declared.Fetched.{Fetched}
 use Rattle.definition.specs.declared.Fetched.TheVariants.{Long, Failed}
 use Rattle.definition.specs.declared.End040.{End040}
@@ -23,7 +22,7 @@ use Rattle.walk040.specs.declared.machine.Level.{Level}
 use Rattle.walk040.specs.declared.machine.Level.TheVariants as level
 use Rattle.walk040.specs.declared.Walked040.{Walked040}
 use Rattle.walk040.specs.declared.machine.Walking040.{Walking040}
-use Rattle.memory.proofs.Tests.{T_true, T_false, clash}
+use Rattle.memory.proofs.Tests.{clash}
 
 -- how many longs can still be asked for
 abbrev pub depth : Level → ℕ
@@ -110,99 +109,79 @@ module _ (m : Memory) (tc first address : ℕ) where
   abbrev pub whole : Outcome040
   whole = walk040_from m tc first address
 
-  -- what is known at the loop's head
-  pub record Turn : Type 0 where
-    pub s : Walking040
+  -- what is known at the loop's head, where the walk stands at s
+  pub record Turn (s : Walking040) : Type 0 where
     pub before : List ℕ
     pub same : whole ≡ rest s before
     pub counted : length before ≡ s.asked
     pub room : s.asked + depth s.level ≤ 4
 
-  abbrev pub left : Turn → ℕ
-  left t = depth t.s.level
-
   -- where it begins
-  module _ {s : Walking040} (e : s ≡ begin040 first) where
-    pub begin_same : whole ≡ rest s []
-    begin_same = rw e
+  pub begin : (s : Walking040) → s ≡ begin040 first → Turn s
+  begin s e = record { before = []; same = rw e; counted = rw e; room = rw e (omega arith) }
 
-    pub begin_counted : length {A = ℕ} [] ≡ s.asked
-    begin_counted = rw e
-
-    pub begin_room : s.asked + depth s.level ≤ 4
-    begin_room = rw e (omega arith)
-
-    abbrev pub begin : Turn
-    begin = record { s = s; before = []; same = begin_same; counted = begin_counted; room = begin_room }
-
-  -- a turn: the long is asked for
-  module _ (t : Turn) where
+  -- the long is asked for
+  module _ (s : Walking040) (t : Turn s) where
     abbrev pub after : List ℕ
-    after = t.before ++ (t.s.at ∷ [])
+    after = t.before ++ (s.at ∷ [])
 
-    after_length : length after ≡ t.s.asked + 1
-    after_length = omega (arith, length-append t.before (t.s.at ∷ []), t.counted)
+    after_length : length after ≡ s.asked + 1
+    after_length = omega (arith, length-append t.before (s.at ∷ []), t.counted)
 
-    -- what `next_040` and `answer_040` ask
-    pub few : t.s.asked < 1000
+    -- what `next` and `answer` ask
+    pub few : s.asked < 1000
     few = omega (arith, t.room)
 
     -- the walk ends here
-    ended_so : (e : End040) → whole ≡ ended040 e after → {x : End040} → x ≡ e → {a : Walked040} → a ≡ answered040 t.s x → a ≡ shown040 whole
+    ended_so : (e : End040) → whole ≡ ended040 e after → {x : End040} → x ≡ e → {a : Walked040} → a ≡ answered040 s x → a ≡ shown040 whole
     ended_so e ew ex ea = ea ∙ rw (ex, ew, after_length)
 
-    module _ {w : ℕ} (ew : w ≡ t.s.at) {f : Fetched} (ef : f ≡ fetch_of m w) where
-      gave : fetch_of m t.s.at ≡ f
+    module _ {w : ℕ} (ew : w ≡ s.at) {f : Fetched} (ef : f ≡ fetch_of m w) where
+      gave : fetch_of m s.at ≡ f
       gave = ap (fetch_of m) (sym ew) ∙ sym ef
 
       -- the way out at a bus error
-      pub ends_lost : f ≡ Failed → {a : Walked040} → a ≡ answered040 t.s (Lost w) → a ≡ shown040 whole
-      ends_lost h ea = ended_so (Lost t.s.at) (t.same ∙ rw (gave ∙ h)) (ap Lost ew) ea
+      pub ends_lost : f ≡ Failed → {e : End040} → e ≡ Lost w → {a : Walked040} → a ≡ answered040 s e → a ≡ shown040 whole
+      ends_lost h ee ea = ended_so (Lost s.at) (t.same ∙ rw (gave ∙ h)) (ee ∙ ap Lost ew) ea
 
-      module _ {x : ℕ} (ex : f ≡ Long x) {i : Bool} (ei : i ≡ invalid040 t.s.level x) where
+      module _ {x : ℕ} (ex : f ≡ Long x) {i : Bool} (ei : i ≡ invalid040 s.level x) where
         decided : whole
             ≡ (if i
-            then ended040 (Absent (missing040 t.s.level)) after
-            else if page040 t.s.level x
-            then ended040 (resident t.s.wp x) after
-            else rest (next040 tc address t.s.level t.s.wp x (t.s.asked + 1)) after)
-        decided = t.same ∙ rw (gave ∙ ex) (rw ei (decides t.s.level t.s.wp x (t.s.asked + 1) after))
+            then ended040 (Absent (missing040 s.level)) after
+            else if page040 s.level x
+            then ended040 (resident s.wp x) after
+            else rest (next040 tc address s.level s.wp x (s.asked + 1)) after)
+        decided = t.same ∙ rw (gave ∙ ex) (rw ei (decides s.level s.wp x (s.asked + 1) after))
 
         -- the way out at an invalid long
-        pub ends_absent : T i → {c : FaultCause} → c ≡ missing040 t.s.level → {a : Walked040} → a ≡ answered040 t.s (Absent c) → a ≡ shown040 whole
-        ends_absent hi ec ea = ended_so (Absent (missing040 t.s.level)) (decided ∙ rw (T_true i hi)) (ap Absent ec) ea
+        pub ends_absent : i ≡ true → {c : FaultCause} → c ≡ missing040 s.level → {e : End040} → e ≡ Absent c → {a : Walked040} → a ≡ answered040 s e → a ≡ shown040 whole
+        ends_absent hi ec ee ea = ended_so (Absent (missing040 s.level)) (decided ∙ rw hi) (ee ∙ ap Absent ec) ea
 
-        module _ (hi : T (not i)) {p : Bool} (ep : p ≡ page040 t.s.level x) where
+        module _ (hi : i ≡ false) {p : Bool} (ep : p ≡ page040 s.level x) where
           -- the way out at a page
-          pub ends_page : T p → {wp : Bool} → wp ≡ (t.s.wp || bit_of x 2) → {sup : Bool} → sup ≡ bit_of x 7 → {a : Walked040} → a ≡ answered040 t.s (Resident x wp sup)
+          pub ends_page : p ≡ true → {wp : Bool} → wp ≡ (s.wp || bit_of x 2) → {sup : Bool} → sup ≡ bit_of x 7 → {e : End040} → e ≡ Resident x wp sup → {a : Walked040} → a ≡ answered040 s e
               → a ≡ shown040 whole
-          ends_page hp ewp esup ea = ended_so (resident t.s.wp x) (decided ∙ rw (T_false i hi, sym ep ∙ T_true p hp)) (rw (ewp, esup)) ea
+          ends_page hp ewp esup ee ea = ended_so (resident s.wp x) (decided ∙ rw (hi, sym ep ∙ hp)) (ee ∙ rw (ewp, esup)) ea
 
           -- the walk goes on
-          module _ (hp : T (not p)) {r : Walking040} (er : r ≡ next040 tc address t.s.level t.s.wp x (t.s.asked + 1)) where
-            no_page : page040 t.s.level x ≡ false
-            no_page = sym ep ∙ T_false p hp
+          module _ (hp : p ≡ false) {r : Walking040} (er : r ≡ next040 tc address s.level s.wp x (s.asked + 1)) where
+            no_page : page040 s.level x ≡ false
+            no_page = sym ep ∙ hp
 
-            pub next_same : whole ≡ rest r after
-            next_same = decided ∙ rw (T_false i hi, no_page, er)
+            next_same : whole ≡ rest r after
+            next_same = decided ∙ rw (hi, no_page, er)
 
-            next_asked : r.asked ≡ t.s.asked + 1
-            next_asked = rw er (counts t.s.level t.s.wp x (t.s.asked + 1))
+            next_asked : r.asked ≡ s.asked + 1
+            next_asked = rw er (counts s.level s.wp x (s.asked + 1))
 
-            pub next_counted : length after ≡ r.asked
+            next_counted : length after ≡ r.asked
             next_counted = after_length ∙ sym next_asked
 
-            pub less : depth r.level < depth t.s.level
-            less = rw er (deeper t.s.level t.s.wp x (t.s.asked + 1) no_page)
+            pub less : depth r.level < depth s.level
+            less = rw er (deeper s.level s.wp x (s.asked + 1) no_page)
 
-            pub next_room : r.asked + depth r.level ≤ 4
+            next_room : r.asked + depth r.level ≤ 4
             next_room = omega (arith, t.room, next_asked, less)
 
-            abbrev pub next : Turn
-            next = record { s = r; before = after; same = next_same; counted = next_counted; room = next_room }
-
--- from the root table's entry of a supervisor or a user it is the definition's walk
-pub from_root : (m : Memory) (g : Registers) (address : ℕ) (supervisor : Bool) {tc : ℕ} → tc ≡ g.tc → {first : ℕ} → first ≡ root_at g supervisor address
-    → {w : Walked040} → w ≡ shown040 (walk040_from m tc first address) → w ≡ shown040 (walk040 m g address supervisor)
-unfolding walk040
-from_root m g address supervisor et ef ew = ew ∙ rw (et, ef)
+            pub next : Turn r
+            next = record { before = after; same = next_same; counted = next_counted; room = next_room }

@@ -65,6 +65,7 @@ fn walk_040(
 }
 
 // The walk of a supervisor or a user under these registers.
+#[tactic(auto, unfolding(definition::specs::Walk040::walk040))]
 pub fn walk(
     longs: &[u32],
     base: u32,

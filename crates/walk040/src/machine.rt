@@ -131,6 +131,7 @@ pub fn s_of(page: u32) -> bool
 }
 
 // Where the long leads: to the next table, or to the target at & FFFFFFFC, which is fetched once.
+#[tactic(auto, unfolding(crate::specs::Machine::next040))]
 pub fn next(s: Walking040, tc: u32, address: u32, x: u32) -> Walking040
     requires { s.asked < 1000 }
     ensures { result ≡ next040 tc address s.level s.wp x (s.asked + 1) }
