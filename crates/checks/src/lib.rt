@@ -61,6 +61,7 @@ pub fn sized(c: &[u64]) {}
 pub fn lengths(c030: &[u64], c040: &[u64]) {}
 
 // The first that applies in the order 1, 6, 5, 2, 3, 4; 0 where none does.
+#[tactic(auto, unfolding(definition::specs::Refusal::refusal_of))]
 pub fn first_refusal(one: bool, six: bool, five: bool, two: bool, three: bool, four: bool) -> u32
     ensures { result ≡ refusal_of (checks_of one six five two three four) }
 {
