@@ -3,7 +3,7 @@
 
 ghost use Rattle.streams.specs.Filled.{Filled};
 
-use std::io::{Print, Read};
+use std::io::Read;
 
 // ---- In.
 
