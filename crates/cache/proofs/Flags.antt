@@ -5,13 +5,7 @@ use mathlib.Core.Bool.{Bool, true, false, not}
 use native.Mathlib.Omega.{arith}
 use native.Mathlib.Nat.{le_refl, le_trans, div-eq_of_lt, pow-le-pow_right}
 use borrow.Author.Tests.{eq-eqb, ne_eqb, eqb-true, eqb-false}
-use mir.Val.{bool_byte}
 use Rattle.cache.specs.Packed.{bit, odd}
-
--- a flag that is cast to a number
-pub bit_is : (b : Bool) → bool_byte b ≡ bit b
-bit_is true = refl
-bit_is false = refl
 
 pub bit_small : (b : Bool) → bit b ≤ 1
 bit_small true = le_refl 1

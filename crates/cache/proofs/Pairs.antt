@@ -3,7 +3,7 @@ use Prim.Native.Nat.{ℕ, ◌+◌}
 use mathlib.Core.Path.{◌≡◌, ap, sym, ◌∙◌}
 use mathlib.Core.List.{List, [], ◌∷◌, ◌++◌}
 use native.Mathlib.Omega.{arith}
-use lib.ListN.{length, get_or, drop, take-append-drop, drop_of_length-le}
+use lib.ListN.{length, drop, take-append-drop, drop_of_length-le}
 use lib.Seq.{drop-drop, drop-cons}
 use Rattle.definition.specs.Cache030.{Cache030}
 use Rattle.definition.specs.Cache040.{Cache040}

@@ -1,8 +1,8 @@
 -- Request 01: the listed ranges ascend and do not overlap, so a list that is broken off is the unbroken one up to the range to go on from. Assumes nothing.
-use Prim.Native.Nat.{ℕ, zero, suc, ◌+◌, ◌-◌, ◌*◌, ◌/◌, ◌%◌, ◌^◌, ◌<◌, ◌≤◌}
+use Prim.Native.Nat.{ℕ, zero, suc, ◌+◌, ◌-◌, ◌*◌, ◌/◌, ◌^◌, ◌<◌, ◌≤◌}
 use mathlib.Core.Path.{◌≡◌, refl, sym, ap, subst, ◌∙◌}
 use mathlib.Core.List.{List, [], ◌∷◌, ◌++◌, append_assoc}
-use mathlib.Core.Bool.{Bool, true, false}
+use mathlib.Core.Bool.{Bool}
 use native.Mathlib.Omega.{arith}
 use native.Mathlib.Decide.{dec_le}
 use native.Mathlib.Nat.{le_trans, le_refl, suc-mul}
@@ -12,14 +12,14 @@ use lib.Pow.{pow_pos}
 use lib.Dec.{ltb, eqb}
 use Rattle.definition.specs.Memory.{Memory}
 use Rattle.definition.specs.Walk030.{read_of}
-use Rattle.definition.specs.List.{page_at, lost_at, seen_target, table_at, seen_by, seen_of, entry_at, gather, ranges_in, none_left, table_ranges, entry_ranges, end_of, ranges_from}
+use Rattle.definition.specs.List.{page_at, seen_target, table_at, seen_by, seen_of, entry_at, gather, ranges_in, none_left, table_ranges, entry_ranges, end_of, ranges_from}
 use Rattle.definition.specs.Walk030.{Descriptor, Whole, Lost}
 use Rattle.definition.specs.declared.Mapped.{Mapped}
 use Rattle.definition.specs.declared.Node.{Node}
 use Rattle.definition.specs.declared.Seen.{Seen}
 use Rattle.definition.specs.declared.Seen.TheVariants.{Nothing, One, Opens}
 use Rattle.definition.proofs.Choice.{if_both}
-use Rattle.definition.proofs.Stretches.{Aligned, Stretch, stretch, size_is, Fits, fits_most}
+use Rattle.definition.proofs.Stretches.{Aligned, stretch, size_is, Fits, fits_most}
 
 -- ---- in order
 -- ranges from `lo` on that end at `hi` or before, each behind the one before it

@@ -12,7 +12,7 @@ use Rattle.definition.specs.Words.{if◌then◌else◌, any_of}
 use Rattle.definition.specs.Refusal.{refusal_of}
 use Rattle.definition.specs.Translate.{in_order, translate, empty_caches}
 use Rattle.definition.specs.Calls.{Line, A, K, R, translation_line, calling}
-use Rattle.definition.specs.Trace.{Record, Malformed, record_of, State, malformed_line, step_of, hex, decimal_in, text, first_state, is_malformed, Front, Ended, Body, Short, front_of, records_after, records_of, lines_from, texts, ending, ending_of, play_from, opening, play}
+use Rattle.definition.specs.Trace.{Record, Malformed, record_of, State, malformed_line, step_of, hex, decimal_in, text, first_state, is_malformed, Ended, Body, Short, front_of, records_after, records_of, lines_from, texts, ending, ending_of, play_from, opening, play}
 use Rattle.definition.proofs.Replay.{watched_of, walks_of, Steady, Accepted}
 use Rattle.definition.proofs.Marked.{Marked, record_in, moments_of, turns_from, Under, watched_lines, prints}
 use Rattle.definition.specs.declared.Registers.{Registers}

@@ -1,15 +1,15 @@
 -- Request 01, what a reader leans on: each listed range agrees with the cacheless walk at every address in it; an address in no listed range faults as
 -- invalid; lists that are broken off and gone on with make the unbroken one. Assumes nothing.
-use Prim.Native.Nat.{ℕ, zero, suc, ◌+◌, ◌-◌, ◌*◌, ◌/◌, ◌%◌, ◌^◌, ◌<◌, ◌≤◌}
+use Prim.Native.Nat.{ℕ, ◌+◌, ◌-◌, ◌*◌, ◌/◌, ◌%◌, ◌^◌, ◌<◌, ◌≤◌}
 use mathlib.Core.Path.{◌≡◌, refl, sym, ap, subst, ◌∙◌}
 use mathlib.Core.List.{List, [], ◌∷◌, ◌++◌, append-nil}
 use mathlib.Core.Bool.{Bool, true, false, not, ◌&&◌}
-use mathlib.Core.Logic.{◌⊎◌, inl, inr}
+use mathlib.Core.Logic.{inl, inr}
 use native.Mathlib.Omega.{arith}
 use native.Mathlib.Nat.{mod-le}
 use borrow.Author.Tests.{eq-eqb}
-use lib.Dec.{ltb, leb, eqb}
-use lib.ListN.{length, get_or, take, drop, take-append-drop}
+use lib.Dec.{eqb}
+use lib.ListN.{length, take, drop, take-append-drop}
 use Rattle.definition.specs.Words.{if◌then◌else◌, bit_of}
 use Rattle.definition.specs.Memory.{Memory}
 use Rattle.definition.specs.Registers.{on, walk_code, compared_code, as_instruction}
@@ -29,7 +29,6 @@ use Rattle.definition.specs.declared.Access.{Access}
 use Rattle.definition.specs.declared.Mapped.{Mapped}
 use Rattle.definition.specs.declared.Listed.{Listed}
 use Rattle.definition.specs.declared.Listed.TheVariants as listed
-use Rattle.definition.proofs.Choice.{if_by}
 use Rattle.definition.proofs.Hits030 as hits030
 use Rattle.definition.proofs.Ascending.{Between, joined, from_start}
 use Rattle.definition.proofs.Mapping.{covers, covering, page_over, lost_over, Said, Taken, taken, mapped_says, mapped_ascends}

@@ -14,7 +14,7 @@ use lib.Dec.{ltb, leb, eqb}
 use Rattle.definition.specs.Words.{if◌then◌else◌, bit_of}
 use Rattle.definition.specs.Memory.{Memory}
 use Rattle.definition.specs.Registers.{root_of}
-use Rattle.definition.specs.Walk030.{entry_of, read_of, Step, steps, top_index, Found, Outcome, ended, asking, deeper, guarded, on_target, on_table, on_descriptor, walk_from, start, walk_steps, steps_with, walk030, every_level, low_of, widths_of, used, is_of, sum_of}
+use Rattle.definition.specs.Walk030.{read_of, steps, Found, Outcome, asking, deeper, guarded, on_target, on_table, on_descriptor, walk_from, start, walk_steps, steps_with, walk030, every_level, low_of, widths_of, used, is_of, sum_of}
 use Rattle.definition.specs.List.{page_at, lost_at, seen_target, table_at, seen_by, seen_of, entry_at, gather, ranges_in, none_left, table_ranges, entry_ranges, root_table, code_entry, tree_ranges, mapped, end_of, not_taken}
 use Rattle.definition.specs.Audit.{is_access_code}
 use Rattle.definition.specs.Walk030.{Descriptor, Whole, Lost}
@@ -25,9 +25,9 @@ use Rattle.definition.specs.declared.Root.{Root}
 use Rattle.definition.specs.declared.Mapped.{Mapped}
 use Rattle.definition.specs.declared.Node.{Node}
 use Rattle.definition.specs.declared.Seen.{Seen}
-use Rattle.definition.specs.declared.Seen.TheVariants.{Nothing, One, Opens}
+use Rattle.definition.specs.declared.Seen.TheVariants.{One, Opens}
 use Rattle.definition.proofs.Choice.{if_both, or_left, or_right}
-use Rattle.definition.proofs.Stretches.{Aligned, every_address, offset, Stretch, stretch, size_is, Lies, lies, Fits, fits_most}
+use Rattle.definition.proofs.Stretches.{Aligned, every_address, offset, stretch, Lies, lies, Fits, fits_most}
 use Rattle.definition.proofs.Ascending.{Between, nil, cons, in_order, between_gather, table_inside, entry_inside}
 
 -- ---- the ranges that have an address

@@ -2,13 +2,12 @@
 use Prim.Native.Nat.{ℕ}
 use mathlib.Core.Path.{◌≡◌, refl}
 use mathlib.Core.List.{List, [], ◌∷◌}
-use mathlib.Core.Bool.{Bool, true, false}
+use mathlib.Core.Bool.{true, false}
 use Rattle.definition.specs.Words.{any_of}
 use Rattle.definition.specs.Memory.{memory}
 use Rattle.definition.specs.Walk030.{read_of, widths_of}
 use Rattle.definition.specs.Refusal.{refusal_of}
 use Rattle.definition.specs.List.{Listing, seen_of, gather, table_ranges, tree_ranges, ranges_from, list}
-use Rattle.definition.specs.declared.Registers.{Registers}
 use Rattle.definition.specs.declared.Mapped.{Mapped}
 use Rattle.definition.specs.declared.Listed.{Listed}
 use Rattle.definition.proofs.Examples.{longs_of, registers, tree}

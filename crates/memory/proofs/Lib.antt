@@ -7,4 +7,3 @@ pub mod Frames
 pub mod Touching
 pub mod Searching
 pub mod Branching
-pub mod Lending

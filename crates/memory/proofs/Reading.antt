@@ -1,8 +1,7 @@
 -- What reading a descriptor gives, by what its fetches gave. Assumes nothing.
 use Prim.Native.Nat.{ℕ}
 use mathlib.Core.Path.{◌≡◌, refl, ap, sym, ◌∙◌}
-use mathlib.Core.Bool.{Bool, true, false, not}
-use lib.Dec.{T}
+use mathlib.Core.Bool.{Bool, true, false}
 use Rattle.definition.specs.Words.{if◌then◌else◌}
 use Rattle.definition.specs.Memory.{Memory, fetch_of}
 use Rattle.definition.specs.Walk030.{entry_of, short_of, long_of, read_of}
@@ -10,7 +9,7 @@ use Rattle.definition.specs.declared.Fetched.{Fetched}
 use Rattle.definition.specs.declared.Fetched.TheVariants.{Long, Failed}
 use Rattle.memory.specs.declared.descriptor.Descriptor.{Descriptor}
 use Rattle.memory.specs.Descriptors.{alone, of_two, shown_read}
-use Rattle.memory.proofs.Tests.{T_true, T_false, clash}
+use Rattle.memory.proofs.Tests.{clash}
 
 one_is : (m : Memory) (at : ℕ) (long : Bool) (f : Fetched) → alone long f ≡ true → shown_read (short_of at f) ≡ shown_read (if long then long_of m at f else short_of at f)
 one_is m at true (Long first) h = absurd (clash (sym h))
@@ -24,11 +23,11 @@ two_is m at true Failed h = absurd (clash h)
 two_is m at false (Long first) h = absurd (clash h)
 two_is m at false Failed h = refl
 
-pub read_one : (m : Memory) (at : ℕ) (long : Bool) {f : Fetched} {a : Bool} {d : Descriptor} → f ≡ fetch_of m at → a ≡ alone long f → T a → d ≡ shown_read (short_of at f) → d ≡ shown_read (read_of m at long)
+pub read_one : (m : Memory) (at : ℕ) (long : Bool) {f : Fetched} {d : Descriptor} → f ≡ fetch_of m at → true ≡ alone long f → d ≡ shown_read (short_of at f) → d ≡ shown_read (read_of m at long)
 unfolding read_of
-read_one m at long {f} {a} ef ea h ed = ed ∙ one_is m at long f (sym ea ∙ T_true a h) ∙ rw ef
+read_one m at long {f} ef h ed = ed ∙ one_is m at long f (sym h) ∙ rw ef
 
-pub read_two : (m : Memory) (at : ℕ) (long : Bool) {f : Fetched} {a : Bool} {n : ℕ} {g : Fetched} {d : Descriptor} → f ≡ fetch_of m at → a ≡ alone long f → T (not a)
+pub read_two : (m : Memory) (at : ℕ) (long : Bool) {f : Fetched} {n : ℕ} {g : Fetched} {d : Descriptor} → f ≡ fetch_of m at → false ≡ alone long f
     → n ≡ entry_of at 1 false → g ≡ fetch_of m n → d ≡ of_two at f g → d ≡ shown_read (read_of m at long)
 unfolding read_of
-read_two m at long {f} {a} {n} {g} {d} ef ea h en eg ed = ed ∙ ap (of_two at f) (eg ∙ ap (fetch_of m) en) ∙ two_is m at long f (sym ea ∙ T_false a h) ∙ rw ef
+read_two m at long {f} {n} {g} {d} ef h en eg ed = ed ∙ ap (of_two at f) (eg ∙ ap (fetch_of m) en) ∙ two_is m at long f (sym h) ∙ rw ef

@@ -1,5 +1,5 @@
 // Table memory: the ranges, one long, one descriptor, and the arithmetic of pages.
-// A function that is lent the ranges is thin: its proof is a walk by hand, which tools/ prints.
+
 #![tactic(auto)]
 
 pub mod bits;

@@ -3,7 +3,7 @@ use Prim.Native.Nat.{ℕ, suc, ◌+◌, ◌≤◌}
 use mathlib.Core.Path.{◌≡◌, refl, ap, ◌∙◌}
 use mathlib.Core.Bool.{Bool, true, false}
 use mathlib.Core.List.{List, [], ◌∷◌, ◌++◌}
-use native.Mathlib.Nat.{add-zero, add_suc, suc-add}
+use native.Mathlib.Nat.{add-zero, add-suc, suc-add}
 use native.Mathlib.Omega.{arith}
 use lib.ListN.{length, take, drop, length-append}
 use lib.Seq.{sets, sets-eq, length-sets, length-take-le, take_at}
@@ -11,7 +11,7 @@ use Rattle.trace.specs.Lines.{Wrote, RoomFor, Put}
 
 sets_append : (a b l : List ℕ) (at : ℕ) → sets (sets l at a) (at + length a) b ≡ sets l at (a ++ b)
 sets_append [] b l at = rw add-zero
-sets_append (x ∷ a) b l at = rw (add_suc, ← suc-add at (length a)) (sets_append a b _ (suc at))
+sets_append (x ∷ a) b l at = rw (add-suc, ← suc-add at (length a)) (sets_append a b _ (suc at))
 
 -- before the first write
 pub nothing : (old : List ℕ) (at : ℕ) → Wrote 0 old at [] old at
