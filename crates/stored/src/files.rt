@@ -1,4 +1,7 @@
 // A file by its name, read whole into a buffer.
+use std::fs;
+use std::io::Read;
+use std::rt::Files;
 use streams::Got;
 
 // What a file gave: so many bytes, or why not.
@@ -11,11 +14,11 @@ pub enum Held {
 }
 
 // Reads to the end. A buffer that is full before the end is met is too small.
-fn read_to_end(fd: i32, buffer: &mut [u8]) -> Held {
+fn read_to_end<R: Read>(file: &mut R, buffer: &mut [u8]) -> Held {
     let mut have = 0;
     let mut turns = u64::MAX;
     while turns > 0 && have < buffer.len() {
-        match streams::fill(fd, buffer, have) {
+        match streams::fill(file, buffer, have) {
             Got::Waiting(n) => {
                 have = n;
             }
@@ -32,14 +35,11 @@ fn read_to_end(fd: i32, buffer: &mut [u8]) -> Held {
 }
 
 // The bytes of a file, from the start of the buffer on.
-fn read_file(path: &[u8], buffer: &mut [u8]) -> Held {
-    let fd = os::open_read(path);
-    if fd < 0 {
-        return Held::Unopened;
+fn read_file<F: Files>(rt: &F, path: &str, buffer: &mut [u8]) -> Held {
+    match fs::open(rt, path) {
+        Ok(mut file) => read_to_end(&mut file, buffer),
+        Err(_) => Held::Unopened,
     }
-    let held = read_to_end(fd, buffer);
-    libc::close(fd);
-    held
 }
 
 // Starts a line of a report: a name and a colon.
@@ -67,12 +67,14 @@ pub fn put_why(out: &mut [u8], at: usize, held: Held) -> usize {
 }
 
 // The bytes of the file whose name is `name` with `after` behind it.
-pub fn read_named(name: &[u8], after: &[u8], buffer: &mut [u8]) -> Held {
+pub fn read_named<F: Files>(rt: &F, name: &[u8], after: &[u8], buffer: &mut [u8]) -> Held {
     let mut path = [0u8; 128];
     let at = streams::put_text(&mut path, 0, name);
     let n = streams::put_text(&mut path, at, after);
     if n < 128 {
-        return read_file(&path[..n], buffer);
+        if let Ok(text) = std::str::from_utf8(&path[..n]) {
+            return read_file(rt, text, buffer);
+        }
     }
     Held::Unopened
 }

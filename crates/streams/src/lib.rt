@@ -1,9 +1,9 @@
-// Bytes in and out: a buffer filled from a descriptor, a buffer written to standard output, and text put into a buffer.
+// Bytes in and out: a buffer filled from a reader, a buffer written to standard output, and text put into a buffer.
 #![tactic(auto)]
 
 ghost use Rattle.streams.specs.Filled.{Filled};
 
-use libc::{STDERR_FILENO, STDOUT_FILENO};
+use std::io::Read;
 
 // ---- In.
 
@@ -16,47 +16,45 @@ pub enum Got {
 }
 
 // Reads once, into the buffer from `have` on. The bytes before stay.
-pub fn fill(fd: i32, buffer: &mut [u8], have: usize) -> Got
+pub fn fill<R: Read>(input: &mut R, buffer: &mut [u8], have: usize) -> Got
     ensures { Filled buffer.old have result buffer.new }
 {
     if buffer.len() < have {
         return Got::Failed;
     }
-    let got = libc::read(fd, &mut buffer[have..]);
-    if got < 0 {
-        return Got::Failed;
+    let got = input.read(&mut buffer[have..]);
+    match got {
+        Err(_) => Got::Failed,
+        Ok(0) => Got::Ended,
+        Ok(n) => Got::Waiting(have + n),
     }
-    if got == 0 {
-        return Got::Ended;
-    }
-    Got::Waiting(have + io::count(got, &buffer[have..]))
 }
 
 // ---- Out.
 
 // Writes all of it, or says on standard error that it could not.
-pub fn written(bytes: &[u8]) -> bool {
-    let done = io::write_all(STDOUT_FILENO, bytes);
+pub fn written<P: Print + Eprint>(rt: &P, bytes: &[u8]) -> bool {
+    let done = rt.write_all(bytes).is_ok();
     if !done {
-        io::write_all(STDERR_FILENO, b"a write failed\n");
+        let _ = rt.eprintln("a write failed");
     }
     done
 }
 
 // Writes the first `n` bytes.
-pub fn shown(out: &[u8], n: usize) -> bool {
+pub fn shown<P: Print + Eprint>(rt: &P, out: &[u8], n: usize) -> bool {
     if n <= out.len() {
-        return written(&out[..n]);
+        return written(rt, &out[..n]);
     }
     false
 }
 
 // Writes the first `n` bytes once they are half of the buffer or more: how many wait from then on.
-pub fn passed_on(out: &[u8], n: usize) -> usize {
+pub fn passed_on<P: Print + Eprint>(rt: &P, out: &[u8], n: usize) -> usize {
     if n < out.len() / 2 {
         return n;
     }
-    shown(out, n);
+    shown(rt, out, n);
     0
 }
 

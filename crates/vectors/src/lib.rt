@@ -5,7 +5,7 @@
 ghost use Rattle.std.specs.Prelude.{◌≡◌, ◌+◌, ◌≤◌, length, take, drop};
 ghost use Rattle.vectors.specs.Rows.{digit_of, closed_by, number_at, Ahead, row_at, shown, Within};
 
-use libc::STDOUT_FILENO;
+use std::io::Read;
 
 // ---- A text.
 
@@ -141,14 +141,35 @@ fn move_to_front(buf: &mut [u8], from: usize, n: usize)
     }
 }
 
+// Reads until the buffer is full, the input ends or a read fails: how many bytes came.
+fn read_full<R: Read>(input: &mut R, buf: &mut [u8]) -> usize
+    ensures { result ≤ length buf.new }
+{
+    let mut done = 0;
+    while done < buf.len() {
+        match input.read(&mut buf[done..]) {
+            Ok(0) => {
+                return done;
+            }
+            Ok(n) => {
+                done += n;
+            }
+            Err(_) => {
+                return done;
+            }
+        }
+    }
+    done
+}
+
 // Moves what is not used yet, `n` bytes from `from` on, to the front, and reads on behind it.
-fn refill(fd: i32, buf: &mut [u8], from: usize, n: usize) -> Window
+fn refill<R: Read>(input: &mut R, buf: &mut [u8], from: usize, n: usize) -> Window
     requires { from + n ≤ length buf.old }
     ensures from_value { (result.from ≡ 0) × (n ≤ result.to) × (result.to ≤ length buf.new) }
     ensures buf_after { take n buf.new ≡ take n (drop from buf.old) }
 {
     move_to_front(buf, from, n);
-    let got = io::read_full(fd, &mut buf[n..]);
+    let got = read_full(input, &mut buf[n..]);
     Window {
         from: 0,
         to: n + got,
@@ -172,7 +193,12 @@ fn row_in(buf: &[u8], w: Window, numbers: &mut [u32]) -> Next {
 }
 
 // The next row: where the window ends before the row does, the buffer is filled again, once. A line that is not ended is malformed.
-fn next_row(fd: i32, buf: &mut [u8; 65536], w: Window, numbers: &mut [u32; 128]) -> Next {
+fn next_row<R: Read>(
+    input: &mut R,
+    buf: &mut [u8; 65536],
+    w: Window,
+    numbers: &mut [u32; 128],
+) -> Next {
     let from = w.from;
     let to = w.to;
     if to < from {
@@ -185,7 +211,7 @@ fn next_row(fd: i32, buf: &mut [u8; 65536], w: Window, numbers: &mut [u32; 128])
     let Next::End = here else {
         return here;
     };
-    let more = refill(fd, buf, from, to - from);
+    let more = refill(input, buf, from, to - from);
     let then = row_in(buf, more, numbers);
     let Next::End = then else {
         return then;
@@ -218,10 +244,8 @@ fn one_more(n: u64) -> u64 {
 }
 
 // Says of a row, by its number from 1, that it differs.
-fn say_differs(row: u64) {
-    io::write_all(STDOUT_FILENO, b"row ");
-    io::print_decimal(STDOUT_FILENO, row);
-    io::write_all(STDOUT_FILENO, b" differs\n");
+fn say_differs<P: Print>(rt: &P, row: u64) {
+    let _ = println!(rt; "row {row} differs");
 }
 
 impl Progress {
@@ -237,14 +261,14 @@ impl Progress {
     }
 
     // The row is judged. The first five that differ are told.
-    pub fn judged(self, same: bool) -> Self {
+    pub fn judged<P: Print>(self, rt: &P, same: bool) -> Self {
         let mut p = self;
         p.rows = one_more(self.rows);
         if same {
             return p;
         }
         if self.differ < 5 {
-            say_differs(p.rows);
+            say_differs(rt, p.rows);
         }
         p.differ = one_more(self.differ);
         p
@@ -258,9 +282,15 @@ impl Progress {
     }
 
     // Reads the next row. A malformed one differs, and is the last.
-    pub fn advance(self, fd: i32, buf: &mut [u8; 65536], numbers: &mut [u32; 128]) -> Self {
+    pub fn advance<P: Print, R: Read>(
+        self,
+        rt: &P,
+        input: &mut R,
+        buf: &mut [u8; 65536],
+        numbers: &mut [u32; 128],
+    ) -> Self {
         let w = self.rest;
-        match next_row(fd, buf, w, numbers) {
+        match next_row(input, buf, w, numbers) {
             Next::Row { count, rest } => Progress {
                 on: true,
                 count,
@@ -269,17 +299,16 @@ impl Progress {
                 differ: self.differ,
             },
             Next::End => self.over(),
-            Next::Malformed => self.judged(false).over(),
+            Next::Malformed => self.judged(rt, false).over(),
         }
     }
 
     // Writes the verdict, as `5000 operations, 0 differ`.
-    pub fn print(self, what: &[u8]) {
-        io::print_decimal(STDOUT_FILENO, self.rows);
-        io::write_all(STDOUT_FILENO, b" ");
-        io::write_all(STDOUT_FILENO, what);
-        io::write_all(STDOUT_FILENO, b", ");
-        io::print_decimal(STDOUT_FILENO, self.differ);
-        io::write_all(STDOUT_FILENO, b" differ\n");
+    pub fn print<P: Print>(self, rt: &P, what: &[u8]) {
+        let rows = self.rows;
+        let differ = self.differ;
+        let _ = print!(rt; "{rows} ");
+        let _ = rt.write_all(what);
+        let _ = println!(rt; ", {differ} differ");
     }
 }
