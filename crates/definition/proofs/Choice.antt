@@ -1,7 +1,7 @@
 -- Laws of choice: what holds of the sides of an `if` holds of it; what tests that pass tell. Assumes nothing.
 use mathlib.Core.Path.{◌≡◌, refl}
 use mathlib.Core.Bool.{Bool, true, false, ◌&&◌, ◌||◌, false≢true, true≢false}
-use Rattle.definition.specs.Words.{if◌then◌else◌}
+use Rattle.std.specs.Prelude.{if◌then◌else◌}
 use Rattle.definition.specs.Cache040.{same_bool}
 
 -- what holds of each side, where its test gives it, holds of the choice

@@ -8,7 +8,8 @@ use borrow.Author.Tests.{leb-true}
 use lib.Dec.{leb}
 use lib.ListN.{length, take, drop}
 use lib.Seq.{length-take-le}
-use Rattle.definition.specs.Words.{if◌then◌else◌, any_of}
+use Rattle.std.specs.Prelude.{if◌then◌else◌}
+use Rattle.definition.specs.Words.{any_of}
 use Rattle.definition.specs.Refusal.{refusal_of}
 use Rattle.definition.specs.Translate.{in_order, translate, empty_caches}
 use Rattle.definition.specs.Calls.{Line, A, K, R, translation_line, calling}

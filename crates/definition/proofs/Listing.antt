@@ -10,7 +10,8 @@ use native.Mathlib.Nat.{mod-le}
 use borrow.Author.Tests.{eq-eqb}
 use lib.Dec.{eqb}
 use lib.ListN.{length, take, drop, take-append-drop}
-use Rattle.definition.specs.Words.{if◌then◌else◌, bit_of}
+use Rattle.std.specs.Prelude.{if◌then◌else◌}
+use Rattle.definition.specs.Words.{bit_of}
 use Rattle.definition.specs.Memory.{Memory}
 use Rattle.definition.specs.Registers.{on, walk_code, compared_code, as_instruction}
 use Rattle.definition.specs.Transparent.{transparent}

@@ -8,7 +8,8 @@ use native.Mathlib.Nat.{le_refl, le_of_suc-le-suc, not-suc-le-zero}
 use native.Mathlib.Omega.{arith}
 use native.Mathlib.Decide.{dec_le}
 use lib.ListN.{length, get_or, set, replicate, get_or-eq_default}
-use Rattle.definition.specs.Words.{if◌then◌else◌, all_of, first_of}
+use Rattle.std.specs.Prelude.{if◌then◌else◌}
+use Rattle.definition.specs.Words.{all_of, first_of}
 use Rattle.definition.proofs.Replay.{In}
 use Rattle.definition.proofs.Choice.{and_left, and_right}
 

@@ -11,7 +11,8 @@ use borrow.Author.Tests.{lt-ltb, le-ltb, le-leb, lt-leb, eqb-true, eqb-false, lt
 use lib.ListN.{length}
 use lib.Pow.{pow_pos}
 use lib.Dec.{ltb, leb, eqb}
-use Rattle.definition.specs.Words.{if◌then◌else◌, bit_of}
+use Rattle.std.specs.Prelude.{if◌then◌else◌}
+use Rattle.definition.specs.Words.{bit_of}
 use Rattle.definition.specs.Memory.{Memory}
 use Rattle.definition.specs.Registers.{root_of}
 use Rattle.definition.specs.Walk030.{read_of, steps, Found, Outcome, asking, deeper, guarded, on_target, on_table, on_descriptor, walk_from, start, walk_steps, steps_with, walk030, every_level, low_of, widths_of, used, is_of, sum_of}

@@ -12,7 +12,8 @@ use borrow.Author.Tests.{lt-ltb, eq-eqb}
 use lib.Dec.{eqb, ltb}
 use lib.Pow.{split}
 use lib.ListN.{length, get_or, set, replicate}
-use Rattle.definition.specs.Words.{if◌then◌else◌, bit_of, first_of}
+use Rattle.std.specs.Prelude.{if◌then◌else◌}
+use Rattle.definition.specs.Words.{bit_of, first_of}
 use Rattle.definition.specs.Registers.{on}
 use Rattle.definition.specs.Memory.{Memory, in_ranges, inside, fetch_of}
 use Rattle.definition.specs.Walk040.{Outcome040, ended040, asks, on_long, root_at, pointer_at, page_at, on_page, on_entry, on_pointer, on_root, walk040, page_bits, frame_of}

@@ -10,7 +10,8 @@ use borrow.Author.Tests.{ltb-true, ltb-false, eqb-true, eqb-false, eq-eqb}
 use lib.Dec.{eqb, ltb}
 use lib.ListN.{length, get_or, drop, length-drop}
 use lib.Seq.{get_or-drop}
-use Rattle.definition.specs.Words.{if◌then◌else◌, first_of}
+use Rattle.std.specs.Prelude.{if◌then◌else◌}
+use Rattle.definition.specs.Words.{first_of}
 use Rattle.definition.specs.Memory.{Memory}
 use Rattle.definition.specs.Walk030.{shift_of}
 use Rattle.definition.specs.Cache030.{Cache030, no_entry}

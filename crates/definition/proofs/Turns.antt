@@ -3,7 +3,8 @@ use mathlib.Core.Path.{◌≡◌}
 use mathlib.Core.List.{List, [], ◌∷◌, ◌++◌, map}
 use mathlib.Core.Bool.{Bool, true, false, not, ◌&&◌}
 use mathlib.Core.Logic.{◌⊎◌}
-use Rattle.definition.specs.Words.{if◌then◌else◌, all_of}
+use Rattle.std.specs.Prelude.{if◌then◌else◌}
+use Rattle.definition.specs.Words.{all_of}
 use Rattle.definition.specs.Memory.{Memory}
 use Rattle.definition.specs.Cache030.{Entry}
 use Rattle.definition.specs.Cache040.{Slot}

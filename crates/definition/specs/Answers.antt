@@ -1,5 +1,5 @@
 -- The numbers of the fault kinds and causes.
-use Rattle.definition.specs.Words.{ℕ}
+use Rattle.std.specs.Prelude.{ℕ}
 use Rattle.definition.specs.Types.{FaultKind, FaultCause}
 
 -- 'Fault numbers count from 0 in `mod.rs` order.'

@@ -1,6 +1,7 @@
 -- The audit of a snapshot, added by the port: the first cached entry that is not what the walk of its key finds now, and what the two say.
 -- It reads the family, TC, CRP and SRP alone: neither the transparent registers nor whether the PMMU is on change what it says.
-use Rattle.definition.specs.Words.{ℕ, ◌+◌, ◌*◌, ◌%◌, ◌^◌, Bool, true, false, not, ◌&&◌, ◌||◌, List, eqb, ltb, length, get_or, drop, if◌then◌else◌, bit_of, first_of}
+use Rattle.std.specs.Prelude.{ℕ, ◌+◌, ◌*◌, ◌%◌, ◌^◌, Bool, true, false, not, ◌&&◌, ◌||◌, List, eqb, ltb, length, get_or, drop, if◌then◌else◌}
+use Rattle.definition.specs.Words.{bit_of, first_of}
 use Rattle.definition.specs.Registers.{all_registers, code_of}
 use Rattle.definition.specs.Memory.{Memory}
 use Rattle.definition.specs.Walk030.{Outcome, walk030, every_level, physical_of, shift_of}

@@ -1,5 +1,6 @@
 -- Document 01, 'The caches': the 68030's 22 entries, their matching, insert and flushes.
-use Rattle.definition.specs.Words.{ℕ, ◌+◌, ◌-◌, ◌/◌, ◌^◌, Bool, true, false, ◌&&◌, not, List, map, eqb, ltb, leb, length, get_or, set, replicate, if◌then◌else◌, agrees, first_of, count_of, all_of}
+use Rattle.std.specs.Prelude.{ℕ, ◌+◌, ◌-◌, ◌/◌, ◌^◌, Bool, true, false, ◌&&◌, not, List, map, eqb, ltb, leb, length, get_or, set, replicate, if◌then◌else◌}
+use Rattle.definition.specs.Words.{agrees, first_of, count_of, all_of}
 use Rattle.definition.specs.Types.{Hit, At, Miss}
 
 -- 'keyed by the walk's code .. and page', with the page's base, WP and a stamp

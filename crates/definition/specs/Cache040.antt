@@ -1,5 +1,5 @@
 -- Document 01, 'The caches': the 68040's 64 slots.
-use Rattle.definition.specs.Words.{ℕ, ◌%◌, Bool, true, false, ◌&&◌, ◌||◌, not, List, map, eqb, get_or, set, replicate, if◌then◌else◌}
+use Rattle.std.specs.Prelude.{ℕ, ◌%◌, Bool, true, false, ◌&&◌, ◌||◌, not, List, map, eqb, get_or, set, replicate, if◌then◌else◌}
 use Rattle.definition.specs.Types.{Hit, At, Miss}
 
 -- 'key frame .. and supervisor', with the page's base, W and S

@@ -1,5 +1,5 @@
 -- The calls as one type, and the line that document 01 gives each of their answers ('The trace and the program').
-use Rattle.definition.specs.Words.{ℕ, Bool, length}
+use Rattle.std.specs.Prelude.{ℕ, Bool, length}
 use Rattle.definition.specs.Answers.{kind_number, cause_number}
 use Rattle.definition.specs.Memory.{Memory}
 use Rattle.definition.specs.Translate.{Caches, Translated, translate}

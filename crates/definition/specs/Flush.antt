@@ -1,5 +1,5 @@
 -- Document 01, 'The caches': the four flushes as calls.
-use Rattle.definition.specs.Words.{ℕ, Bool, false, ◌||◌}
+use Rattle.std.specs.Prelude.{ℕ, Bool, false, ◌||◌}
 use Rattle.definition.specs.Cache030.{Cache030, flushed_all, flushed_code, flushed_page}
 use Rattle.definition.specs.Cache040.{Cache040, flushed_all040, flushed_frame}
 use Rattle.definition.specs.Refusal.{Checks, checks, bad_cache, bad_frame, above_seven, unless}

@@ -1,6 +1,7 @@
 -- Request 01, 'List what a table tree maps': the ranges of a 68030 tree in one code, over the walk's own descriptors and levels (`Walk030`).
 -- That the list is what the walks find, address by address, is proved (proofs/Mapping.antt).
-use Rattle.definition.specs.Words.{ℕ, zero, suc, ◌+◌, ◌-◌, ◌*◌, ◌/◌, ◌%◌, ◌^◌, List, [], ◌∷◌, ◌++◌, Bool, true, false, not, ◌||◌, ltb, eqb, length, take, drop, if◌then◌else◌, bit_of}
+use Rattle.std.specs.Prelude.{ℕ, zero, suc, ◌+◌, ◌-◌, ◌*◌, ◌/◌, ◌%◌, ◌^◌, List, [], ◌∷◌, ◌++◌, Bool, true, false, not, ◌||◌, ltb, eqb, length, take, drop, if◌then◌else◌}
+use Rattle.definition.specs.Words.{bit_of}
 use Rattle.definition.specs.Types.{Registers, Root}
 use Rattle.definition.specs.Memory.{Memory}
 use Rattle.definition.specs.Registers.{root_of}

@@ -1,5 +1,5 @@
 -- Document 01, 'The 68030 walk': PLOAD.
-use Rattle.definition.specs.Words.{ℕ, List, [], Bool, true, false, not, if◌then◌else◌}
+use Rattle.std.specs.Prelude.{ℕ, List, [], Bool, true, false, not, if◌then◌else◌}
 use Rattle.definition.specs.Registers.{on}
 use Rattle.definition.specs.Memory.{Memory}
 use Rattle.definition.specs.Transparent.{transparent030}

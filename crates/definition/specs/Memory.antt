@@ -1,5 +1,6 @@
 -- Document 01, 'What a call is given': table memory, and what asking for one long gives.
-use Rattle.definition.specs.Words.{ℕ, ◌+◌, ◌-◌, ◌/◌, ◌%◌, List, Bool, not, ◌&&◌, ◌||◌, length, get_or, ltb, leb, eqb, if◌then◌else◌, any_of}
+use Rattle.std.specs.Prelude.{ℕ, ◌+◌, ◌-◌, ◌/◌, ◌%◌, List, Bool, not, ◌&&◌, ◌||◌, length, get_or, ltb, leb, eqb, if◌then◌else◌}
+use Rattle.definition.specs.Words.{any_of}
 use Rattle.definition.specs.Types.{Range, Fetched, Long, Failed}
 
 -- 'lent longs from a base address, and bus-error ranges'

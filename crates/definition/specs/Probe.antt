@@ -1,5 +1,5 @@
 -- Document 01, 'The caches': the probe.
-use Rattle.definition.specs.Words.{ℕ, ◌/◌, ◌^◌, Bool, false, not, eqb, if◌then◌else◌}
+use Rattle.std.specs.Prelude.{ℕ, ◌/◌, ◌^◌, Bool, false, not, eqb, if◌then◌else◌}
 use Rattle.definition.specs.Registers.{on, code_of}
 use Rattle.definition.specs.Transparent.{transparent}
 use Rattle.definition.specs.Walk030.{shift_of}

@@ -1,5 +1,6 @@
 -- Document 01, 'Numbers of refusal': what each number says, and the order in which they are given.
-use Rattle.definition.specs.Words.{ℕ, ◌+◌, ◌*◌, ◌%◌, ◌^◌, List, [], ◌∷◌, Bool, false, not, ◌&&◌, ◌||◌, ltb, leb, eqb, length, if◌then◌else◌, any_of}
+use Rattle.std.specs.Prelude.{ℕ, ◌+◌, ◌*◌, ◌%◌, ◌^◌, List, [], ◌∷◌, Bool, false, not, ◌&&◌, ◌||◌, ltb, leb, eqb, length, if◌then◌else◌}
+use Rattle.definition.specs.Words.{any_of}
 use Rattle.definition.specs.Memory.{Memory}
 use Rattle.definition.specs.Cache030.{Cache030}
 use Rattle.definition.specs.Types.{Range, Override}

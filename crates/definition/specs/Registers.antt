@@ -1,5 +1,6 @@
 -- Document 01, 'What a call is given': what follows from the registers and the access alone.
-use Rattle.definition.specs.Words.{ℕ, ◌%◌, Bool, true, false, ◌&&◌, eqb, if◌then◌else◌, bit_of}
+use Rattle.std.specs.Prelude.{ℕ, ◌%◌, Bool, true, false, ◌&&◌, eqb, if◌then◌else◌}
+use Rattle.definition.specs.Words.{bit_of}
 use Rattle.definition.specs.Types.{Registers, Root, Access, Override}
 
 -- 'Registers', in the order of document 01: the family, the two flags, and 11 longs

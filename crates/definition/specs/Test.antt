@@ -1,5 +1,6 @@
 -- Document 01, 'The 68030 walk': PTEST.
-use Rattle.definition.specs.Words.{ℕ, ◌+◌, ◌%◌, List, [], Bool, false, not, ◌&&◌, ◌||◌, eqb, if◌then◌else◌, bit_of}
+use Rattle.std.specs.Prelude.{ℕ, ◌+◌, ◌%◌, List, [], Bool, false, not, ◌&&◌, ◌||◌, eqb, if◌then◌else◌}
+use Rattle.definition.specs.Words.{bit_of}
 use Rattle.definition.specs.Memory.{Memory}
 use Rattle.definition.specs.Transparent.{transparent030}
 use Rattle.definition.specs.Walk030.{Outcome, walk030}

@@ -1,5 +1,6 @@
 -- Document 01, 'The trace and the program': what each record means, what is malformed, which line it prints, and how a whole file plays.
-use Rattle.definition.specs.Words.{ℕ, zero, suc, ◌+◌, ◌*◌, ◌/◌, ◌%◌, ◌^◌, List, [], ◌∷◌, ◌++◌, Bool, true, false, not, ◌&&◌, ltb, leb, eqb, length, get_or, set, take, drop, replicate, if◌then◌else◌, bit_of}
+use Rattle.std.specs.Prelude.{ℕ, zero, suc, ◌+◌, ◌*◌, ◌/◌, ◌%◌, ◌^◌, List, [], ◌∷◌, ◌++◌, Bool, true, false, not, ◌&&◌, ltb, leb, eqb, length, get_or, set, take, drop, replicate, if◌then◌else◌}
+use Rattle.definition.specs.Words.{bit_of}
 use Rattle.definition.specs.Registers.{all_registers}
 use Rattle.definition.specs.Memory.{Memory, memory}
 use Rattle.definition.specs.Refusal.{Checks, checks, no_family, bad_store, crossed, no_room, unless}

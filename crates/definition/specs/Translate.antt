@@ -1,5 +1,7 @@
 -- Document 01, 'Translation order', and what the walks' ends give.
-use Rattle.definition.specs.Words.{ℕ, ◌+◌, ◌-◌, ◌/◌, ◌%◌, ◌^◌, List, [], Bool, false, not, ◌&&◌, eqb, bit_or, if◌then◌else◌, bit_of}
+use Rattle.std.specs.Prelude.{ℕ, ◌+◌, ◌-◌, ◌/◌, ◌%◌, ◌^◌, List, [], Bool, false, not, ◌&&◌, eqb, if◌then◌else◌}
+use Rattle.std.specs.Int.Bits.{bit_or}
+use Rattle.definition.specs.Words.{bit_of}
 use Rattle.definition.specs.Registers.{on, as_supervisor, as_instruction, walk_code, compared_code}
 use Rattle.definition.specs.Memory.{Memory}
 use Rattle.definition.specs.Transparent.{transparent}

@@ -1,5 +1,6 @@
 -- Document 01, 'Transparent registers', with document 02's request 02: TT0 and TT1 of the 68030, ITT0, ITT1, DTT0 and DTT1 of the 68040.
-use Rattle.definition.specs.Words.{ℕ, ◌-◌, ◌/◌, ◌%◌, ◌^◌, Bool, true, false, not, ◌&&◌, ◌||◌, eqb, if◌then◌else◌, bit_of, agrees}
+use Rattle.std.specs.Prelude.{ℕ, ◌-◌, ◌/◌, ◌%◌, ◌^◌, Bool, true, false, not, ◌&&◌, ◌||◌, eqb, if◌then◌else◌}
+use Rattle.definition.specs.Words.{bit_of, agrees}
 use Rattle.definition.specs.Types.{Registers}
 
 -- 'Bit 15 enables. Address bits 31:24 are compared with register bits 31:24, ignoring those set in 23:16.'

@@ -1,5 +1,6 @@
 -- Document 01, 'The 68030 walk': the levels that TC, the address and the code settle, and what walking them finds.
-use Rattle.definition.specs.Words.{ℕ, ◌+◌, ◌-◌, ◌*◌, ◌/◌, ◌%◌, ◌^◌, List, [], ◌∷◌, ◌++◌, Bool, true, false, ◌&&◌, ◌||◌, ltb, leb, eqb, if◌then◌else◌, bit_of}
+use Rattle.std.specs.Prelude.{ℕ, ◌+◌, ◌-◌, ◌*◌, ◌/◌, ◌%◌, ◌^◌, List, [], ◌∷◌, ◌++◌, Bool, true, false, ◌&&◌, ◌||◌, ltb, leb, eqb, if◌then◌else◌}
+use Rattle.definition.specs.Words.{bit_of}
 use Rattle.definition.specs.Memory.{Memory, fetch_of}
 use Rattle.definition.specs.Registers.{root_of}
 use Rattle.definition.specs.Types.{Fetched, Long, Failed, End, Page, Invalid, LevelStop, BusError, Config, Registers, Root, Shift, Bits, NoPage}

@@ -1,5 +1,6 @@
 -- Document 01, 'The 68040 walk, also for family 60'.
-use Rattle.definition.specs.Words.{ℕ, ◌+◌, ◌*◌, ◌/◌, ◌%◌, ◌^◌, List, [], ◌∷◌, ◌++◌, Bool, false, ◌||◌, ltb, eqb, if◌then◌else◌, bit_of}
+use Rattle.std.specs.Prelude.{ℕ, ◌+◌, ◌*◌, ◌/◌, ◌%◌, ◌^◌, List, [], ◌∷◌, ◌++◌, Bool, false, ◌||◌, ltb, eqb, if◌then◌else◌}
+use Rattle.definition.specs.Words.{bit_of}
 use Rattle.definition.specs.Memory.{Memory, fetch_of}
 use Rattle.definition.specs.Walk030.{entry_of}
 use Rattle.definition.specs.Types.{Fetched, Long, Failed, End040, Resident, Absent, Lost, FaultCause, Registers}

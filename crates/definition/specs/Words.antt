@@ -1,13 +1,7 @@
 -- The words that the other files are written in: numbers, truth values and lists from the libraries; choice, bits, and what is said of lists. No sentence of
 -- document 01 is here.
-pub use Rattle.std.specs.Prelude.{ℕ, zero, suc, ◌+◌, ◌-◌, ◌*◌, ◌/◌, ◌%◌, ◌^◌, Bool, true, false, not, ◌&&◌, ◌||◌, List, [], ◌∷◌, ◌++◌, map, eqb, ltb, leb, length, get_or, set, take, drop, replicate}
+pub use Rattle.std.specs.Prelude.{ℕ, zero, suc, ◌+◌, ◌-◌, ◌*◌, ◌/◌, ◌%◌, ◌^◌, Bool, true, false, not, ◌&&◌, ◌||◌, List, [], ◌∷◌, ◌++◌, map, eqb, ltb, leb, length, get_or, set, take, drop, replicate, if◌then◌else◌}
 pub use Rattle.std.specs.Int.Bits.{bit_and, bit_or, bit_xor}
-
--- the one or the other
-infixr 1 if◌then◌else◌
-abbrev pub if◌then◌else◌ : {A : Type 0} → Bool → A → A → A
-if◌then◌else◌ true a b = a
-if◌then◌else◌ false a b = b
 
 -- bit k of x
 abbrev pub bit_of : ℕ → ℕ → Bool

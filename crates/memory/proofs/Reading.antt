@@ -2,7 +2,7 @@
 use Prim.Native.Nat.{ℕ}
 use mathlib.Core.Path.{◌≡◌, refl, ap, sym, ◌∙◌}
 use mathlib.Core.Bool.{Bool, true, false}
-use Rattle.definition.specs.Words.{if◌then◌else◌}
+use Rattle.std.specs.Prelude.{if◌then◌else◌}
 use Rattle.definition.specs.Memory.{Memory, fetch_of}
 use Rattle.definition.specs.Walk030.{entry_of, short_of, long_of, read_of}
 use Rattle.definition.specs.declared.Fetched.{Fetched}

@@ -9,7 +9,7 @@ use borrow.Author.Tests.{eq-eqb, ne_eqb, eqb-false}
 use lib.Dec.{eqb}
 use lib.ListN.{length, get_or, drop}
 use lib.Seq.{drop-cons}
-use Rattle.definition.specs.Words.{if◌then◌else◌}
+use Rattle.std.specs.Prelude.{if◌then◌else◌}
 use Rattle.definition.specs.Walk030.{widths_of, used}
 
 -- the levels end at the first zero

@@ -1,6 +1,6 @@
 -- What the search of the ranges computes once for its long. This serves the code alone.
 use Rattle.std.specs.Prelude.{ℕ, ◌+◌, ltb}
-use Rattle.definition.specs.Words.{if◌then◌else◌}
+use Rattle.std.specs.Prelude.{if◌then◌else◌}
 
 -- the last byte of the long at `at` that an address names
 abbrev pub last_byte : ℕ → ℕ

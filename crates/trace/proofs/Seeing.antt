@@ -6,7 +6,7 @@ use mathlib.Core.Bool.{Bool, true, false, not, ◌&&◌}
 use lib.Dec.{eqb, ltb}
 use lib.ListN.{length, get_or}
 use borrow.Author.Tests.{ne_eqb}
-use Rattle.definition.specs.Words.{if◌then◌else◌}
+use Rattle.std.specs.Prelude.{if◌then◌else◌}
 use Rattle.definition.specs.Calls as calls
 use Rattle.definition.specs.Trace.{Record, Loads, Calls, Stores, Adds, Malformed, be, flag_of, kind01, kind02, kind03, kind04, kind05, kind06, kind07, kind08, kind09, kind0_a, kind0_b, by_trace_kind, record_of}
 use Rattle.definition.specs.declared.Access.{Access}

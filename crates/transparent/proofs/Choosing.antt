@@ -3,7 +3,8 @@ use Prim.Native.Nat.{ℕ}
 use mathlib.Core.Path.{◌≡◌, refl, sym, ◌∙◌}
 use mathlib.Core.Bool.{Bool, true, false, ◌||◌}
 use lib.Dec.{eqb}
-use Rattle.definition.specs.Words.{if◌then◌else◌, bit_of}
+use Rattle.std.specs.Prelude.{if◌then◌else◌}
+use Rattle.definition.specs.Words.{bit_of}
 use Rattle.definition.specs.Transparent.{matches030, matches040, transparent030, transparent040, transparent}
 use Rattle.definition.specs.declared.Registers.{Registers}
 use Rattle.transparent.proofs.Choices.{neither}

@@ -1,6 +1,7 @@
 -- The two registers that an access is compared with, and the comparison by family. This serves the code alone.
 use Rattle.std.specs.Prelude.{ℕ, Bool, false, ◌||◌, eqb}
-use Rattle.definition.specs.Words.{if◌then◌else◌, bit_of}
+use Rattle.std.specs.Prelude.{if◌then◌else◌}
+use Rattle.definition.specs.Words.{bit_of}
 use Rattle.definition.specs.Transparent.{matches030, matches040}
 use Rattle.definition.specs.declared.Registers.{Registers}
 
