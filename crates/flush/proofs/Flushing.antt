@@ -3,14 +3,11 @@ use Prim.Native.Nat.{ℕ}
 use mathlib.Core.Path.{◌≡◌, refl, ap, sym, ◌∙◌}
 use mathlib.Core.List.{List}
 use lib.ListN.{length}
-use mathlib.Core.Bool.{Bool, true, false}
+use mathlib.Core.Bool.{Bool, false}
 use borrow.Author.Tests.{ne_eqb}
-use lib.Dec.{eqb}
-use Rattle.definition.specs.Words.{if◌then◌else◌}
 use Rattle.definition.specs.Cache030.{Cache030, flushed_all}
 use Rattle.definition.specs.Cache040.{Cache040, flushed_all040}
 use Rattle.definition.specs.Refusal.{bad_cache, refusal_of}
-use Rattle.definition.specs.Translate.{Caches}
 use Rattle.definition.specs.Flush.{Flushed, flushed, flush_checks, flush_unless, flush_all}
 use Rattle.definition.specs.declared.Flush.{Flush}
 use Rattle.cache.specs.Atc030.{cache_of, Stepped}
