@@ -16,7 +16,7 @@ MARGIN = 16
 def crates():
     """Each crate of crates.txt with the crates of it that it uses."""
     lines = [line.split("#")[0] for line in Path("crates.txt").read_text().splitlines()]
-    named = [line.split(":") for line in lines if ":" in line]
+    named = [line.replace(" staticlib", "").split(":") for line in lines if ":" in line]
     names = [name.strip() for name, _ in named]
     return {name.strip(): [used for used in uses.split() if used in names] for name, uses in named}
 

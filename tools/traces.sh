@@ -23,8 +23,8 @@ converter_built() {
 
 # player_built: proves and builds the player where it isn't built.
 player_built() {
-    [ -x "$player" ] || (cd "$root" && rt check player >&2) || {
-        echo "there is no player: \`rt check player\` proves and builds it" >&2
+    [ -x "$player" ] || (cd "$root" && tools/build player >&2) || {
+        echo "there is no player: \`tools/build player\` proves and builds it" >&2
         return 1
     }
 }

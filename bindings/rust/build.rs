@@ -1,6 +1,6 @@
-//! Links `libhost.a`, `libhost_audit.a` and `libhost_list.a`, which `rt staticlib` writes. They are looked for
+//! Links `libhost.a`, `libhost_audit.a` and `libhost_list.a`, which `tools/build` writes. They are looked for
 //! in the folder that `PMMU_LIB` names, else in `target/staticlib` of the project; where one isn't there,
-//! `rt staticlib` is run for it.
+//! `tools/build` is run for it.
 
 use std::path::{Path, PathBuf};
 use std::process::Command;
@@ -46,10 +46,10 @@ fn in_project() -> PathBuf {
 
 /// Proves and writes a library.
 fn make(project: &Path, name: &str) {
-    let made = Command::new("rt").args(["staticlib", name]).current_dir(project).status();
+    let made = Command::new(project.join("tools/build")).arg(format!("{name}_c")).status();
     match made {
         Ok(status) if status.success() => {}
-        Ok(status) => panic!("`rt staticlib {name}` failed ({status})"),
-        Err(error) => panic!("{} is not there, and `rt` can't be run to make it ({error}): see README.md", file(name)),
+        Ok(status) => panic!("`tools/build {name}_c` failed ({status})"),
+        Err(error) => panic!("{} is not there, and `tools/build` can't be run to make it ({error}): see README.md", file(name)),
     }
 }

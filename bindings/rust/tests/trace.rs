@@ -217,11 +217,11 @@ impl Host {
     }
 }
 
-/// The player that `rt check player` builds, or the one that PLAYER names.
+/// The player that `tools/build player` builds, or the one that PLAYER names.
 fn player() -> PathBuf {
     let project = Path::new(env!("CARGO_MANIFEST_DIR")).join("../..");
     let player = std::env::var_os("PLAYER").map_or_else(|| project.join("target/bin/player"), PathBuf::from);
-    assert!(player.is_file(), "there is no {}: `rt check player` builds it", player.display());
+    assert!(player.is_file(), "there is no {}: `tools/build player` builds it", player.display());
     player
 }
 

@@ -9,7 +9,8 @@ use borrow.Author.Tests.{eq-eqb, eqb-true, lt-ltb, le-ltb, ltb-true, ltb-false}
 use lib.Dec.{T, eqb, ltb}
 use lib.ListN.{length, get_or, drop, length-drop, length-map}
 use lib.Seq.{get_or-drop}
-use Rattle.definition.specs.Words.{if◌then◌else◌, bit_of, first_of}
+use Rattle.std.specs.Prelude.{if◌then◌else◌}
+use Rattle.definition.specs.Words.{bit_of, first_of}
 use Rattle.definition.specs.Memory.{Memory}
 use Rattle.definition.specs.Walk030.{Outcome, walk030, every_level, shift_of}
 use Rattle.definition.specs.Walk040.{walk040, page_bits}

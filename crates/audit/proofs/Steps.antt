@@ -9,7 +9,8 @@ use native.Mathlib.Nat.{min-le_left, mul_assoc, mul-mod_left}
 use lib.Pow.{pow-add}
 use lib.Dec.{eqb, ltb}
 use lib.ListN.{length, get_or, take, drop, length-take}
-use Rattle.definition.specs.Words.{if◌then◌else◌, bit_of}
+use Rattle.std.specs.Prelude.{if◌then◌else◌}
+use Rattle.definition.specs.Words.{bit_of}
 use Rattle.definition.specs.Walk030.{shift_of, physical_of}
 use Rattle.definition.specs.Walk040.{page_bits, frame_of}
 use Rattle.definition.specs.Cache030.{Cache030}

@@ -1,6 +1,7 @@
 -- What is said of one entry, from its two numbers. It serves the code alone; the meaning is `finding` of `definition`.
 use Rattle.std.specs.Prelude.{ℕ, ◌/◌, ◌%◌, Bool, false, not, ◌&&◌, ◌||◌, eqb}
-use Rattle.definition.specs.Words.{if◌then◌else◌, bit_of}
+use Rattle.std.specs.Prelude.{if◌then◌else◌}
+use Rattle.definition.specs.Words.{bit_of}
 use Rattle.definition.specs.Registers.{code_of}
 use Rattle.definition.specs.Audit.{plain_access}
 use Rattle.definition.specs.declared.Registers.{Registers}

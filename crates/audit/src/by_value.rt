@@ -1,7 +1,7 @@
 // The audit and the finding over a pair of caches by value.
 ghost use Rattle.std.specs.Prelude.{◌≡◌};
 ghost use Rattle.definition.specs.Memory.{memory};
-ghost use Rattle.definition.specs.Audit.{audit_from, finding as findingOf};
+ghost use Rattle.definition.specs.Audit.{audit_from, finding as finding_of};
 ghost use Rattle.cache.specs.Atc030.{cache_of};
 ghost use Rattle.cache.specs.Pair.{pair_of};
 ghost use Rattle.audit.specs.Machine.{audit_refusal, audit_begin, Begun, cached_at, LooksAt};
@@ -88,7 +88,7 @@ pub fn finding(
     i: u32,
     write: bool,
 ) -> Finding
-    ensures { result ≡ findingOf g (memory longs.now base ranges.now) (pair_of caches) i write }
+    ensures { result ≡ finding_of g (memory longs.now base ranges.now) (pair_of caches) i write }
 {
     let two = checks::bad_longs(longs, base);
     let three = memory::ranges::any_crossed(ranges);

@@ -1,7 +1,7 @@
 // What is said of one entry, for a read or a write of its page's first byte: what the cache gives, and what the cacheless walk gives.
 ghost use Rattle.std.specs.Prelude.{◌≡◌};
 ghost use Rattle.definition.specs.Memory.{memory};
-ghost use Rattle.definition.specs.Audit.{finding as findingOf};
+ghost use Rattle.definition.specs.Audit.{finding as finding_of};
 ghost use Rattle.cache.specs.Pair.{caches_of};
 
 use crate::telling::{access_for, bare, no_caches, told};
@@ -22,7 +22,7 @@ pub fn finding_lent(
     i: u32,
     write: bool,
 ) -> Finding
-    ensures { result ≡ findingOf g (memory longs.now base ranges.now) (caches_of c030.now c040.now) i write }
+    ensures { result ≡ finding_of g (memory longs.now base ranges.now) (caches_of c030.now c040.now) i write }
 {
     let two = checks::bad_longs(longs, base);
     let three = memory::ranges::any_crossed(ranges);

@@ -1,7 +1,7 @@
 // The audit and the finding over the first `n` of the ranges that a caller keeps in an array: they are lent as a slice.
 ghost use Rattle.std.specs.Prelude.{◌≡◌, take};
 ghost use Rattle.definition.specs.Memory.{memory};
-ghost use Rattle.definition.specs.Audit.{audit_from, finding as findingOf};
+ghost use Rattle.definition.specs.Audit.{audit_from, finding as finding_of};
 ghost use Rattle.cache.specs.Pair.{caches_of};
 
 use crate::audit_lent;
@@ -39,7 +39,7 @@ pub fn finding_kept(
     i: u32,
     write: bool,
 ) -> Finding
-    ensures { result ≡ findingOf g (memory longs.now base (take n list)) (caches_of c030.now c040.now) i write }
+    ensures { result ≡ finding_of g (memory longs.now base (take n list)) (caches_of c030.now c040.now) i write }
 {
     let m = kept::of_sixteen(n);
     finding_lent(c030, c040, longs, base, &list[..m], g, i, write)

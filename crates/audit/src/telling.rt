@@ -1,7 +1,7 @@
 // What is said of one entry, from its numbers: the parts that the calls share.
 ghost use Rattle.std.specs.Prelude.{◌≡◌};
 ghost use Rattle.definition.specs.Translate.{empty_caches};
-ghost use Rattle.definition.specs.Audit.{bare as bareOf};
+ghost use Rattle.definition.specs.Audit.{bare as bare_of};
 ghost use Rattle.cache.specs.Pair.{pair_of};
 ghost use Rattle.audit.specs.Told.{code_for, hit_for, access_for, told_of};
 
@@ -53,7 +53,7 @@ pub fn access_for(g: Registers, x: Cached, write: bool) -> Access
 
 // The registers with the PMMU on and no transparent register that matches.
 pub fn bare(g: Registers) -> Registers
-    ensures { result ≡ bareOf g }
+    ensures { result ≡ bare_of g }
 {
     let crp = g.crp;
     let srp = g.srp;

@@ -9,6 +9,7 @@ use cache::atc030::Atc030;
 use cache::atc040::Atc040;
 use cache::{CachePair, atc030, atc040};
 use definition::Hit;
+use std::io::Read;
 use vectors::Progress;
 
 // Operations 1 to 6, on the 68030 cache: what they answer.
@@ -90,24 +91,26 @@ fn is_same(row: &[u32; 128], count: usize, c030: &mut Atc030, c040: &mut Atc040)
 }
 
 // One row more.
-fn one_row(
+fn one_row<P: Print, R: Read>(
+    rt: &P,
+    input: &mut R,
     p: Progress,
     buf: &mut [u8; 65536],
     row: &mut [u32; 128],
     c030: &mut Atc030,
     c040: &mut Atc040,
 ) -> Progress {
-    let next = p.advance(libc::STDIN_FILENO, buf, row);
+    let next = p.advance(rt, input, buf, row);
     if !next.on {
         return next;
     }
     let same = is_same(row, next.count, c030, c040);
-    next.judged(same)
+    next.judged(rt, same)
 }
 
 // Every row, from empty caches. The loop counts its turns down, since nothing says that a file ends.
-fn every_row() -> Progress {
-    let mut buf = io::large_buffer();
+fn every_row<P: Print, R: Read>(rt: &P, input: &mut R) -> Progress {
+    let mut buf = [0u8; 65536];
     let mut row = [0u32; 128];
     let empty = CachePair::empty();
     let mut c030 = empty.c030;
@@ -116,11 +119,11 @@ fn every_row() -> Progress {
     let mut turns = u64::MAX;
     while turns > 0 && p.on {
         turns -= 1;
-        p = one_row(p, &mut buf, &mut row, &mut c030, &mut c040);
+        p = one_row(rt, input, p, &mut buf, &mut row, &mut c030, &mut c040);
     }
     p
 }
 
-fn main() {
-    every_row().print(b"operations");
+fn main(rt: HostRuntime) {
+    every_row(&rt, &mut rt.stdin()).print(&rt, b"operations");
 }

@@ -7,11 +7,11 @@ ghost use Rattle.std.specs.Prelude.{◌≡◌};
 ghost use Rattle.definition.specs.Words.{bit_of};
 ghost use Rattle.definition.specs.Cache030.{Cache030};
 ghost use Rattle.definition.specs.Cache040.{Cache040};
-ghost use Rattle.definition.specs.Translate.{empty_caches, translate as translateOf};
+ghost use Rattle.definition.specs.Translate.{empty_caches, translate as translate_of};
 ghost use Rattle.definition.specs.Load.{load as load_of};
 ghost use Rattle.definition.specs.Test.{test as test_of};
 ghost use Rattle.definition.specs.Memory.{memory};
-ghost use Rattle.definition.specs.Probe.{probe as probeOf};
+ghost use Rattle.definition.specs.Probe.{probe as probe_of};
 ghost use Rattle.definition.specs.Flush.{flush_all, flush_code, flush_page, flush_frame};
 ghost use Rattle.cache.specs.Atc030.{cache_of};
 ghost use Rattle.cache.specs.Atc040.{cache040_of};
@@ -27,8 +27,7 @@ use numbers::{
 };
 
 // The empty caches: every number 0.
-#[unsafe(no_mangle)]
-pub extern "C" fn mmu_empty(c030: &mut Atc030, c040: &mut Atc040)
+pub fn mmu_empty(c030: &mut Atc030, c040: &mut Atc040)
     ensures { caches_of c030.new c040.new ≡ empty_caches }
 {
     *c030 = [0; 69];
@@ -36,8 +35,7 @@ pub extern "C" fn mmu_empty(c030: &mut Atc030, c040: &mut Atc040)
 }
 
 // Translate over the caches that the host keeps.
-#[unsafe(no_mangle)]
-pub extern "C" fn mmu_translate(
+pub fn mmu_translate(
     c030: &mut Atc030,
     c040: &mut Atc040,
     longs: &[u32],
@@ -49,7 +47,7 @@ pub extern "C" fn mmu_translate(
     address: u32,
     out: &mut [u32; 5],
 )
-    ensures { TranslatedTo (translateOf (registers_of registers.now) (access_of flags code address) (memory longs.now base ranges.now) (caches_of c030.old c040.old)) out.new (caches_of c030.new c040.new) }
+    ensures { TranslatedTo (translate_of (registers_of registers.now) (access_of flags code address) (memory longs.now base ranges.now) (caches_of c030.old c040.old)) out.new (caches_of c030.new c040.new) }
 {
     let g = registers_of(registers);
     let a = access_of(flags, code, address);
@@ -59,8 +57,7 @@ pub extern "C" fn mmu_translate(
 }
 
 // Load over the 68030 cache that the host keeps.
-#[unsafe(no_mangle)]
-pub extern "C" fn mmu_load(
+pub fn mmu_load(
     c030: &mut Atc030,
     longs: &[u32],
     base: u32,
@@ -80,8 +77,7 @@ pub extern "C" fn mmu_load(
 }
 
 // Test: it touches no cache.
-#[unsafe(no_mangle)]
-pub extern "C" fn mmu_test(
+pub fn mmu_test(
     longs: &[u32],
     base: u32,
     ranges: &[Range],
@@ -101,8 +97,7 @@ pub extern "C" fn mmu_test(
 }
 
 // Probe: the CPU's own state, instruction and write in the flags.
-#[unsafe(no_mangle)]
-pub extern "C" fn mmu_probe(
+pub fn mmu_probe(
     c030: &Atc030,
     c040: &Atc040,
     registers: &[u32; 13],
@@ -110,7 +105,7 @@ pub extern "C" fn mmu_probe(
     address: u32,
     out: &mut [u32; 5],
 )
-    ensures { out.new ≡ probe_numbers (probeOf (registers_of registers.now) (bit_of flags 3) (bit_of flags 2) (bit_of flags 0) address (caches_of c030.now c040.now)) }
+    ensures { out.new ≡ probe_numbers (probe_of (registers_of registers.now) (bit_of flags 3) (bit_of flags 2) (bit_of flags 0) address (caches_of c030.now c040.now)) }
 {
     let g = registers_of(registers);
     let own = memory::bits::bit(flags, 3);
@@ -121,8 +116,7 @@ pub extern "C" fn mmu_probe(
 }
 
 // Empties both caches.
-#[unsafe(no_mangle)]
-pub extern "C" fn mmu_flush_all(c030: &mut Atc030, c040: &mut Atc040) -> u32
+pub fn mmu_flush_all(c030: &mut Atc030, c040: &mut Atc040) -> u32
     ensures { FlushedTo (flush_all (caches_of c030.old c040.old)) result (caches_of c030.new c040.new) }
 {
     let f = flush::flush_all_in(c030, c040);
@@ -130,8 +124,7 @@ pub extern "C" fn mmu_flush_all(c030: &mut Atc030, c040: &mut Atc040) -> u32
 }
 
 // Drops the 68030 entries whose code agrees on the mask's bits.
-#[unsafe(no_mangle)]
-pub extern "C" fn mmu_flush_code(c030: &mut Atc030, code: u32, mask: u32) -> u32
+pub fn mmu_flush_code(c030: &mut Atc030, code: u32, mask: u32) -> u32
     ensures { (k : Cache040) → FlushedTo (flush_code code mask (pair_with (cache_of c030.old) k)) result (pair_with (cache_of c030.new) k) }
 {
     let f = flush::flush_code_in(c030, code, mask);
@@ -139,8 +132,7 @@ pub extern "C" fn mmu_flush_code(c030: &mut Atc030, code: u32, mask: u32) -> u32
 }
 
 // Drops those of them whose page is the address's.
-#[unsafe(no_mangle)]
-pub extern "C" fn mmu_flush_page(c030: &mut Atc030, code: u32, mask: u32, address: u32) -> u32
+pub fn mmu_flush_page(c030: &mut Atc030, code: u32, mask: u32, address: u32) -> u32
     ensures { (k : Cache040) → FlushedTo (flush_page code mask address (pair_with (cache_of c030.old) k)) result (pair_with (cache_of c030.new) k) }
 {
     let f = flush::flush_page_in(c030, code, mask, address);
@@ -148,8 +140,7 @@ pub extern "C" fn mmu_flush_page(c030: &mut Atc030, code: u32, mask: u32, addres
 }
 
 // Drops a 68040 frame for either privilege.
-#[unsafe(no_mangle)]
-pub extern "C" fn mmu_flush_frame(c040: &mut Atc040, frame: u32) -> u32
+pub fn mmu_flush_frame(c040: &mut Atc040, frame: u32) -> u32
     ensures { (c : Cache030) → FlushedTo (flush_frame frame (pair_with c (cache040_of c040.old))) result (pair_with c (cache040_of c040.new)) }
 {
     let f = flush::flush_frame_in(c040, frame);

@@ -5,7 +5,7 @@
 
 ghost use Rattle.std.specs.Prelude.{◌≡◌};
 ghost use Rattle.definition.specs.Memory.{memory};
-ghost use Rattle.definition.specs.Audit.{audit_from, finding as findingOf};
+ghost use Rattle.definition.specs.Audit.{audit_from, finding as finding_of};
 ghost use Rattle.cache.specs.Pair.{caches_of};
 ghost use Rattle.numbers.specs.Numbers.{registers_of, audit_numbers, finding_numbers};
 
@@ -16,8 +16,7 @@ use definition::Range;
 use numbers::{registers_of, tell_audit, tell_finding};
 
 // The first stale entry at `from` or above. It changes nothing.
-#[unsafe(no_mangle)]
-pub extern "C" fn mmu_audit(
+pub fn mmu_audit(
     c030: &Atc030,
     c040: &Atc040,
     longs: &[u32],
@@ -35,8 +34,7 @@ pub extern "C" fn mmu_audit(
 }
 
 // What is said of entry `index` of the family's cache, for a read or a write.
-#[unsafe(no_mangle)]
-pub extern "C" fn mmu_finding(
+pub fn mmu_finding(
     c030: &Atc030,
     c040: &Atc040,
     longs: &[u32],
@@ -47,7 +45,7 @@ pub extern "C" fn mmu_finding(
     write: bool,
     out: &mut [u32; 10],
 )
-    ensures { out.new ≡ finding_numbers (findingOf (registers_of registers.now) (memory longs.now base ranges.now) (caches_of c030.now c040.now) index write) }
+    ensures { out.new ≡ finding_numbers (finding_of (registers_of registers.now) (memory longs.now base ranges.now) (caches_of c030.now c040.now) index write) }
 {
     let g = registers_of(registers);
     let f = finding::finding_lent(c030, c040, longs, base, ranges, g, index, write);

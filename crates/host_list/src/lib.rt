@@ -31,8 +31,7 @@ fn tell_list(answer: &mut [u64; 3], l: Listed)
 
 // The ranges that a code's tree maps from an address on, a number for each, as many as have room in `out`. The bus-error ranges are lent
 // as numbers, a first and a last address each: what a slice of `Range` has in memory.
-#[unsafe(no_mangle)]
-pub extern "C" fn mmu_list(
+pub fn mmu_list(
     longs: &[u32],
     base: u32,
     ranges: &[u32],

@@ -2,7 +2,7 @@
 // A call that is lent the ranges is thin: its proof is a walk by hand, which tools/ prints.
 ghost use Rattle.std.specs.Prelude.{◌≡◌, length};
 ghost use Rattle.definition.specs.Memory.{memory};
-ghost use Rattle.definition.specs.Translate.{translate as translateOf};
+ghost use Rattle.definition.specs.Translate.{translate as translate_of};
 ghost use Rattle.definition.specs.Load.{load as load_of};
 ghost use Rattle.definition.specs.Test.{test as test_of};
 ghost use Rattle.cache.specs.Pair.{pair_of};
@@ -73,7 +73,7 @@ pub fn translate(
     a: Access,
     caches: CachePair,
 ) -> Translated
-    ensures { TranslatedBy (translateOf g a (memory longs.now base ranges.now) (pair_of caches)) result }
+    ensures { TranslatedBy (translate_of g a (memory longs.now base ranges.now) (pair_of caches)) result }
 {
     let crossed = any_crossed(ranges);
     let mut c030 = c030_of(caches);

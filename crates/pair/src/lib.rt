@@ -5,7 +5,7 @@
 
 ghost use Rattle.std.specs.Prelude.{◌≡◌};
 ghost use Rattle.definition.specs.Memory.{memory};
-ghost use Rattle.definition.specs.Translate.{translate as translateOf};
+ghost use Rattle.definition.specs.Translate.{translate as translate_of};
 ghost use Rattle.definition.specs.Load.{load as load_of};
 ghost use Rattle.definition.specs.Flush.{flush_all, flush_code, flush_page, flush_frame};
 ghost use Rattle.cache.specs.Pair.{pair_of};
@@ -77,7 +77,7 @@ pub fn translate_pair(
     g: Registers,
     a: Access,
 ) -> Outcome
-    ensures { TranslatedBy (translateOf g a (memory longs.now base ranges.now) (pair_of p.old)) (translated_with result.answer result.count p.new) }
+    ensures { TranslatedBy (translate_of g a (memory longs.now base ranges.now) (pair_of p.old)) (translated_with result.answer result.count p.new) }
 {
     let old = *p;
     let done = by_value::translate(longs, base, ranges, g, a, old);

@@ -1,7 +1,7 @@
 -- Translate in three stages: what is planned without the tables, the walk, and what is concluded from it.
 -- It serves the code alone: the meaning is the definition's, and proofs/Staged.antt ties the two.
 use Rattle.std.specs.Prelude.{ℕ, ◌/◌, ◌%◌, ◌^◌, Bool, false, not, ◌&&◌, eqb, length}
-use Rattle.definition.specs.Words.{if◌then◌else◌}
+use Rattle.std.specs.Prelude.{if◌then◌else◌}
 use Rattle.definition.specs.Registers.{on, as_supervisor, as_instruction, walk_code, compared_code}
 use Rattle.definition.specs.Memory.{Memory}
 use Rattle.definition.specs.Transparent.{transparent}

@@ -1,14 +1,14 @@
 -- The loop of `walk_030`: what is known where a walk stands before a descriptor, that each way out gives the definition's outcome, and that a turn that
 -- goes on keeps it. Assumes nothing.
-use Prim.Native.Nat.{ℕ, zero, suc, ◌+◌, ◌-◌, ◌*◌, ◌/◌, ◌%◌, ◌≤◌, ◌<◌}
+use Prim.Native.Nat.{ℕ, suc, ◌+◌, ◌-◌, ◌*◌, ◌/◌, ◌%◌, ◌≤◌, ◌<◌}
 use mathlib.Core.Path.{◌≡◌, refl, ap, sym, subst, ◌∙◌}
 use mathlib.Core.List.{List, [], ◌∷◌, ◌++◌}
-use mathlib.Core.Bool.{Bool, true, false, not, ◌||◌, and-false, or-true, or_false}
+use mathlib.Core.Bool.{Bool, true, false, ◌||◌, and-false, or-true, or-false}
 use native.Mathlib.Omega.{arith}
 use native.Mathlib.Numerals.{add-one}
 use native.Mathlib.Decide.{dec_le}
 use borrow.Author.Tests.{eqb-true, eqb-false, ne_eqb, le-leb, lt-leb, lt-ltb}
-use lib.Dec.{T, eqb, ltb}
+use lib.Dec.{eqb, ltb}
 use lib.ListN.{length, get_or, drop, length-append, length-drop, drop_of_length-le}
 use lib.Seq.{drop-cons}
 use Rattle.definition.specs.Words.{if◌then◌else◌, bit_of}
@@ -29,7 +29,7 @@ use Rattle.walk030.specs.Walked.{shown}
 use Rattle.walk030.specs.Machine.{no_walk, misconfigured_of, begin_of, at_limit, aimed_of, next_k, aim_of, adds_of, asked_of, levels_of, held_of, seen_of, to_target, to_table, onward_of, answered}
 use Rattle.walk030.specs.declared.Walked.{Walked}
 use Rattle.walk030.specs.declared.machine.Walking030.{Walking030}
-use Rattle.memory.proofs.Tests.{T_true, T_false, clash}
+use Rattle.memory.proofs.Tests.{clash}
 use Rattle.memory.proofs.Shown.{lost_is, whole_is}
 use Rattle.memory.proofs.Widths.{used_at, width_small, widths_few}
 use Rattle.walk030.proofs.Aiming as aim
@@ -121,6 +121,11 @@ module _ (m : Memory) (tc : ℕ) (root : Root) (address code limit : ℕ) where
     pub consumed≤ : s.consumed ≤ 15 + 15 * s.k
     pub levels≤ : s.levels + rank s ≤ 6
     pub asked≤ : s.asked + 2 * rank s ≤ 12
+
+  -- with the longs asked for so far
+  pub record Standing (s : Walking030) : Type 0 where
+    pub asked : List ℕ
+    pub stands : Stands s asked
 
   -- once the next descriptor's place is known; r was left
   pub record Aims (r : ℕ) (s : Walking030) (asked : List ℕ) : Type 0 where
@@ -288,7 +293,7 @@ module _ (m : Memory) (tc : ℕ) (root : Root) (address code limit : ℕ) where
 
       keeping : adds_of (length us) s kind ≡ false → with_it ≡ held s.wp s.sup (s.levels + 1)
       unfolding seen_of
-      keeping e = rw (e, t, or_false s.wp, or_false s.sup)
+      keeping e = rw (e, t, or-false s.wp, or-false s.sup)
 
       decides_level : onward s asked (Whole kind field wp sup x) ≡ decided with_it grown kind field
       decides_level = go (eqb kind 1) refl (ltb kind 2) refl (eqb s.k (length us)) refl
@@ -400,150 +405,133 @@ module _ (m : Memory) (tc : ℕ) (root : Root) (address code limit : ℕ) where
         asked≤ = omega arith;
       }
 
-  -- ---- what is known at the loop's head, and how much is left
-  pub record Turn : Type 0 where
-    pub ws : List ℕ
-    pub n : ℕ
-    pub s : Walking030
-    pub asked : List ℕ
-    pub ws_is : ws ≡ widths_of tc
-    pub n_is : n ≡ length us
-    pub stands : Stands s asked
-
-  abbrev pub left : Turn → ℕ
-  left t = rank t.s
-
-  module _ {ws : List ℕ} (ew : ws ≡ widths_of tc) {n : ℕ} (en : n ≡ length (used ws)) {b : Bool} (eb : b ≡ no_walk (root.limit % 4) n (bit_of tc 24)) where
-    pub begin_n : n ≡ length us
-    begin_n = en ∙ ap (λ (l : List ℕ). length (used l)) ew
-
-    no_walk_lem : b ≡ no_walk (root.limit % 4) (length us) (bit_of tc 24)
-    no_walk_lem = eb ∙ ap (λ (n : ℕ). no_walk (root.limit % 4) n (bit_of tc 24)) begin_n
-
-    -- the way out at a configuration fault
-    pub ends_config : T b → {w : Walked} → w ≡ misconfigured_of root → w ≡ shown whole
-    ends_config h e =
-        let c : whole ≡ ended Config (start root.address) = begins (bit_of tc 24) (is_of tc) us ∙ rw (sym no_walk_lem ∙ T_true b h) in
-        e ∙ rw c
-
-    module _ (h : T (not b)) {s : Walking030} (es : s ≡ begin_of tc root) where
-      pub begin_stands : Stands s []
-      begin_stands = subst (λ (s : Walking030). Stands s []) (sym es) (begun (sym no_walk_lem ∙ T_false b h))
-
-      abbrev pub begin : Turn
-      begin = record { ws = ws; n = n; s = s; asked = []; ws_is = ew; n_is = begin_n; stands = begin_stands }
-
   -- the walk ends with what q holds
   ended_so : (q : Walking030) (l : List ℕ) (e : End) → whole ≡ ended e (found q l) → length l ≡ q.asked → {x : End} → x ≡ e → {w : Walked} → w ≡ answered q x → w ≡ shown whole
   ended_so q l e same count ex ew = ew ∙ rw (ex, ← count, same)
 
-  -- ---- a turn
-  -- what `aim` asks
-  pub aim_asks : (t : Turn) → ((k : ℕ) → get_or t.ws k 0 < 16) × (t.s.consumed < 1000)
-  aim_asks t = (λ k. rw t.ws_is (width_small tc k), omega (arith, t.stands.consumed≤, t.stands.k≤, widths_few tc))
+  module _ {ws : List ℕ} (ew : ws ≡ widths_of tc) {n : ℕ} (en : n ≡ length (used ws)) where
+    n_is : n ≡ length us
+    n_is = en ∙ ap (λ (l : List ℕ). length (used l)) ew
 
-  module _ (t : Turn) {b : Bool} (eb : b ≡ at_limit limit t.s) where
-    -- the way out at the level stop
-    pub ends_stop : T b → {w : Walked} → w ≡ answered t.s LevelStop → w ≡ shown whole
-    ends_stop h ew = ended_so t.s t.asked LevelStop (stops t.s t.asked t.stands (sym eb ∙ T_true b h)) t.stands.count refl ew
+    -- ---- before the loop
+    module _ {b : Bool} (eb : b ≡ no_walk (root.limit % 4) n (bit_of tc 24)) where
+      no_walk_lem : b ≡ no_walk (root.limit % 4) (length us) (bit_of tc 24)
+      no_walk_lem = eb ∙ ap (λ (n : ℕ). no_walk (root.limit % 4) n (bit_of tc 24)) n_is
 
-    module _ (h : T (not b)) {r : Walking030} (e : r ≡ aim_of t.ws address code t.s) {w : ℕ} (ew : w ≡ r.last) {l : Bool} (el : l ≡ r.long) {d : Read} (ed : d ≡ shown_read (read_of m w l)) where
-      aims : Aims (rank t.s) r t.asked
-      aims =
-          subst (λ (s : Walking030). Aims (rank t.s) s t.asked) (sym (e ∙ rw t.ws_is))
-          (aimed t.s t.asked t.stands (sym eb ∙ T_false b h))
+      -- the way out at a configuration fault
+      pub ends_config : b ≡ true → {w : Walked} → w ≡ misconfigured_of root → w ≡ shown whole
+      ends_config h e =
+          let c : whole ≡ ended Config (start root.address) = begins (bit_of tc 24) (is_of tc) us ∙ rw (sym no_walk_lem ∙ h) in
+          e ∙ rw c
 
-      -- the descriptor that was read, and the longs asked for it
-      abbrev it : Descriptor
-      it = read_of m r.last r.long
+      pub begin : b ≡ false → {s : Walking030} → s ≡ begin_of tc root → Standing s
+      begin h es = record { asked = []; stands = subst (λ (s : Walking030). Stands s []) (sym es) (begun (sym no_walk_lem ∙ h)) }
 
-      read : d ≡ shown_read it
-      read = ed ∙ rw (ew, el)
+    -- ---- a turn
+    module _ {s : Walking030} (t : Standing s) where
+      -- what `aim` asks
+      pub aim_asks : ((k : ℕ) → get_or ws k 0 < 16) × (s.consumed < 1000)
+      aim_asks = (λ k. rw ew (width_small tc k), omega (arith, t.stands.consumed≤, t.stands.k≤, widths_few tc))
 
-      counts_it : asked_of d ≡ length (asked_for it)
-      counts_it = ap asked_of read ∙ counted it
+      module _ {b : Bool} (eb : b ≡ at_limit limit s) where
+        -- the way out at the level stop
+        pub ends_stop : b ≡ true → {w : Walked} → w ≡ answered s LevelStop → w ≡ shown whole
+        ends_stop h ew = ended_so s t.asked LevelStop (stops s t.asked t.stands (sym eb ∙ h)) t.stands.count refl ew
 
-      few : length (asked_for it) ≤ 2
-      few = read_few m r.last r.long
+        module _ (h : b ≡ false) {r : Walking030} (e : r ≡ aim_of ws address code s) {w : ℕ} (eat : w ≡ r.last) {l : Bool} (el : l ≡ r.long) {d : Read} (ed : d ≡ shown_read (read_of m w l)) where
+          aims : Aims (rank s) r t.asked
+          aims =
+              subst (λ (x : Walking030). Aims (rank s) x t.asked) (sym (e ∙ rw ew))
+              (aimed s t.asked t.stands (sym eb ∙ h))
 
-      -- what `seen` asks
-      pub seen_asks : (r.levels < 1000) × (r.asked < 1000) × (asked_of d < 1000)
-      seen_asks = (omega (arith, aims.levels≤), omega (arith, aims.asked≤), omega (arith, few, counts_it))
+          -- the descriptor that was read, and the longs asked for it
+          abbrev it : Descriptor
+          it = read_of m r.last r.long
 
-      module _ {q : Walking030} (eq : q ≡ seen_of t.n r d) where
-        seen_is : q ≡ seen_of (length us) r d
-        seen_is = eq ∙ ap (λ (n : ℕ). seen_of n r d) t.n_is
+          read : d ≡ shown_read it
+          read = ed ∙ rw (eat, el)
 
-        -- the longs asked for, with those for the descriptor
-        abbrev pub now : List ℕ
-        now = t.asked ++ asked_for it
+          counts_it : asked_of d ≡ length (asked_for it)
+          counts_it = ap asked_of read ∙ counted it
 
-        counts : length now ≡ q.asked
-        counts =
-            omega (arith, length-append t.asked (asked_for it), counts_it, aims.count, ap (λ (s : Walking030). s.asked) seen_is, seen_asked (length us) r d)
+          few : length (asked_for it) ≤ 2
+          few = read_few m r.last r.long
 
-        -- the way out at a bus error
-        pub ends_lost : {at n : ℕ} → d ≡ given.Lost at n → {a : Walked} → a ≡ answered q (BusError at) → a ≡ shown whole
-        ends_lost {at} {n} el ea =
-            let is_lost = lost_is it (sym read ∙ el) in
-            ended_so q now (BusError at)
-            (aims.same ∙ ap (onward r t.asked) is_lost ∙ lost r t.asked at (asked_for it)
-            ∙ ap (λ (s : Walking030). ended (BusError at) (found s now)) (sym (seen_is ∙ ap (seen_of (length us) r) (read ∙ ap shown_read is_lost))))
-            counts refl ea
+          -- what `seen` asks
+          pub seen_asks : (r.levels < 1000) × (r.asked < 1000) × (asked_of d < 1000)
+          seen_asks = (omega (arith, aims.levels≤), omega (arith, aims.asked≤), omega (arith, few, counts_it))
 
-        module _ {kind field n : ℕ} {wp sup : Bool} (is_whole : d ≡ given.Whole kind field wp sup n) {p : Bool} (ep : p ≡ eqb kind 1) where
-          it_is : it ≡ Whole kind field wp sup (asked_for it)
-          it_is = whole_is it (sym read ∙ is_whole)
+          module _ {q : Walking030} (eq : q ≡ seen_of n r d) where
+            seen_is : q ≡ seen_of (length us) r d
+            seen_is = eq ∙ ap (λ (n : ℕ). seen_of n r d) n_is
 
-          holds : q ≡ seen_of (length us) r (shown_read (Whole kind field wp sup (asked_for it)))
-          holds = seen_is ∙ ap (seen_of (length us) r) (read ∙ ap shown_read it_is)
+            -- the longs asked for, with those for the descriptor
+            abbrev pub now : List ℕ
+            now = t.asked ++ asked_for it
 
-          settles : whole ≡ decided q now kind field
-          settles =
-              aims.same ∙ ap (onward r t.asked) it_is ∙ decides (rank t.s) r t.asked aims kind field (asked_for it) wp sup
-              ∙ ap (λ (s : Walking030). decided s now kind field) (sym holds)
+            counts : length now ≡ q.asked
+            counts =
+                omega (arith, length-append t.asked (asked_for it), counts_it, aims.count, ap (λ (s : Walking030). s.asked) seen_is, seen_asked (length us) r d)
 
-          -- the way out at a page
-          pub ends_page : T p → {c : ℕ} → c ≡ q.consumed → {a : Walked} → a ≡ answered q (Page field c) → a ≡ shown whole
-          ends_page hp ec ea = ended_so q now (Page field q.consumed) (settles ∙ rw (sym ep ∙ T_true p hp)) counts (rw ec) ea
+            -- the way out at a bus error
+            pub ends_lost : {at asks : ℕ} → d ≡ given.Lost at asks → {a : Walked} → a ≡ answered q (BusError at) → a ≡ shown whole
+            ends_lost {at} {asks} el ea =
+                let is_lost = lost_is it (sym read ∙ el) in
+                ended_so q now (BusError at)
+                (aims.same ∙ ap (onward r t.asked) is_lost ∙ lost r t.asked at (asked_for it)
+                ∙ ap (λ (s : Walking030). ended (BusError at) (found s now)) (sym (seen_is ∙ ap (seen_of (length us) r) (read ∙ ap shown_read is_lost))))
+                counts refl ea
 
-          module _ (hp : T (not p)) {i : Bool} (ei : i ≡ by_kind kind true false q.target) where
-            -- the way out at an invalid descriptor
-            pub ends_invalid : T i → {c : Bool} → c ≡ q.target → {a : Walked} → a ≡ answered q (Invalid c) → a ≡ shown whole
-            ends_invalid hi ec ea =
-                ended_so q now (Invalid q.target) (settles ∙ rw (sym ei ∙ T_true i hi, sym ep ∙ T_false p hp)) counts (rw ec) ea
+            module _ {kind field asks : ℕ} {wp sup : Bool} (is_whole : d ≡ given.Whole kind field wp sup asks) {p : Bool} (ep : p ≡ eqb kind 1) where
+              it_is : it ≡ Whole kind field wp sup (asked_for it)
+              it_is = whole_is it (sym read ∙ is_whole)
 
-            -- the walk goes on
-            module _ (hi : T (not i)) {r₂ : Walking030} (e₂ : r₂ ≡ onward_of t.n q kind field) where
-              no_target : r.target ≡ false
-              no_target = sym (seen_target (length us) r d) ∙ ap (λ (s : Walking030). s.target) (sym seen_is) ∙ go (eqb kind 1) (sym ep ∙ T_false p hp) (ltb kind 2) q.target (sym ei ∙ T_false i hi)
-                where
-                  go : (a : Bool) → a ≡ false → (b c : Bool) → (if a then false else if b then true else c) ≡ false → c ≡ false
-                  go true f b c h = absurd (clash f)
-                  go false f true c h = absurd (clash h)
-                  go false f false c h = h
+              holds : q ≡ seen_of (length us) r (shown_read (Whole kind field wp sup (asked_for it)))
+              holds = seen_is ∙ ap (seen_of (length us) r) (read ∙ ap shown_read it_is)
 
-              onward_is : r₂ ≡ onward_of (length us) (seen_of (length us) r (shown_read (Whole kind field wp sup (asked_for it)))) kind field
-              onward_is = e₂ ∙ ap (λ (n : ℕ). onward_of n q kind field) t.n_is ∙ ap (λ (s : Walking030). onward_of (length us) s kind field) holds
+              settles : whole ≡ decided q now kind field
+              settles =
+                  aims.same ∙ ap (onward r t.asked) it_is ∙ decides (rank s) r t.asked aims kind field (asked_for it) wp sup
+                  ∙ ap (λ (s : Walking030). decided s now kind field) (sym holds)
 
-              goes : whole ≡ rest r₂ now
-              goes =
-                  settles ∙ rw (sym ei ∙ T_false i hi, sym ep ∙ T_false p hp)
-                  (ap (λ (s : Walking030). rest s now) (sym (e₂ ∙ ap (λ (n : ℕ). onward_of n q kind field) t.n_is)))
+              -- the way out at a page
+              pub ends_page : p ≡ true → {c : ℕ} → c ≡ q.consumed → {a : Walked} → a ≡ answered q (Page field c) → a ≡ shown whole
+              ends_page hp ec ea = ended_so q now (Page field q.consumed) (settles ∙ rw (sym ep ∙ hp)) counts (rw ec) ea
 
-              turned : Stands r₂ now × (rank r₂ < rank t.s)
-              turned =
-                  subst (λ (s : Walking030). Stands s now × (rank s < rank t.s)) (sym onward_is)
-                  (goes_on (rank t.s) r t.asked aims kind field (asked_for it) wp sup no_target few (goes ∙ ap (λ (s : Walking030). rest s now) onward_is))
+              module _ (hp : p ≡ false) {i : Bool} (ei : i ≡ by_kind kind true false q.target) where
+                -- the way out at an invalid descriptor
+                pub ends_invalid : i ≡ true → {c : Bool} → c ≡ q.target → {a : Walked} → a ≡ answered q (Invalid c) → a ≡ shown whole
+                ends_invalid hi ec ea =
+                    ended_so q now (Invalid q.target) (settles ∙ rw (sym ei ∙ hi, sym ep ∙ hp)) counts (rw ec) ea
 
-              pub next_stands : Stands r₂ now
-              next_stands = turned.0
+                -- the walk goes on
+                module _ (hi : i ≡ false) {r₂ : Walking030} (e₂ : r₂ ≡ onward_of n q kind field) where
+                  no_target : r.target ≡ false
+                  no_target = sym (seen_target (length us) r d) ∙ ap (λ (s : Walking030). s.target) (sym seen_is) ∙ go (eqb kind 1) (sym ep ∙ hp) (ltb kind 2) q.target (sym ei ∙ hi)
+                    where
+                      go : (a : Bool) → a ≡ false → (b c : Bool) → (if a then false else if b then true else c) ≡ false → c ≡ false
+                      go true f b c h = absurd (clash f)
+                      go false f true c h = absurd (clash h)
+                      go false f false c h = h
 
-              pub less : rank r₂ < rank t.s
-              less = turned.1
+                  onward_is : r₂ ≡ onward_of (length us) (seen_of (length us) r (shown_read (Whole kind field wp sup (asked_for it)))) kind field
+                  onward_is = e₂ ∙ ap (λ (n : ℕ). onward_of n q kind field) n_is ∙ ap (λ (s : Walking030). onward_of (length us) s kind field) holds
 
-              abbrev pub next : Turn
-              next = record { ws = t.ws; n = t.n; s = r₂; asked = now; ws_is = t.ws_is; n_is = t.n_is; stands = next_stands }
+                  goes : whole ≡ rest r₂ now
+                  goes =
+                      settles ∙ rw (sym ei ∙ hi, sym ep ∙ hp)
+                      (ap (λ (s : Walking030). rest s now) (sym (e₂ ∙ ap (λ (n : ℕ). onward_of n q kind field) n_is)))
+
+                  turned : Stands r₂ now × (rank r₂ < rank s)
+                  turned =
+                      subst (λ (x : Walking030). Stands x now × (rank x < rank s)) (sym onward_is)
+                      (goes_on (rank s) r t.asked aims kind field (asked_for it) wp sup no_target few (goes ∙ ap (λ (s : Walking030). rest s now) onward_is))
+
+                  pub next : Standing r₂
+                  next = record { asked = now; stands = turned.0 }
+
+                  pub less : rank r₂ < rank s
+                  less = turned.1
 
 -- from the root of a code's space it is the definition's walk
 pub from_root : (m : Memory) (g : Registers) (address code limit : ℕ) {tc : ℕ} → tc ≡ g.tc → {root : Root} → root ≡ root_of g code
