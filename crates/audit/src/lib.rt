@@ -1,5 +1,4 @@
 // The audit of a snapshot: whether each entry of the caches that an access can meet is what the walk of its key finds now. It changes nothing.
-// A call that is lent the ranges is thin: its proof is a walk by hand, which tools/ prints.
 #![tactic(auto)]
 
 pub mod by_value;

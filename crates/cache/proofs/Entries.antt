@@ -1,4 +1,5 @@
 -- Laws of the 68030's packed entries: what an operation on tags, pages and stamps is on the entries.
+use Rattle.std.specs.Prelude.{if◌then◌else◌}
 use Prim.Native.Nat.{ℕ, zero, suc, ◌+◌, ◌*◌, ◌-◌, ◌/◌, ◌%◌, ◌<◌, ◌≤◌}
 use mathlib.Core.Path.{◌≡◌, refl, ap, sym, ◌∙◌}
 use mathlib.Core.Bool.{Bool, true, false, ◌&&◌}
@@ -7,7 +8,7 @@ use native.Mathlib.Omega.{arith}
 use borrow.Author.Tests.{eq-eqb, ne_eqb, eqb-true, eqb-false}
 use lib.Dec.{eqb, ltb, leb}
 use lib.ListN.{length, get_or, set, length-map}
-use Rattle.definition.specs.Words.{if◌then◌else◌, first_of, count_of, all_of}
+use Rattle.definition.specs.Words.{first_of, count_of, all_of}
 use Rattle.definition.specs.Cache030.{Entry, no_entry, matches, stamped, dropped, oldest}
 use Rattle.cache.specs.Packed.{bit, odd, drop_tag}
 use Rattle.cache.specs.Atc030.{entry_of, entries_of, key_of, least_of}

@@ -1,4 +1,5 @@
 -- The definitions of the 68030's cache, at the cache that an array is.
+use Rattle.std.specs.Prelude.{if◌then◌else◌}
 use Prim.Native.Nat.{ℕ, ◌+◌, ◌*◌, ◌-◌, ◌/◌, ◌%◌, ◌^◌, ◌<◌, ◌≤◌}
 use mathlib.Core.Path.{◌≡◌, refl, sym, ◌∙◌}
 use mathlib.Core.Bool.{Bool, true, false, ◌&&◌, ◌||◌, not, and-true, and-false}
@@ -9,7 +10,7 @@ use lib.Dec.{eqb, ltb}
 use lib.Bits.{bit_xor, and_zero_r}
 use lib.ListN.{length, get_or, set, length-map}
 use lib.Seq.{set-get_or}
-use Rattle.definition.specs.Words.{if◌then◌else◌, agrees, count_of}
+use Rattle.definition.specs.Words.{agrees, count_of}
 use Rattle.definition.specs.Cache030.{Entry, Cache030, matches, matching, stamped, rested, put_at, touched, found, hit_of, after_hit, dropped, shifted, victim, inserted, flushed_all, flushed_code, flushed_page}
 use Rattle.definition.specs.declared.Hit.{Hit}
 use Rattle.definition.specs.declared.Hit.TheVariants.{At, Miss}

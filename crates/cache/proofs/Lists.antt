@@ -1,4 +1,5 @@
 -- Laws of lists of numbers: what a search, a minimum, a count and a change in place have shown at the end of their loops.
+use Rattle.std.specs.Prelude.{if◌then◌else◌}
 use Prim.Native.Nat.{ℕ, zero, suc, ◌+◌, ◌-◌, ◌≤◌, ◌<◌, zero-le, suc-le-suc}
 use mathlib.Core.Path.{◌≡◌, refl, ap, sym, ◌∙◌}
 use mathlib.Core.Bool.{Bool, true, false, and-false}
@@ -11,7 +12,7 @@ use borrow.Author.Count.{below_none, below_more}
 use lib.Dec.{leb}
 use lib.ListN.{length, get_or, set, drop, drop_of_length-le}
 use lib.Seq.{drop-cons}
-use Rattle.definition.specs.Words.{if◌then◌else◌, first_of, count_of, all_of}
+use Rattle.definition.specs.Words.{first_of, count_of, all_of}
 
 -- ---- a test that goes by a number of each element
 module _ {A : Type 0} (q : ℕ → Bool) (g : A → ℕ) where

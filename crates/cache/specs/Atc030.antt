@@ -1,7 +1,7 @@
 -- The 68030's cache in one array of 69 numbers, for every content of it:
 -- 22 tags page * 16 + code * 2 + valid; 22 pages base * 2 + WP; 22 stamps; the most recent index, the clock, the shift.
-use Rattle.std.specs.Prelude.{ℕ, ◌+◌, ◌*◌, ◌-◌, ◌/◌, ◌%◌, ◌^◌, ◌≡◌, Bool, not, List, [], ◌∷◌, map, eqb, ltb, leb, length, get_or, set}
-use Rattle.definition.specs.Words.{if◌then◌else◌, first_of, count_of, all_of}
+use Rattle.std.specs.Prelude.{ℕ, ◌+◌, ◌*◌, ◌-◌, ◌/◌, ◌%◌, ◌^◌, ◌≡◌, Bool, not, List, [], ◌∷◌, map, eqb, ltb, leb, length, get_or, set, if◌then◌else◌}
+use Rattle.definition.specs.Words.{first_of, count_of, all_of}
 use Rattle.definition.specs.Cache030.{Entry, Cache030, hit_of, after_hit}
 use Rattle.definition.specs.declared.Hit.{Hit}
 use Rattle.cache.specs.Packed.{odd, part}

@@ -1,6 +1,5 @@
 -- Words on numbers with flags in their low bits, and on the parts of an array.
-use Rattle.std.specs.Prelude.{ℕ, ◌-◌, ◌%◌, Bool, List, eqb, take, drop}
-use Rattle.definition.specs.Words.{if◌then◌else◌}
+use Rattle.std.specs.Prelude.{ℕ, ◌-◌, ◌%◌, Bool, List, eqb, take, drop, if◌then◌else◌}
 
 abbrev pub bit : Bool → ℕ
 bit b = if b then 1 else 0

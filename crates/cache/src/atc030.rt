@@ -1,6 +1,6 @@
 // The 68030's 22 entries in one array: 22 tags page * 16 + code * 2 + valid, 22 pages base * 2 + WP, 22 stamps; then the most recent index, the clock, the page shift.
-ghost use Rattle.std.specs.Prelude.{◌≡◌, true, false, ◌&&◌, ◌||◌, map, ℕ, ◌+◌, ◌/◌, ◌%◌, ◌^◌, ◌<◌, eqb, ltb, get_or, length, set};
-ghost use Rattle.definition.specs.Words.{if◌then◌else◌, agrees, first_of, count_of};
+ghost use Rattle.std.specs.Prelude.{◌≡◌, true, false, ◌&&◌, ◌||◌, map, ℕ, ◌+◌, ◌/◌, ◌%◌, ◌^◌, ◌<◌, eqb, ltb, get_or, length, set, if◌then◌else◌};
+ghost use Rattle.definition.specs.Words.{agrees, first_of, count_of};
 ghost use Rattle.definition.specs.Refusal.{bad_cache};
 ghost use Rattle.definition.specs.Cache030.{Cache030, touched, hit_of, shifted, inserted, flushed_all, flushed_code, flushed_page};
 ghost use Rattle.cache.specs.Packed.{odd, drop_tag};

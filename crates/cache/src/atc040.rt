@@ -1,6 +1,5 @@
 // The 68040's 64 slots in one array: 64 keys frame * 4 + supervisor * 2 + valid, 64 bases base * 4 + W * 2 + S.
-ghost use Rattle.std.specs.Prelude.{◌≡◌, not, ◌&&◌, ◌||◌, ◌/◌, ◌%◌, ◌<◌};
-ghost use Rattle.definition.specs.Words.{if◌then◌else◌};
+ghost use Rattle.std.specs.Prelude.{◌≡◌, not, ◌&&◌, ◌||◌, ◌/◌, ◌%◌, ◌<◌, if◌then◌else◌};
 ghost use Rattle.definition.specs.Cache040.{Cache040, hit040, inserted040, flushed_all040, flushed_frame};
 ghost use Rattle.cache.specs.Packed.{odd};
 ghost use Rattle.cache.specs.Atc040.{cache040_of, Stepped040, key_of040};

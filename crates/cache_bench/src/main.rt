@@ -10,7 +10,8 @@ use cache::atc030::Atc030;
 use cache::atc040::Atc040;
 use cache::{CachePair, atc030, atc040};
 use definition::Hit;
-use libc::STDOUT_FILENO;
+use std::io;
+use std::rt::Env;
 use vectors::{Cursor, Number};
 
 // The numbers that the pages come from: x = (x * 1103515245 + 12345) mod 2^31.
@@ -161,9 +162,9 @@ fn sum_of(family: u32, pages: u32, count: u32) -> u64
 }
 
 // Argument i as a number, and 0 where it is missing or none.
-fn argument(i: usize) -> u32 {
+fn argument<E: Env>(rt: &E, i: usize) -> u32 {
     let mut text = [10u8; 16];
-    os::arg(i, &mut text);
+    let _ = rt.arg(i, &mut text);
     match vectors::read_number(&text, Cursor { at: 0 }) {
         Number::Is {
             value,
@@ -176,35 +177,28 @@ fn argument(i: usize) -> u32 {
 }
 
 // A run's line.
-fn tell(family: u32, pages: u32, count: u32, sum: u64) {
-    io::write_all(STDOUT_FILENO, b"680");
-    io::print_decimal(STDOUT_FILENO, family as u64);
-    io::write_all(STDOUT_FILENO, b" cache, ");
-    io::print_decimal(STDOUT_FILENO, pages as u64);
-    io::write_all(STDOUT_FILENO, b" pages, ");
-    io::print_decimal(STDOUT_FILENO, count as u64);
-    io::write_all(STDOUT_FILENO, b" look-ups: sum ");
-    io::print_decimal(STDOUT_FILENO, sum);
-    io::write_all(STDOUT_FILENO, b"\n");
+fn tell<P: Print>(rt: &P, family: u32, pages: u32, count: u32, sum: u64) -> io::Result<()> {
+    println!(rt; "680{family} cache, {pages} pages, {count} look-ups: sum {sum}")
 }
 
 // The run of the three arguments from i on, and whether there are three.
-fn one_run(i: usize) -> bool
+fn one_run<S: Env + Print>(rt: &S, i: usize) -> io::Result<bool>
     requires { i < 1000 }
 {
-    let family = argument(i);
-    let pages = argument(i + 1);
-    let count = argument(i + 2);
+    let family = argument(rt, i);
+    let pages = argument(rt, i + 1);
+    let count = argument(rt, i + 2);
     if pages == 0 {
-        return false;
+        return Ok(false);
     }
-    tell(family, pages, count, sum_of(family, pages, count));
-    true
+    tell(rt, family, pages, count, sum_of(family, pages, count))?;
+    Ok(true)
 }
 
-fn main() {
+fn main(rt: HostRuntime) -> io::Result<()> {
     let mut i = 1;
-    while i < 100 && one_run(i) {
+    while i < 100 && one_run(&rt, i)? {
         i += 3;
     }
+    Ok(())
 }

@@ -1,4 +1,5 @@
 -- How large a code, a page shift and a page's bits can be. Assumes nothing.
+use Rattle.std.specs.Prelude.{if◌then◌else◌}
 use Prim.Native.Nat.{ℕ, ◌+◌, ◌-◌, ◌%◌, ◌<◌}
 use mathlib.Core.Path.{◌≡◌, refl, sym, ◌∙◌}
 use mathlib.Core.Bool.{Bool, true, false, ◌&&◌}
@@ -6,7 +7,7 @@ use native.Mathlib.Omega.{arith}
 use native.Mathlib.Nat.{mod-eq_of_lt}
 use borrow.Author.Tests.{leb-true}
 use lib.Dec.{leb}
-use Rattle.definition.specs.Words.{if◌then◌else◌, bit_of}
+use Rattle.definition.specs.Words.{bit_of}
 use Rattle.definition.specs.Registers.{code_of}
 use Rattle.definition.specs.Walk030.{used, widths_of, is_of, sum_of, shift_from, shift_of}
 use Rattle.definition.specs.Walk040.{page_bits}

@@ -1,6 +1,5 @@
 // The host's calls, for C or Rust to link. The host keeps the caches' arrays, the longs and the registers as numbers, and a slice of ranges, and lends
 // them in one call; it changes the caches in place and writes its answer to five numbers (`numbers` says which number means what).
-// A call that is lent the ranges is thin: its proof is a walk by hand, which tools/ prints.
 #![tactic(auto)]
 
 ghost use Rattle.std.specs.Prelude.{◌≡◌};

@@ -1,6 +1,5 @@
 // The host's calls of the audit, for C or Rust to link: a library of their own. What the tables say of an entry is a translation, and a second
 // caller of it in the library of the calls would take `mmu_translate` apart (docs/DECISIONS.md).
-// A call that is lent the ranges is thin: its proof is a walk by hand, which tools/ prints.
 #![tactic(auto)]
 
 ghost use Rattle.std.specs.Prelude.{◌≡◌};

@@ -1,5 +1,4 @@
 // The calls that walk, for a caller that keeps its ranges in an array: the front of the array is lent to the call in place.
-// Such a function is thin: its proof is a walk by hand, which tools/ prints.
 #![tactic(auto)]
 
 ghost use Rattle.std.specs.Prelude.{◌≡◌, take};

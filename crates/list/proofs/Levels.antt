@@ -4,11 +4,11 @@ use mathlib.Core.Path.{◌≡◌, refl, sym, ap, ◌∙◌}
 use mathlib.Core.List.{List, [], ◌∷◌}
 use native.Mathlib.Omega.{arith}
 use native.Mathlib.Decide.{dec_le}
-use native.Mathlib.Nat.{mul-le-mul_right, suc-mul, mul-mod_left, mod-eq_of_lt}
+use native.Mathlib.Nat.{mul-le-mul_right, suc-mul, mul-mod_left}
 use native.Mathlib.Numerals.{add-one}
 use borrow.Author.Tests.{eq-eqb, ne_eqb}
 use lib.Dec.{eqb, lit<}
-use lib.Pow.{pow-add, pow_pos, pow_mono, shl_exact, shr_lt, split}
+use lib.Pow.{pow-add, pow_pos, shr_lt, split}
 use lib.ListN.{length, get_or, drop, drop_of_length-le, get_or-eq_default}
 use lib.Seq.{drop-cons}
 use Rattle.definition.specs.Walk030.{widths_of, used, sum_of}
@@ -134,27 +134,3 @@ root_placed tc ws root t e h is = at_root tc ws t e h (rw is refl, rw is refl)
 pub code_placed : (tc : ℕ) (ws : List ℕ) (root : Root) (t : Node) (code : ℕ) (n : Node) → ws ≡ widths_of tc → sum_of (used (widths_of tc)) ≤ 32 → t ≡ root_table root
     → n ≡ code_entry t code → Placed ws 0 n
 code_placed tc ws root t code n e h is its = at_root tc ws n e h (rw (its, is) refl, rw (its, is) refl)
-
--- ---- arithmetic of the code's shifts
-pub past : (ws : List ℕ) (k : ℕ) → length ws ≡ 4 → 4 ≤ k → 0 ≡ get_or ws k 0
-past ws k e h = sym (get_or-eq_default ws 0 (omega arith))
-
-pub low_part : (first x : ℕ) → first + x < 2 ^ 32 → x % 2 ^ 32 ≡ x
-low_part first x h = mod-eq_of_lt (omega arith)
-
-pub size_of : (c : ℕ) → (1 * 2 ^ (32 - c) % 2 ^ 64 ≡ 2 ^ (32 - c)) × (1 * 2 ^ (32 - c) % 2 ^ 64 ≤ 2 ^ 32)
-size_of c =
-    let e : 1 * 2 ^ (32 - c) % 2 ^ 64 ≡ 1 * 2 ^ (32 - c) = shl_exact 1 (32 - c) 64 (lit< tt) (omega arith) in
-    let o : 1 * 2 ^ (32 - c) ≡ 2 ^ (32 - c) = omega arith in
-    let m = pow_mono {i = 32 - c} {j = 32} (omega arith) in
-    (e ∙ o, omega arith)
-
-pub entries_are : (w : ℕ) → w < 16 → 1 * 2 ^ w % 2 ^ 32 ≡ 2 ^ w
-entries_are w h =
-    let e : 1 * 2 ^ w % 2 ^ 32 ≡ 1 * 2 ^ w = shl_exact 1 w 32 (lit< tt) (omega arith) in
-    let o : 1 * 2 ^ w ≡ 2 ^ w = omega arith in
-    e ∙ o
-
--- what is left of a sum
-pub rest : (all i s : ℕ) → all ≡ i + s → all - i ≡ s
-rest all i s e = omega arith

@@ -1,10 +1,10 @@
 -- What an entry is, from what was read of it. Assumes nothing.
 use Prim.Native.Nat.{ℕ, ◌*◌, ◌/◌}
 use mathlib.Core.Path.{◌≡◌, refl, sym, ap, ◌∙◌}
-use mathlib.Core.Bool.{Bool, true, false, not}
+use mathlib.Core.Bool.{Bool, true, false}
 use native.Mathlib.Omega.{arith}
 use borrow.Author.Tests.{ne_eqb, le-ltb}
-use lib.Dec.{T, eqb}
+use lib.Dec.{eqb}
 use Rattle.definition.specs.Memory.{Memory}
 use Rattle.definition.specs.Walk030.{Descriptor, Whole, Lost, read_of}
 use Rattle.memory.specs.Descriptors.{shown_read}
@@ -18,13 +18,6 @@ use Rattle.definition.specs.declared.Mapped.{Mapped}
 use Rattle.definition.specs.declared.Node.{Node}
 use Rattle.definition.specs.declared.Seen.{Seen}
 use Rattle.definition.specs.declared.Seen.TheVariants.{Nothing, One, Opens}
-
--- a test that was taken or left
-pub holds : (a : Bool) → a ≡ true → T a
-holds a e = rw e tt
-
-pub fails : (a : Bool) → a ≡ false → T (not a)
-fails a e = rw e tt
 
 -- a target is what its descriptor says
 target_is : (e : Node) (d : Descriptor) → target_by e (shown_read d) ≡ seen_target e d

@@ -32,6 +32,7 @@ fn kind(x: Mapped) -> u64
 }
 
 // A range as one number.
+#[tactic(auto, unfolding(crate::specs::Numbers::number_of))]
 fn number(x: Mapped) -> u64
     ensures { result ≡ number_of x }
 {
@@ -40,6 +41,7 @@ fn number(x: Mapped) -> u64
 }
 
 // One range more, where there is room; else its address is kept to go on from.
+#[tactic(auto, unfolding(crate::specs::Writing::put))]
 pub fn put(out: &mut [u64], s: Progress, x: Mapped) -> Progress
     ensures { written out.new result ≡ put_of x (written out.old s) }
 {

@@ -50,18 +50,18 @@ module _ (g : Registers) (code : ℕ) (two crossed : Bool) where
     unfolding plan_load
     load_refused h z = rw (← is, ne_eqb n 0 h) (record { plans = refl; leaves = refl; sized = z })
 
-    pub load_off : {x : Bool} → n ≡ 0 → x ≡ on g → not x ≡ true → length c030 ≡ 69
+    pub load_off : {x : Bool} → n ≡ 0 → x ≡ on g → x ≡ false → length c030 ≡ 69
         → PlannedIn (plan_load g code write address two crossed (cache_of c030)) (Plan.Settled Load.Loaded) c030
     unfolding plan_load
-    load_off e q h z = rw (sym is ∙ e, ap not (sym q) ∙ h) (record { plans = refl; leaves = refl; sized = z })
+    load_off e q h z = rw (sym is ∙ e, sym q ∙ h) (record { plans = refl; leaves = refl; sized = z })
 
-    pub load_dropped : {x stop : Bool} {p : Plan} {c030' : List ℕ} → n ≡ 0 → x ≡ on g → not x ≡ false
+    pub load_dropped : {x stop : Bool} {p : Plan} {c030' : List ℕ} → n ≡ 0 → x ≡ on g → x ≡ true
         → Stepped (λ (c : Cache030). flushed_page c code 7 address) c030 c030'
         → stop ≡ stopped (shift_of g.tc) (transparent030 g address code write) → p ≡ load_plan stop code
         → PlannedIn (plan_load g code write address two crossed (cache_of c030)) p c030'
     unfolding plan_load
     load_dropped e q h s t p =
-        rw (sym is ∙ e, ap not (sym q) ∙ h, ← t) (record { plans = p; leaves = s.leaves; sized = s.sized })
+        rw (sym is ∙ e, sym q ∙ h, ← t) (record { plans = p; leaves = s.leaves; sized = s.sized })
 
 -- a load that walks has a code below 8
 above_zero : (n : ℕ) → 0 < n → n ≡ 0 → ⊥

@@ -14,7 +14,6 @@ use Rattle.definition.specs.declared.Registers.{Registers}
 use Rattle.definition.specs.declared.Load.{Load}
 use Rattle.cache.specs.Atc030.{cache_of}
 use Rattle.walk030.specs.Walked.{shown}
-use Rattle.walk030.specs.declared.Walked.{Walked}
 use Rattle.checks.specs.Given.{checks_of, with_third}
 use Rattle.search.specs.Searched.{end030}
 use Rattle.load.specs.declared.Plan.{Plan}

@@ -1,6 +1,5 @@
 // Load in place: 'PLOAD, only with an enabled PMMU, drops the page (mask 7), stops if there is no page shift or TT0 or TT1 matches, and searches and caches.'
 // It is written here and nowhere else: the calls by value, the host's door and the replay hand on to `load`.
-// It is lent the ranges, so it is thin: its proof is a walk by hand, which tools/ prints.
 #![tactic(auto)]
 
 mod after;

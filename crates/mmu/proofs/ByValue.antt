@@ -1,13 +1,13 @@
 -- From a call in place to the call by value. Assumes nothing.
 use Prim.Native.Nat.{ℕ}
-use mathlib.Core.Path.{◌≡◌, refl, ap, sym, subst, ◌∙◌}
+use mathlib.Core.Path.{◌≡◌, sym, ◌∙◌}
 use mathlib.Core.List.{List}
 use mathlib.Core.Bool.{Bool}
 use lib.ListN.{length}
 use Rattle.definition.specs.Memory.{Memory}
 use Rattle.definition.specs.Refusal.{bad_range}
 use Rattle.definition.specs.Cache040.{Cache040}
-use Rattle.definition.specs.Translate.{Caches, translate}
+use Rattle.definition.specs.Translate.{translate}
 use Rattle.definition.specs.Load.{load}
 use Rattle.definition.specs.Test.{test}
 use Rattle.definition.specs.declared.Registers.{Registers}

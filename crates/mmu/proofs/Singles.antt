@@ -4,10 +4,8 @@ use mathlib.Core.Path.{◌≡◌, sym, ◌∙◌}
 use Rattle.definition.specs.Translate.{Translated as TranslatedOf}
 use Rattle.definition.specs.Load.{Loaded as LoadedOf}
 use Rattle.definition.specs.Flush.{Flushed as FlushedOf}
-use Rattle.definition.specs.declared.Load.{Load}
 use Rattle.definition.specs.declared.Test.{Test}
 use Rattle.definition.specs.declared.Probe.{Probe}
-use Rattle.definition.specs.declared.Flush.{Flush}
 use Rattle.cache.proofs.Pairs.{pair_same}
 use Rattle.test.specs.declared.TestOutcome.{TestOutcome}
 use Rattle.mmu.specs.declared.by_value.Translated.{Translated}

@@ -1,5 +1,4 @@
 // The calls of document 01 that walk, by value: 'Two caches, by value first.' Each copies the pair's arrays, lends them to the call in place and builds the pair anew.
-// A call that is lent the ranges is thin: its proof is a walk by hand, which tools/ prints.
 ghost use Rattle.std.specs.Prelude.{◌≡◌, length};
 ghost use Rattle.definition.specs.Memory.{memory};
 ghost use Rattle.definition.specs.Translate.{translate as translate_of};

@@ -1,6 +1,6 @@
 // Document 01's form for a host: 'the host keeps one pair of caches and has it changed in place, by a few thin functions' above
 // the calls by value. The door that a host links is `host`.
-// Each takes what lies behind the `&mut`, calls, and puts the next pair there: its proof is a walk by hand, which tools/ prints.
+// Each takes what lies behind the `&mut`, calls, and puts the next pair there.
 #![tactic(auto)]
 
 ghost use Rattle.std.specs.Prelude.{◌≡◌};

@@ -15,7 +15,7 @@ use Rattle.definition.specs.Cache040.{Cache040}
 use Rattle.definition.specs.Translate.{Caches}
 use Rattle.definition.specs.Load.{Loaded, load_checks, load_in_order, stopped}
 use Rattle.definition.specs.Probe.{probe}
-use Rattle.definition.specs.Flush.{Flushed, flush_all, flush_code, flush_page, flush_frame}
+use Rattle.definition.specs.Flush.{flush_all, flush_code, flush_page, flush_frame}
 use Rattle.definition.specs.Calls as calls
 use Rattle.definition.specs.Calls.{Call, translation_line, load_line, test_line, probe_line, flush_line, calling, of_flushed}
 use Rattle.definition.specs.declared.Registers.{Registers}

@@ -2,17 +2,17 @@
 use Prim.Native.Nat.{ℕ, suc, ◌+◌, ◌-◌, ◌*◌, ◌≤◌, ◌<◌}
 use mathlib.Core.Path.{◌≡◌, refl, ap, sym, subst, ◌∙◌}
 use mathlib.Core.List.{List, [], ◌∷◌, ◌++◌, append_assoc}
-use mathlib.Core.Bool.{Bool, true, false}
+use mathlib.Core.Bool.{false}
 use mathlib.Core.Logic.{◌⊎◌, inl, inr}
 use native.Mathlib.Omega.{arith}
 use native.Mathlib.Numerals.{add-one, add-two}
 use native.Mathlib.Nat.{not-suc-le-zero, le_of_suc-le-suc}
-use borrow.Author.Tests.{le-leb, lt-leb, leb-true}
+use borrow.Author.Tests.{le-leb, lt-leb}
 use lib.Dec.{leb}
 use lib.ListN.{length, get_or, take, drop, length-drop}
 use lib.Seq.{drop-cons, drop-drop}
 use Rattle.definition.specs.Words.{if◌then◌else◌}
-use Rattle.definition.specs.Trace.{State, Front, Body, Short, Ended, front_of, Record, Calls, Malformed, record_of, is_malformed, step_of, text, play_from}
+use Rattle.definition.specs.Trace.{State, Body, Short, Ended, front_of, Record, Calls, Malformed, record_of, is_malformed, step_of, text, play_from}
 use Rattle.definition.proofs.Files.{plays_on}
 use Rattle.trace.specs.Lines.{line_in, Wrote}
 use Rattle.trace.specs.Records.{call_in, setting_in, record_in}
@@ -25,7 +25,7 @@ use Rattle.trace.proofs.Writes.{nothing, then, same_length, next_near}
 use Rattle.replay.specs.declared.Kept.{Kept}
 use Rattle.replay.specs.declared.run.Whole.{Whole}
 use Rattle.replay.specs.declared.run.Why.{Why}
-use Rattle.replay.specs.Playing.{state_of, PlayedIn, Runs, none, more, Stands, Fronts, Bad, Stops, Going, RanIn}
+use Rattle.replay.specs.Playing.{state_of, PlayedIn, Runs, none, more, Stands, Fronts, Going, RanIn}
 
 -- ---- what stands at a place
 few : (l : List ℕ) → length l < 2 → (front_of l ≡ Short) ⊎ (front_of l ≡ Ended)

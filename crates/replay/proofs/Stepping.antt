@@ -1,27 +1,25 @@
 -- What each record's parts give together: the definition's step. Assumes nothing.
-use Prim.Native.Nat.{ℕ, suc, ◌+◌, ◌*◌, ◌/◌, ◌%◌, ◌≤◌, ◌<◌}
+use Prim.Native.Nat.{ℕ, ◌+◌, ◌*◌, ◌/◌, ◌%◌, ◌≤◌, ◌<◌}
 use mathlib.Core.Path.{◌≡◌, refl, ap, sym, ◌∙◌}
 use mathlib.Core.List.{List, [], ◌∷◌, ◌++◌}
-use mathlib.Core.Bool.{Bool, true, false, not, ◌&&◌, ◌||◌, or_assoc, or_false}
+use mathlib.Core.Bool.{Bool, true, false, ◌||◌}
 use native.Mathlib.Omega.{arith}
 use native.Mathlib.Numerals.{add-one}
 use borrow.Author.Tests.{eq-eqb, ne_eqb, lt-ltb, le-ltb, le-leb, lt-leb}
-use lib.Dec.{eqb, ltb, leb}
+use lib.Dec.{ltb}
 use lib.ListN.{length, take, set, length-take}
 use lib.Seq.{length-take-le, take-suc-set}
-use Rattle.definition.specs.Words.{if◌then◌else◌, any_of}
-use Rattle.definition.specs.Refusal.{no_family, bad_store, crossed, no_room, refusal_of}
-use Rattle.definition.specs.Calls as calls
-use Rattle.definition.specs.Calls.{Call, Called, calling}
+use Rattle.definition.specs.Words.{any_of}
+use Rattle.definition.specs.Refusal.{no_family, bad_store, crossed, refusal_of}
+use Rattle.definition.specs.Calls.{Call, calling}
 use Rattle.definition.specs.Trace.{State, memory_of, Loads, Calls, Stores, Adds, step_of}
 use Rattle.definition.specs.declared.Registers.{Registers}
 use Rattle.definition.specs.declared.Range.{Range}
-use Rattle.trace.specs.Lines.{line_in}
 use Rattle.trace.specs.Records.{setting_in}
 use Rattle.trace.specs.declared.Line.{Line}
 use Rattle.trace.specs.declared.Setting.{Setting}
 use Rattle.replay.specs.declared.Kept.{Kept}
-use Rattle.replay.specs.Playing.{ranges_of, state_of, CalledIn, StoredIn, PlayedIn}
+use Rattle.replay.specs.Playing.{state_of, CalledIn, StoredIn, PlayedIn}
 
 -- ---- registers
 module _ (k : Kept) (g : Registers) {x : Bool} (is : x ≡ no_family g.family) {longs c030 c040 : List ℕ} where

@@ -1,11 +1,11 @@
 -- What the replay keeps is the definition's state; what one record and a run over a buffer promise.
-use Rattle.std.specs.Prelude.{ℕ, ◌+◌, ◌-◌, ◌/◌, ◌≤◌, ◌<◌, ◌≡◌, Bool, true, false, List, [], ◌∷◌, ◌++◌, ◌⊎◌, length, take, drop, set}
+use Rattle.std.specs.Prelude.{ℕ, ◌+◌, ◌-◌, ◌/◌, ◌≤◌, ◌<◌, ◌≡◌, Bool, true, false, List, [], ◌++◌, ◌⊎◌, length, take, drop, set}
 use Rattle.definition.specs.Words.{if◌then◌else◌}
 use Rattle.definition.specs.Memory.{Memory}
 use Rattle.definition.specs.Refusal.{bad_store}
 use Rattle.definition.specs.Translate.{Caches}
 use Rattle.definition.specs.Calls as calls
-use Rattle.definition.specs.Trace.{State, Played, Front, Body, Short, Ended, front_of, record_of, is_malformed, step_of, text}
+use Rattle.definition.specs.Trace.{State, Played, Body, Short, Ended, front_of, record_of, is_malformed, step_of, text}
 use Rattle.definition.specs.declared.Range.{Range}
 use Rattle.definition.specs.declared.Registers.{Registers}
 use Rattle.trace.specs.Lines.{line_in, Wrote}

@@ -18,7 +18,7 @@ use Rattle.definition.specs.declared.End.TheVariants as end
 use Rattle.definition.specs.declared.Test.{Test}
 use Rattle.walk030.specs.declared.Walked.{Walked}
 use Rattle.definition.specs.Registers.{root_of}
-use Rattle.definition.specs.Walk030.{walk030, outcome_of}
+use Rattle.definition.specs.Walk030.{outcome_of}
 use Rattle.walk030.specs.Walked.{shown}
 use Rattle.walk030.proofs.Driving.{from_root}
 use Rattle.checks.specs.Given.{checks_of, with_third}

@@ -10,7 +10,6 @@ use Rattle.definition.specs.Test.{Tested, tested, flag, mmusr_of, test_in_order,
 use Rattle.definition.specs.declared.Registers.{Registers}
 use Rattle.definition.specs.declared.Test.{Test}
 use Rattle.walk030.specs.Walked.{shown}
-use Rattle.walk030.specs.declared.Walked.{Walked}
 use Rattle.checks.specs.Given.{checks_of, with_third}
 use Rattle.test.specs.declared.Plan.{Plan}
 use Rattle.test.specs.declared.Plan.TheVariants as plan

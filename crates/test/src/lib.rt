@@ -1,6 +1,5 @@
 // Test in place: 'PTEST works whether enabled or not and touches no cache.'
 // It is written here and nowhere else: the calls by value, the host's door and the replay hand on to `test`.
-// It is lent the ranges, so it is thin: its proof is a walk by hand, which tools/ prints.
 #![tactic(auto)]
 
 mod after;

@@ -84,12 +84,12 @@ module _ (g : Registers) (a : Access) (two crossed : Bool) {n : ℕ} where
   unfolding plan_access
   plan_refused is h z = rw (← is, ne_eqb n 0 h) (record { plans = refl; leaves = refl; whole = z })
 
-  pub plan_off : {x : Bool} {c030 c040 : List ℕ} → n ≡ access_refusal g a two crossed (cache_of c030) → n ≡ 0 → x ≡ on g → not x ≡ true
+  pub plan_off : {x : Bool} {c030 c040 : List ℕ} → n ≡ access_refusal g a two crossed (cache_of c030) → n ≡ 0 → x ≡ on g → x ≡ false
       → SizedAll c030 c040 → PlannedIn (plan_access g a two crossed (caches_of c030 c040)) (settled_at a.address) c030 c040
   unfolding plan_access
-  plan_off is e is-on h z = rw (sym is ∙ e, ap not (sym is-on) ∙ h) (record { plans = refl; leaves = refl; whole = z })
+  plan_off is e is-on h z = rw (sym is ∙ e, ap not (sym is-on ∙ h)) (record { plans = refl; leaves = refl; whole = z })
 
-  pub plan_goes_on : (c : Caches) {x : Bool} {r : Plan} {c030 c040 : List ℕ} → n ≡ access_refusal g a two crossed c.c030 → n ≡ 0 → x ≡ on g → not x ≡ false
+  pub plan_goes_on : (c : Caches) {x : Bool} {r : Plan} {c030 c040 : List ℕ} → n ≡ access_refusal g a two crossed c.c030 → n ≡ 0 → x ≡ on g → x ≡ true
       → PlannedIn (plan_on g a c) r c030 c040 → PlannedIn (plan_access g a two crossed c) r c030 c040
   unfolding plan_access
-  plan_goes_on c is e is-on h p = rw (sym is ∙ e, ap not (sym is-on) ∙ h) p
+  plan_goes_on c is e is-on h p = rw (sym is ∙ e, ap not (sym is-on ∙ h)) p

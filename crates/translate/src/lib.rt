@@ -1,6 +1,5 @@
 // Translate in place: 'No PMMU or not enabled: the address itself. .. Then transparent registers, cache, walk.'
 // It is written here and nowhere else: the calls by value, the host's door and the replay hand on to `translate`.
-// It is lent the ranges, so it is thin: its proof is a walk by hand, which tools/ prints.
 #![tactic(auto)]
 
 mod after;

@@ -11,6 +11,7 @@ ghost use Rattle.std.specs.Prelude.{◌+◌, ◌*◌, ◌≤◌};
 
 use definition::Translation;
 use rows::{Case, Parts};
+use std::io::Read;
 use vectors::Progress;
 use walk030::Walked;
 use walk040::Walked040;
@@ -135,28 +136,34 @@ fn is_same(row: &[u32; 128], count: usize) -> bool {
 }
 
 // One row more.
-fn one_row(p: Progress, buf: &mut [u8; 65536], row: &mut [u32; 128]) -> Progress {
-    let next = p.advance(libc::STDIN_FILENO, buf, row);
+fn one_row<P: Print, R: Read>(
+    rt: &P,
+    input: &mut R,
+    p: Progress,
+    buf: &mut [u8; 65536],
+    row: &mut [u32; 128],
+) -> Progress {
+    let next = p.advance(rt, input, buf, row);
     if !next.on {
         return next;
     }
     let same = is_same(row, next.count);
-    next.judged(same)
+    next.judged(rt, same)
 }
 
 // Every row. The loop counts its turns down, since nothing says that a file ends.
-fn every_row() -> Progress {
-    let mut buf = io::large_buffer();
+fn every_row<P: Print, R: Read>(rt: &P, input: &mut R) -> Progress {
+    let mut buf = [0u8; 65536];
     let mut row = [0u32; 128];
     let mut p = Progress::start();
     let mut turns = u64::MAX;
     while turns > 0 && p.on {
         turns -= 1;
-        p = one_row(p, &mut buf, &mut row);
+        p = one_row(rt, input, p, &mut buf, &mut row);
     }
     p
 }
 
-fn main() {
-    every_row().print(b"walks");
+fn main(rt: HostRuntime) {
+    every_row(&rt, &mut rt.stdin()).print(&rt, b"walks");
 }

@@ -1,0 +1,5 @@
+use Rattle.replay.proofs.Calling as law
+use Rattle.replay.proofs.calls.test_call.Goals as goal
+
+pub returns : goal.returns
+returns c = law.of_test _ _ _ _ _ _ _ c.test-o.ensures c.test_line.ensures
