@@ -177,7 +177,17 @@ fn drained<H: Print + Eprint>(
     let mut at = 0;
     let mut turns = u64::MAX;
     while turns > 0 {
-        let s = some(rt, c030, c040, longs, now, &buffer[at..have], out, line, states);
+        let s = some(
+            rt,
+            c030,
+            c040,
+            longs,
+            now,
+            &buffer[at..have],
+            out,
+            line,
+            states,
+        );
         now = s.kept;
         let read = s.read;
         let next = s.next;
