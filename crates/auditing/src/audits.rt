@@ -269,15 +269,16 @@ fn put_record(out: &mut [u8], named: Named, record: u64) -> usize {
 }
 
 // At the end of a trace: the stale entries, and how many of how many they are.
-pub fn at_end(out: &mut [u8], c030: &Atc030, c040: &Atc040, longs: &[u32], kept: Kept) -> bool {
+pub fn at_end<H: Print + Eprint>(rt: &H, out: &mut [u8], c030: &Atc030, c040: &Atc040, longs: &[u32], kept: Kept) -> bool {
     let named = put_stales(out, c030, c040, longs, kept);
     let all = entries(c030, c040, longs, kept);
     let to = put_verdict(out, named, all);
-    shown(out, to)
+    shown(rt, out, to)
 }
 
 // After a record: whether every entry is right. The first record that leaves a stale one is named.
-pub fn after_record(
+pub fn after_record<H: Print + Eprint>(
+    rt: &H,
     out: &mut [u8],
     c030: &Atc030,
     c040: &Atc040,
@@ -290,14 +291,14 @@ pub fn after_record(
         return true;
     }
     let to = put_record(out, named, record);
-    shown(out, to);
+    shown(rt, out, to);
     false
 }
 
 // At the end of a trace after each of whose records every entry was right.
-pub fn all_clean(out: &mut [u8], records: u64) -> bool {
+pub fn all_clean<H: Print + Eprint>(rt: &H, out: &mut [u8], records: u64) -> bool {
     let mut to = put_text(out, 0, b"clean after each of ");
     to = put_decimal(out, to, records);
     to = put_text(out, to, b" records\n");
-    shown(out, to)
+    shown(rt, out, to)
 }

@@ -12,9 +12,10 @@ ghost use Rattle.auditing.specs.Driving.{Went, Waits, Turned};
 
 use cache::atc030::Atc030;
 use cache::atc040::Atc040;
-use libc::{STDERR_FILENO, STDIN_FILENO};
 use replay::Kept;
 use replay::run::Why;
+use std::env::Env;
+use std::io::Read;
 use streams::{Got, shown, written};
 
 // Where the driver stands: what the replay keeps, how many bytes of the buffer wait, and whether it goes on.
@@ -59,19 +60,20 @@ fn is_stepped(how: How) -> bool {
 }
 
 // Refusal 7: the last line.
-fn malformed() {
-    written(b"R 7\n");
+fn malformed<H: Print + Eprint>(rt: &H) {
+    written(rt, b"R 7\n");
 }
 
 // What the table tree of what is kept maps.
-fn mapped(line: &mut [u8], longs: &[u32], kept: Kept) -> bool {
+fn mapped<H: Env + Print + Eprint>(rt: &H, line: &mut [u8], longs: &[u32], kept: Kept) -> bool {
     let g = kept.registers;
     let list = kept.list;
-    listing::listed(line, longs, g, list, kept.n)
+    listing::listed(rt, line, longs, g, list, kept.n)
 }
 
 // At the end of the input: `end`, what the audit says or the list, or refusal 7 where a part of a record is left.
-fn finish(
+fn finish<H: Env + Print + Eprint>(
+    rt: &H,
     line: &mut [u8],
     c030: &Atc030,
     c040: &Atc040,
@@ -82,15 +84,15 @@ fn finish(
     records: u64,
 ) {
     if have != 0 {
-        malformed();
+        malformed(rt);
         return;
     }
     match how {
-        How::Lines => written(b"end\n"),
-        How::States => written(b"end\n"),
-        How::AtEnd => audits::at_end(line, c030, c040, longs, kept),
-        How::AfterEach => audits::all_clean(line, records),
-        How::List => mapped(line, longs, kept),
+        How::Lines => written(rt, b"end\n"),
+        How::States => written(rt, b"end\n"),
+        How::AtEnd => audits::at_end(rt, line, c030, c040, longs, kept),
+        How::AfterEach => audits::all_clean(rt, line, records),
+        How::List => mapped(rt, line, longs, kept),
     };
 }
 
@@ -125,21 +127,21 @@ struct Played {
 }
 
 // Which comes after a run. A malformed record ends it.
-fn after(why: Why) -> Next {
+fn after<H: Print + Eprint>(rt: &H, why: Why) -> Next {
     match why {
         Why::Input => Next::Input,
         Why::Room => Next::More,
         Why::Malformed => {
-            malformed();
+            malformed(rt);
             Next::Over
         }
     }
 }
 
 // The lines of a run.
-fn lines_shown(out: &[u8], wrote: usize, how: How) -> bool {
+fn lines_shown<H: Print + Eprint>(rt: &H, out: &[u8], wrote: usize, how: How) -> bool {
     if has_lines(how) {
-        return shown(out, wrote);
+        return shown(rt, out, wrote);
     }
     true
 }
@@ -152,7 +154,8 @@ fn count(records: &mut [u64; 1]) {
 }
 
 // After a record that printed its line: both caches, or what the audit says of them. Whether it goes on.
-fn stepped(
+fn stepped<H: Print + Eprint>(
+    rt: &H,
     line: &mut [u8],
     c030: &Atc030,
     c040: &Atc040,
@@ -170,17 +173,18 @@ fn stepped(
         How::Lines => true,
         How::States => {
             let n = states::state_line(line, c030, c040);
-            shown(line, n)
+            shown(rt, line, n)
         }
         How::AtEnd => true,
-        How::AfterEach => audits::after_record(line, c030, c040, longs, kept, records[0]),
+        How::AfterEach => audits::after_record(rt, line, c030, c040, longs, kept, records[0]),
         How::List => true,
     }
 }
 
 // One run over waiting bytes, with its lines written. Where something is written after each record it plays one, since `out` has
 // room for one line.
-fn some(
+fn some<H: Print + Eprint>(
+    rt: &H,
     c030: &mut Atc030,
     c040: &mut Atc040,
     longs: &mut [u32],
@@ -203,16 +207,16 @@ fn some(
         read: 0,
         next: Next::Over,
     };
-    if !lines_shown(out, wrote, how) {
+    if !lines_shown(rt, out, wrote, how) {
         return over;
     }
-    if !stepped(line, c030, c040, longs, now, how, wrote, records) {
+    if !stepped(rt, line, c030, c040, longs, now, how, wrote, records) {
         return over;
     }
     Played {
         kept: now,
         read: ran.read,
-        next: after(why),
+        next: after(rt, why),
     }
 }
 
@@ -241,7 +245,8 @@ fn resting(buffer: &mut [u8], kept: Kept, at: usize, have: usize) -> Waiting
 }
 
 // Plays the waiting bytes as far as whole records stand there.
-fn drained(
+fn drained<H: Print + Eprint>(
+    rt: &H,
     c030: &mut Atc030,
     c040: &mut Atc040,
     longs: &mut [u32],
@@ -261,6 +266,7 @@ fn drained(
     let mut turns = u64::MAX;
     while turns > 0 {
         let s = some(
+            rt,
             c030,
             c040,
             longs,
@@ -290,12 +296,14 @@ fn drained(
 }
 
 // Says on standard error that a read failed.
-fn unread() {
-    io::write_all(STDERR_FILENO, b"player: a read failed\n");
+fn unread<H: Eprint>(rt: &H) {
+    let _ = rt.eprintln("player: a read failed");
 }
 
 // Reads once and plays what came. At the end of the input, or where a read fails, it is over.
-fn turn(
+fn turn<H: Env + Print + Eprint, R: Read>(
+    rt: &H,
+    input: &mut R,
     c030: &mut Atc030,
     c040: &mut Atc040,
     longs: &mut [u32],
@@ -311,32 +319,33 @@ fn turn(
 {
     let kept = w.kept;
     let have = w.have;
-    match streams::fill(STDIN_FILENO, buffer, have) {
+    match streams::fill(input, buffer, have) {
         Got::Failed => {
-            unread();
+            unread(rt);
             over(kept)
         }
         Got::Ended => {
-            finish(line, c030, c040, longs, kept, have, how, records[0]);
+            finish(rt, line, c030, c040, longs, kept, have, how, records[0]);
             over(kept)
         }
-        Got::Waiting(n) => drained(c030, c040, longs, kept, buffer, n, out, line, how, records),
+        Got::Waiting(n) => drained(rt, c030, c040, longs, kept, buffer, n, out, line, how, records),
     }
 }
 
 // The version byte: `v1` follows a good one, and refusal 7 anything else.
-fn begins(how: How) -> bool {
+fn begins<H: Print + Eprint, R: Read>(rt: &H, input: &mut R, how: How) -> bool {
     let mut version = [0u8; 1];
-    let got = libc::read(STDIN_FILENO, &mut version);
-    if got < 0 {
-        unread();
-        return false;
+    match streams::fill(input, &mut version, 0) {
+        Got::Failed => {
+            unread(rt);
+            false
+        }
+        Got::Waiting(_) if version[0] == 1 => lines_shown(rt, b"v1\n", 3, how),
+        _ => {
+            malformed(rt);
+            false
+        }
     }
-    if got == 1 && version[0] == 1 {
-        return lines_shown(b"v1\n", 3, how);
-    }
-    malformed();
-    false
 }
 
 // How many bytes a run may write. Where something is written after each record one line: a line is written where 44 bytes have room, and has two or more.
@@ -350,8 +359,8 @@ fn room_for(how: How) -> usize
 }
 
 // Plays the trace on standard input.
-pub fn play(how: How) {
-    if !begins(how) {
+pub fn play<H: Env + Print + Eprint, R: Read>(rt: &H, input: &mut R, how: How) {
+    if !begins(rt, input, how) {
         return;
     }
     let mut c030 = [0u64; 69];
@@ -370,6 +379,8 @@ pub fn play(how: How) {
     let mut turns = u64::MAX;
     while turns > 0 && w.on {
         w = turn(
+            rt,
+            input,
             &mut c030,
             &mut c040,
             &mut longs,

@@ -2,6 +2,6 @@
 // Its stdin here is samples/stale_snapshot.text as bytes, and its stdout by hand from document 01.
 #![tactic(auto)]
 
-fn main() {
-    auditing::play(auditing::How::AtEnd);
+fn main(rt: HostRuntime) {
+    auditing::play(&rt, &mut rt.stdin(), auditing::How::AtEnd);
 }

@@ -6,8 +6,9 @@
 use cache::atc030::Atc030;
 use cache::atc040::Atc040;
 use replay::run::Why;
+use std::rt::{Env, Files};
 use stored::files::Held;
-use stored::{files, lines};
+use stored::{arguments, files, lines};
 use streams::{put_decimal, put_text};
 use trace::Line;
 
@@ -60,7 +61,8 @@ fn none() -> Counts {
 // ---- The lines of a case.
 
 // Tells a line that differs, by its number in NAME.states, from 1.
-fn tell_line(
+fn tell_line<S: Print + Eprint>(
+    rt: &S,
     name: &[u8],
     number: u64,
     played: &[u8],
@@ -79,7 +81,7 @@ fn tell_line(
     end = put_text(out, end, b"; the original: ");
     end = lines::put_part(out, end, expected, from, to);
     end = put_text(out, end, b"\n");
-    streams::passed_on(out, end)
+    streams::passed_on(rt, out, end)
 }
 
 // The counts with one more line.
@@ -101,7 +103,8 @@ fn counted(counts: Counts, which: Which, same: bool) -> Counts {
 
 // The first `n` bytes of `played` are a line: it is compared with the next one expected. The first five of a case that differ
 // are told.
-fn judged(
+fn judged<S: Print + Eprint>(
+    rt: &S,
     c: Compared,
     which: Which,
     name: &[u8],
@@ -117,13 +120,14 @@ fn judged(
     next.from = to;
     if !same && c.counts.differ < 5 {
         let number = std::num::wrapping_add_u64(next.counts.lines, next.counts.states);
-        next.at = tell_line(name, number, played, n, expected, c.from, to, out, c.at);
+        next.at = tell_line(rt, name, number, played, n, expected, c.from, to, out, c.at);
     }
     next
 }
 
 // The last line. If more lines are expected, the first of them is told.
-fn last_line(
+fn last_line<S: Print + Eprint>(
+    rt: &S,
     c: Compared,
     name: &[u8],
     played: &[u8],
@@ -131,22 +135,29 @@ fn last_line(
     expected: &[u8],
     out: &mut [u8; 16384],
 ) -> Compared {
-    let now = judged(c, Which::Line, name, played, n, expected, out);
+    let now = judged(rt, c, Which::Line, name, played, n, expected, out);
     if now.from < expected.len() {
-        return judged(now, Which::Line, name, played, 0, expected, out);
+        return judged(rt, now, Which::Line, name, played, 0, expected, out);
     }
     now
 }
 
 // Refusal 7, the last line.
-fn malformed(c: Compared, name: &[u8], expected: &[u8], out: &mut [u8; 16384]) -> Compared {
+fn malformed<S: Print + Eprint>(
+    rt: &S,
+    c: Compared,
+    name: &[u8],
+    expected: &[u8],
+    out: &mut [u8; 16384],
+) -> Compared {
     let mut line = [0u8; 44];
     let n = trace::put_line(&mut line, 0, Line::R { number: 7 });
-    last_line(c, name, &line, n, expected, out)
+    last_line(rt, c, name, &line, n, expected, out)
 }
 
 // At the end of the trace: `end`, or refusal 7 where a part of a record is left.
-fn finished(
+fn finished<S: Print + Eprint>(
+    rt: &S,
     c: Compared,
     name: &[u8],
     left: usize,
@@ -154,15 +165,16 @@ fn finished(
     out: &mut [u8; 16384],
 ) -> Compared {
     if left != 0 {
-        return malformed(c, name, expected, out);
+        return malformed(rt, c, name, expected, out);
     }
     let mut line = [0u8; 44];
     let n = trace::put_end(&mut line, 0);
-    last_line(c, name, &line, n, expected, out)
+    last_line(rt, c, name, &line, n, expected, out)
 }
 
 // A record's line, the first `wrote` bytes of `line`, and both caches after it.
-fn one_record(
+fn one_record<S: Print + Eprint>(
+    rt: &S,
     c: Compared,
     c030: &Atc030,
     c040: &Atc040,
@@ -172,15 +184,16 @@ fn one_record(
     expected: &[u8],
     out: &mut [u8; 16384],
 ) -> Compared {
-    let now = judged(c, Which::Line, name, line, wrote, expected, out);
+    let now = judged(rt, c, Which::Line, name, line, wrote, expected, out);
     let mut caches = [0u8; 4096];
     let n = states::state_line(&mut caches, c030, c040);
-    judged(now, Which::State, name, &caches, n, expected, out)
+    judged(rt, now, Which::State, name, &caches, n, expected, out)
 }
 
 // Plays the records one by one: a run has room for one line, since a line is written where 44 bytes have room, and has two or
 // more.
-fn every_record(
+fn every_record<S: Print + Eprint>(
+    rt: &S,
     c: Compared,
     name: &[u8],
     records: &[u8],
@@ -211,13 +224,13 @@ fn every_record(
         at += read;
         match why {
             Why::Room => {
-                now = one_record(now, &c030, &c040, name, &line, wrote, expected, out);
+                now = one_record(rt, now, &c030, &c040, name, &line, wrote, expected, out);
             }
             Why::Input => {
-                return finished(now, name, records.len() - at, expected, out);
+                return finished(rt, now, name, records.len() - at, expected, out);
             }
             Why::Malformed => {
-                return malformed(now, name, expected, out);
+                return malformed(rt, now, name, expected, out);
             }
         }
         turns -= 1;
@@ -226,7 +239,8 @@ fn every_record(
 }
 
 // Plays the trace: the version's line, the records and the last line.
-fn played(
+fn played<S: Print + Eprint>(
+    rt: &S,
     c: Compared,
     name: &[u8],
     trace: &[u8],
@@ -234,33 +248,40 @@ fn played(
     out: &mut [u8; 16384],
 ) -> Compared {
     if trace.len() == 0 {
-        return malformed(c, name, expected, out);
+        return malformed(rt, c, name, expected, out);
     }
     if trace[0] != 1 {
-        return malformed(c, name, expected, out);
+        return malformed(rt, c, name, expected, out);
     }
     let mut line = [0u8; 44];
     let n = trace::put_version(&mut line, 0);
-    let now = judged(c, Which::Line, name, &line, n, expected, out);
-    every_record(now, name, &trace[1..], expected, out)
+    let now = judged(rt, c, Which::Line, name, &line, n, expected, out);
+    every_record(rt, now, name, &trace[1..], expected, out)
 }
 
 // ---- A case.
 
 // The case failed, and its line ends here.
-fn failed(t: Tally, out: &mut [u8; 16384], at: usize) -> Tally {
+fn failed<S: Print + Eprint>(rt: &S, t: Tally, out: &mut [u8; 16384], at: usize) -> Tally {
     let mut next = t;
     let to = put_text(out, at, b"\n");
-    next.at = streams::passed_on(out, to);
+    next.at = streams::passed_on(rt, out, to);
     next.failed = one_more(t.failed);
     next
 }
 
 // A file of the case gave no bytes.
-fn unheld(t: Tally, name: &[u8], after: &[u8], held: Held, out: &mut [u8; 16384]) -> Tally {
+fn unheld<S: Print + Eprint>(
+    rt: &S,
+    t: Tally,
+    name: &[u8],
+    after: &[u8],
+    held: Held,
+    out: &mut [u8; 16384],
+) -> Tally {
     let to = files::put_file(out, t.at, name, after);
     let end = files::put_why(out, to, held);
-    failed(t, out, end)
+    failed(rt, t, out, end)
 }
 
 // How many lines and states there were, and how many of these differ.
@@ -283,59 +304,74 @@ fn both(a: Counts, b: Counts) -> Counts {
 }
 
 // The case was compared.
-fn told(t: Tally, c: Compared, name: &[u8], out: &mut [u8; 16384]) -> Tally {
+fn told<S: Print + Eprint>(
+    rt: &S,
+    t: Tally,
+    c: Compared,
+    name: &[u8],
+    out: &mut [u8; 16384],
+) -> Tally {
     let mut next = t;
     let mut to = files::put_name(out, c.at, name);
     to = put_counts(out, to, c.counts);
     to = put_text(out, to, b"\n");
-    next.at = streams::passed_on(out, to);
+    next.at = streams::passed_on(rt, out, to);
     next.counts = both(t.counts, c.counts);
     next
 }
 
 // Plays the trace and compares.
-fn replayed(t: Tally, name: &[u8], trace: &[u8], expected: &[u8], out: &mut [u8; 16384]) -> Tally {
+fn replayed<S: Print + Eprint>(
+    rt: &S,
+    t: Tally,
+    name: &[u8],
+    trace: &[u8],
+    expected: &[u8],
+    out: &mut [u8; 16384],
+) -> Tally {
     let start = Compared {
         counts: none(),
         from: 0,
         at: t.at,
     };
-    let c = played(start, name, trace, expected, out);
-    told(t, c, name, out)
+    let c = played(rt, start, name, trace, expected, out);
+    told(rt, t, c, name, out)
 }
 
 // Reads both files of a case.
-fn one_case(
+fn one_case<S: Print + Eprint + Files>(
+    rt: &S,
     t: Tally,
     name: &[u8],
     trace: &mut [u8],
     expected: &mut [u8],
     out: &mut [u8; 16384],
 ) -> Tally {
-    let said = files::read_named(name, b".trace", trace);
+    let said = files::read_named(rt, name, b".trace", trace);
     let Held::Bytes(n) = said else {
-        return unheld(t, name, b".trace", said, out);
+        return unheld(rt, t, name, b".trace", said, out);
     };
-    let answered = files::read_named(name, b".states", expected);
+    let answered = files::read_named(rt, name, b".states", expected);
     let Held::Bytes(m) = answered else {
-        return unheld(t, name, b".states", answered, out);
+        return unheld(rt, t, name, b".states", answered, out);
     };
     if n <= trace.len() && m <= expected.len() {
-        return replayed(t, name, &trace[..n], &expected[..m], out);
+        return replayed(rt, t, name, &trace[..n], &expected[..m], out);
     }
-    unheld(t, name, b".trace", Held::TooLarge, out)
+    unheld(rt, t, name, b".trace", Held::TooLarge, out)
 }
 
 // ---- All cases.
 
 // An argument names no case.
-fn unnamed(t: Tally, out: &mut [u8; 16384]) -> Tally {
+fn unnamed<S: Print + Eprint>(rt: &S, t: Tally, out: &mut [u8; 16384]) -> Tally {
     let to = put_text(out, t.at, b"an argument is empty or too long");
-    failed(t, out, to)
+    failed(rt, t, out, to)
 }
 
 // The case that an argument names.
-fn next_case(
+fn next_case<S: Print + Eprint + Files + Env>(
+    rt: &S,
     t: Tally,
     i: usize,
     name: &mut [u8],
@@ -345,15 +381,15 @@ fn next_case(
 ) -> Tally {
     let mut next = t;
     next.cases = one_more(t.cases);
-    let n = os::arg(i, name);
+    let n = arguments::put(rt, i, name);
     if n == 0 {
-        return unnamed(next, out);
+        return unnamed(rt, next, out);
     }
-    one_case(next, &name[..n], trace, expected, out)
+    one_case(rt, next, &name[..n], trace, expected, out)
 }
 
 // Every case that the arguments name.
-fn every_case(out: &mut [u8; 16384]) -> Tally {
+fn every_case<S: Print + Eprint + Files + Env>(rt: &S, out: &mut [u8; 16384]) -> Tally {
     let mut name = [0u8; 64];
     let mut trace = [0u8; 4096];
     let mut expected = [0u8; 65536];
@@ -363,10 +399,10 @@ fn every_case(out: &mut [u8; 16384]) -> Tally {
         failed: 0,
         at: 0,
     };
-    let count = os::arg_count();
+    let count = arguments::count(rt);
     let mut i = 1;
     while i < count {
-        t = next_case(t, i, &mut name, &mut trace, &mut expected, out);
+        t = next_case(rt, t, i, &mut name, &mut trace, &mut expected, out);
         i += 1;
     }
     t
@@ -383,17 +419,17 @@ fn put_failed(out: &mut [u8; 16384], at: usize, failures: u64) -> usize {
 }
 
 // The last line: all cases, their lines, and how many of these differ.
-fn tell_all(t: Tally, out: &mut [u8; 16384]) {
+fn tell_all<S: Print + Eprint>(rt: &S, t: Tally, out: &mut [u8; 16384]) {
     let mut to = put_decimal(out, t.at, t.cases);
     to = put_text(out, to, b" cases, ");
     to = put_counts(out, to, t.counts);
     to = put_failed(out, to, t.failed);
     to = put_text(out, to, b"\n");
-    streams::shown(out, to);
+    streams::shown(rt, out, to);
 }
 
-fn main() {
+fn main(rt: HostRuntime) {
     let mut out = [0u8; 16384];
-    let t = every_case(&mut out);
-    tell_all(t, &mut out);
+    let t = every_case(&rt, &mut out);
+    tell_all(&rt, t, &mut out);
 }

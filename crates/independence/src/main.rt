@@ -7,8 +7,9 @@
 mod sides;
 
 use sides::{AnswerLine, Side};
+use std::rt::{Env, Files};
 use stored::files::Held;
-use stored::{files, lines};
+use stored::{arguments, files, lines};
 use streams::{put_decimal, put_text};
 use vectors::{Cursor, Number};
 
@@ -92,7 +93,8 @@ fn row_at(rows: &[u8], at: usize) -> Row {
 }
 
 // Tells a watched access that is not answered alike, or not as the cacheless walk.
-fn tell_access(
+fn tell_access<S: Print + Eprint>(
+    rt: &S,
     name: &[u8],
     one: u32,
     two: u32,
@@ -118,22 +120,23 @@ fn tell_access(
     place = put_text(out, place, b"; the cacheless walk: ");
     place = lines::put_part(out, place, rows, from, to);
     place = put_text(out, place, b"\n");
-    streams::passed_on(out, place)
+    streams::passed_on(rt, out, place)
 }
 
 // A row that is none counts as a watched access that differs.
-fn malformed_row(s: Shown, name: &[u8], out: &mut [u8; 4096]) -> Shown {
+fn malformed_row<S: Print + Eprint>(rt: &S, s: Shown, name: &[u8], out: &mut [u8; 4096]) -> Shown {
     let mut next = s;
     let to = files::put_name(out, s.at, name);
     let end = put_text(out, to, b"a row is malformed\n");
-    next.at = streams::passed_on(out, end);
+    next.at = streams::passed_on(rt, out, end);
     next.watched = plus(s.watched, true);
     next.differ = plus(s.differ, true);
     next
 }
 
 // One watched access: `same` says whether both replays have it, and the walk's answer stands from `from` up to `to`.
-fn judge_access(
+fn judge_access<S: Print + Eprint>(
+    rt: &S,
     s: Shown,
     name: &[u8],
     same: bool,
@@ -162,13 +165,14 @@ fn judge_access(
     }
     next.differ = plus(s.differ, true);
     next.at = tell_access(
-        name, one, two, first, a, second, b, rows, from, to, out, s.at,
+        rt, name, one, two, first, a, second, b, rows, from, to, out, s.at,
     );
     next
 }
 
 // The watched access of the row from `at` up to `end`, which has a line's end.
-fn judge_row(
+fn judge_row<S: Print + Eprint>(
+    rt: &S,
     s: Shown,
     name: &[u8],
     first_trace: &[u8],
@@ -184,6 +188,7 @@ fn judge_row(
         Row::Watched { one, two, from } => {
             let same = sides::same_access(first_trace, one, second_trace, two);
             judge_access(
+                rt,
                 s,
                 name,
                 same,
@@ -197,12 +202,13 @@ fn judge_row(
                 out,
             )
         }
-        Row::Malformed => malformed_row(s, name, out),
+        Row::Malformed => malformed_row(rt, s, name, out),
     }
 }
 
 // Every row after the heading.
-fn judge_rows(
+fn judge_rows<S: Print + Eprint>(
+    rt: &S,
     s: Shown,
     name: &[u8],
     first_trace: &[u8],
@@ -218,6 +224,7 @@ fn judge_rows(
     while turns > 0 && at < rows.len() {
         let end = lines::line_end(rows, at);
         next = judge_row(
+            rt,
             next,
             name,
             first_trace,
@@ -280,7 +287,8 @@ fn added(sum: Sum, s: Shown) -> Sum {
 }
 
 // The pair was judged.
-fn told(
+fn told<S: Print + Eprint>(
+    rt: &S,
     t: Tally,
     s: Shown,
     name: &[u8],
@@ -297,7 +305,7 @@ fn told(
             steady: added(steady, s),
             other,
             failed: t.failed,
-            at: streams::passed_on(out, to),
+            at: streams::passed_on(rt, out, to),
         };
     }
     let end = tell_heading(name, rows, out, to);
@@ -305,12 +313,13 @@ fn told(
         steady,
         other: added(other, s),
         failed: t.failed,
-        at: streams::passed_on(out, end),
+        at: streams::passed_on(rt, out, end),
     }
 }
 
 // Both replays were played, and the rows were read.
-fn judge_pair(
+fn judge_pair<S: Print + Eprint>(
+    rt: &S,
     t: Tally,
     name: &[u8],
     first_trace: &[u8],
@@ -329,6 +338,7 @@ fn judge_pair(
         at: t.at,
     };
     let s = judge_rows(
+        rt,
         start,
         name,
         first_trace,
@@ -338,11 +348,11 @@ fn judge_pair(
         rows,
         out,
     );
-    told(t, s, name, first, second, rows, out)
+    told(rt, t, s, name, first, second, rows, out)
 }
 
 // The pair failed, and its line ends here.
-fn failed(t: Tally, out: &mut [u8; 4096], at: usize) -> Tally {
+fn failed<S: Print + Eprint>(rt: &S, t: Tally, out: &mut [u8; 4096], at: usize) -> Tally {
     let steady = t.steady;
     let other = t.other;
     let to = put_text(out, at, b"\n");
@@ -350,26 +360,40 @@ fn failed(t: Tally, out: &mut [u8; 4096], at: usize) -> Tally {
         steady,
         other,
         failed: plus(t.failed, true),
-        at: streams::passed_on(out, to),
+        at: streams::passed_on(rt, out, to),
     }
 }
 
 // A replay of the pair was not played to its end.
-fn unplayed(t: Tally, name: &[u8], after: &[u8], side: Side, out: &mut [u8; 4096]) -> Tally {
+fn unplayed<S: Print + Eprint>(
+    rt: &S,
+    t: Tally,
+    name: &[u8],
+    after: &[u8],
+    side: Side,
+    out: &mut [u8; 4096],
+) -> Tally {
     let to = files::put_file(out, t.at, name, after);
     let end = sides::put_side(out, to, side);
-    failed(t, out, end)
+    failed(rt, t, out, end)
 }
 
 // The pair's rows could not be read.
-fn unheld(t: Tally, name: &[u8], held: Held, out: &mut [u8; 4096]) -> Tally {
+fn unheld<S: Print + Eprint>(
+    rt: &S,
+    t: Tally,
+    name: &[u8],
+    held: Held,
+    out: &mut [u8; 4096],
+) -> Tally {
     let to = files::put_file(out, t.at, name, b".watched");
     let end = files::put_why(out, to, held);
-    failed(t, out, end)
+    failed(rt, t, out, end)
 }
 
 // The texts of the pair are the first bytes of their buffers.
-fn fronts_judged(
+fn fronts_judged<S: Print + Eprint>(
+    rt: &S,
     t: Tally,
     name: &[u8],
     first_trace: &[u8],
@@ -387,6 +411,7 @@ fn fronts_judged(
     if i <= first_trace.len() && j <= second_trace.len() {
         if a <= first.len() && b <= second.len() && n <= rows.len() {
             return judge_pair(
+                rt,
                 t,
                 name,
                 &first_trace[..i],
@@ -398,11 +423,12 @@ fn fronts_judged(
             );
         }
     }
-    unplayed(t, name, b"", Side::NoRoom, out)
+    unplayed(rt, t, name, b"", Side::NoRoom, out)
 }
 
 // Reads and plays both replays, and reads the rows.
-fn one_pair(
+fn one_pair<S: Print + Eprint + Files>(
+    rt: &S,
     t: Tally,
     name: &[u8],
     first_trace: &mut [u8],
@@ -412,19 +438,20 @@ fn one_pair(
     rows: &mut [u8],
     out: &mut [u8; 4096],
 ) -> Tally {
-    let one = sides::play_named(name, b"_1.trace", first_trace, first);
+    let one = sides::play_named(rt, name, b"_1.trace", first_trace, first);
     let Side::Played { bytes: i, lines: a } = one else {
-        return unplayed(t, name, b"_1.trace", one, out);
+        return unplayed(rt, t, name, b"_1.trace", one, out);
     };
-    let two = sides::play_named(name, b"_2.trace", second_trace, second);
+    let two = sides::play_named(rt, name, b"_2.trace", second_trace, second);
     let Side::Played { bytes: j, lines: b } = two else {
-        return unplayed(t, name, b"_2.trace", two, out);
+        return unplayed(rt, t, name, b"_2.trace", two, out);
     };
-    let held = files::read_named(name, b".watched", rows);
+    let held = files::read_named(rt, name, b".watched", rows);
     let Held::Bytes(n) = held else {
-        return unheld(t, name, held, out);
+        return unheld(rt, t, name, held, out);
     };
     fronts_judged(
+        rt,
         t,
         name,
         first_trace,
@@ -444,7 +471,8 @@ fn one_pair(
 // ---- All pairs.
 
 // The pair that an argument names.
-fn next_pair(
+fn next_pair<S: Print + Eprint + Files + Env>(
+    rt: &S,
     t: Tally,
     i: usize,
     name: &mut [u8],
@@ -455,12 +483,13 @@ fn next_pair(
     rows: &mut [u8],
     out: &mut [u8; 4096],
 ) -> Tally {
-    let n = os::arg(i, name);
+    let n = arguments::put(rt, i, name);
     if n == 0 {
         let to = put_text(out, t.at, b"an argument is empty or too long");
-        return failed(t, out, to);
+        return failed(rt, t, out, to);
     }
     one_pair(
+        rt,
         t,
         &name[..n],
         first_trace,
@@ -482,7 +511,7 @@ fn none() -> Sum {
 }
 
 // Every pair that the arguments name.
-fn every_pair(out: &mut [u8; 4096]) -> Tally {
+fn every_pair<S: Print + Eprint + Files + Env>(rt: &S, out: &mut [u8; 4096]) -> Tally {
     let mut name = [0u8; 64];
     let mut first_trace = [0u8; 4096];
     let mut second_trace = [0u8; 4096];
@@ -495,10 +524,11 @@ fn every_pair(out: &mut [u8; 4096]) -> Tally {
         failed: 0,
         at: 0,
     };
-    let count = os::arg_count();
+    let count = arguments::count(rt);
     let mut i = 1;
     while i < count {
         t = next_pair(
+            rt,
             t,
             i,
             &mut name,
@@ -535,17 +565,17 @@ fn put_failed(out: &mut [u8; 4096], at: usize, failures: u64) -> usize {
 }
 
 // The last lines: the steady pairs, and the others.
-fn tell_all(t: Tally, out: &mut [u8; 4096]) {
+fn tell_all<S: Print + Eprint>(rt: &S, t: Tally, out: &mut [u8; 4096]) {
     let steady = t.steady;
     let other = t.other;
     let mut to = put_sum(out, t.at, b"steady: ", steady);
     to = put_sum(out, to, b"not steady: ", other);
     to = put_failed(out, to, t.failed);
-    streams::shown(out, to);
+    streams::shown(rt, out, to);
 }
 
-fn main() {
+fn main(rt: HostRuntime) {
     let mut out = [0u8; 4096];
-    let t = every_pair(&mut out);
-    tell_all(t, &mut out);
+    let t = every_pair(&rt, &mut out);
+    tell_all(&rt, t, &mut out);
 }

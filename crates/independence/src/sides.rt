@@ -1,4 +1,5 @@
 // The two sides of a pair: a replay read from its file and played, the records of its trace, and the lines of its accesses.
+use std::rt::Files;
 use stored::files::Held;
 use stored::{files, lines};
 use whole::Played;
@@ -44,8 +45,14 @@ fn play_front(trace: &[u8], bytes: usize, text: &mut [u8]) -> Side {
 }
 
 // Reads a replay's trace and plays it.
-pub fn play_named(name: &[u8], after: &[u8], trace: &mut [u8], text: &mut [u8]) -> Side {
-    let held = files::read_named(name, after, trace);
+pub fn play_named<F: Files>(
+    rt: &F,
+    name: &[u8],
+    after: &[u8],
+    trace: &mut [u8],
+    text: &mut [u8],
+) -> Side {
+    let held = files::read_named(rt, name, after, trace);
     let Held::Bytes(bytes) = held else {
         return Side::Unheld(held);
     };

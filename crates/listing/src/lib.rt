@@ -4,6 +4,7 @@
 
 use definition::{Listed, Range, Registers};
 use states::put_hex;
+use std::env::Env;
 use streams::{put, put_decimal, put_text, shown};
 
 // ---- The arguments.
@@ -43,13 +44,12 @@ fn value(text: &[u8], hex: bool) -> u32 {
 }
 
 // Argument i as a number: 0 where it is missing.
-fn argument(i: usize, hex: bool) -> u32 {
+fn argument<H: Env>(rt: &H, i: usize, hex: bool) -> u32 {
     let mut text = [0u8; 16];
-    let n = os::arg(i, &mut text);
-    if n <= 16 {
-        return value(&text[..n], hex);
+    match rt.arg(i, &mut text) {
+        Ok(n) => value(&text[..n], hex),
+        Err(_) => 0,
     }
-    0
 }
 
 // ---- The lines.
@@ -175,9 +175,16 @@ fn stopped(l: Listing) -> Listing {
 }
 
 // Writes the lines of ranges that were found. It goes on where there are more, and where they could be written.
-fn told(line: &mut [u8], found: &[u64], l: Listing, more: bool, next: u32) -> Listing {
+fn told<H: Print + Eprint>(
+    rt: &H,
+    line: &mut [u8],
+    found: &[u64],
+    l: Listing,
+    more: bool,
+    next: u32,
+) -> Listing {
     let n = put_ranges(line, found);
-    let done = shown(line, n);
+    let done = shown(rt, line, n);
     Listing {
         ranges: std::num::wrapping_add_u64(l.ranges, found.len() as u64),
         bytes: mapped(l.bytes, found),
@@ -187,29 +194,38 @@ fn told(line: &mut [u8], found: &[u64], l: Listing, more: bool, next: u32) -> Li
 }
 
 // The same of the first `n` numbers.
-fn told_of(line: &mut [u8], found: &[u64], n: usize, l: Listing, more: bool, next: u32) -> Listing {
+fn told_of<H: Print + Eprint>(
+    rt: &H,
+    line: &mut [u8],
+    found: &[u64],
+    n: usize,
+    l: Listing,
+    more: bool,
+    next: u32,
+) -> Listing {
     if n <= found.len() {
-        return told(line, &found[..n], l, more, next);
+        return told(rt, line, &found[..n], l, more, next);
     }
     stopped(l)
 }
 
 // The last line: what was listed.
-fn ended(line: &mut [u8], l: Listing) -> Listing {
+fn ended<H: Print + Eprint>(rt: &H, line: &mut [u8], l: Listing) -> Listing {
     let n = put_sum(line, l.ranges, l.bytes);
-    shown(line, n);
+    shown(rt, line, n);
     stopped(l)
 }
 
 // The one line of a refusal.
-fn refused(line: &mut [u8], l: Listing, number: u32) -> Listing {
+fn refused<H: Print + Eprint>(rt: &H, line: &mut [u8], l: Listing, number: u32) -> Listing {
     let n = put_refusal(line, number);
-    shown(line, n);
+    shown(rt, line, n);
     stopped(l)
 }
 
 // Lists as many ranges as have room, from where it goes on.
-fn turn(
+fn turn<H: Print + Eprint>(
+    rt: &H,
     line: &mut [u8],
     longs: &[u32],
     ranges: &[u32],
@@ -220,16 +236,17 @@ fn turn(
 ) -> Listing {
     match list::list(longs, 0, ranges, g, code, l.from, found) {
         Listed::All(n) => {
-            let now = told_of(line, found, n, l, false, 0);
-            ended(line, now)
+            let now = told_of(rt, line, found, n, l, false, 0);
+            ended(rt, line, now)
         }
-        Listed::More { count, next } => told_of(line, found, count, l, true, next),
-        Listed::Refused(n) => refused(line, l, n),
+        Listed::More { count, next } => told_of(rt, line, found, count, l, true, next),
+        Listed::Refused(n) => refused(rt, line, l, n),
     }
 }
 
 // Lists the tree from an address on, over ranges as numbers, as many at a time as `found` has room for. Whether it came to its end.
-fn all(
+fn all<H: Print + Eprint>(
+    rt: &H,
     line: &mut [u8],
     longs: &[u32],
     ranges: &[u32],
@@ -246,7 +263,7 @@ fn all(
     };
     let mut turns = u64::MAX;
     while turns > 0 {
-        l = turn(line, longs, ranges, g, code, found, l);
+        l = turn(rt, line, longs, ranges, g, code, found, l);
         if !l.on {
             return true;
         }
@@ -256,7 +273,8 @@ fn all(
 }
 
 // The same over the first `n` of the ranges' numbers.
-fn all_of(
+fn all_of<H: Print + Eprint>(
+    rt: &H,
     line: &mut [u8],
     longs: &[u32],
     numbers: &[u32],
@@ -267,19 +285,26 @@ fn all_of(
     found: &mut [u64],
 ) -> bool {
     if n <= numbers.len() {
-        return all(line, longs, &numbers[..n], g, code, from, found);
+        return all(rt, line, longs, &numbers[..n], g, code, from, found);
     }
     false
 }
 
 // Lists the tree of registers, longs at 0 and the first `n` of sixteen ranges, through `line`. Whether it came to its end.
-pub fn listed(line: &mut [u8], longs: &[u32], g: Registers, list: [Range; 16], n: usize) -> bool {
+pub fn listed<H: Env + Print + Eprint>(
+    rt: &H,
+    line: &mut [u8],
+    longs: &[u32],
+    g: Registers,
+    list: [Range; 16],
+    n: usize,
+) -> bool {
     let numbers = numbers_of(list);
-    let code = argument(1, false);
-    let from = argument(2, true);
+    let code = argument(rt, 1, false);
+    let from = argument(rt, 2, true);
     let mut found = [0u64; 256];
     if n <= 16 {
-        return all_of(line, longs, &numbers, 2 * n, g, code, from, &mut found);
+        return all_of(rt, line, longs, &numbers, 2 * n, g, code, from, &mut found);
     }
     false
 }

@@ -1,6 +1,6 @@
 // Plays the trace on standard input, and writes its lines to standard output.
 #![tactic(auto)]
 
-fn main() {
-    playing::play(false);
+fn main(rt: HostRuntime) {
+    playing::play(&rt, &mut rt.stdin(), false);
 }

@@ -2,6 +2,6 @@
 // Its stdin here is the theme two_families of `differential cases` with seed 3, and its stdout the original Rust's answers.
 #![tactic(auto)]
 
-fn main() {
-    playing::play(true);
+fn main(rt: HostRuntime) {
+    playing::play(&rt, &mut rt.stdin(), true);
 }

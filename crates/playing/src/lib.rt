@@ -10,9 +10,9 @@ ghost use Rattle.playing.specs.Driving.{Went, Waits, Turned};
 
 use cache::atc030::Atc030;
 use cache::atc040::Atc040;
-use libc::{STDERR_FILENO, STDIN_FILENO};
 use replay::Kept;
 use replay::run::Why;
+use std::io::Read;
 use streams::{Got, shown, written};
 
 // Where the driver stands: what the replay keeps, how many bytes of the buffer wait, and whether it goes on.
@@ -24,17 +24,17 @@ struct Waiting {
 }
 
 // Refusal 7: the last line.
-fn malformed() {
-    written(b"R 7\n");
+fn malformed<H: Print + Eprint>(rt: &H) {
+    written(rt, b"R 7\n");
 }
 
 // At the end of the input: `end`, or refusal 7 where a part of a record is left.
-fn finish(have: usize) {
+fn finish<H: Print + Eprint>(rt: &H, have: usize) {
     if have == 0 {
-        written(b"end\n");
+        written(rt, b"end\n");
         return;
     }
-    malformed();
+    malformed(rt);
 }
 
 // The bytes from `from` to `have` move to the front of the buffer: how many they are.
@@ -68,29 +68,37 @@ struct Played {
 }
 
 // Which comes after a run. A malformed record ends it.
-fn after(why: Why) -> Next {
+fn after<H: Print + Eprint>(rt: &H, why: Why) -> Next {
     match why {
         Why::Input => Next::Input,
         Why::Room => Next::More,
         Why::Malformed => {
-            malformed();
+            malformed(rt);
             Next::Over
         }
     }
 }
 
 // With `states`, both caches after a record that printed its line.
-fn caches_shown(line: &mut [u8], c030: &Atc030, c040: &Atc040, states: bool, wrote: usize) -> bool {
+fn caches_shown<H: Print + Eprint>(
+    rt: &H,
+    line: &mut [u8],
+    c030: &Atc030,
+    c040: &Atc040,
+    states: bool,
+    wrote: usize,
+) -> bool {
     if states && 0 < wrote {
         let n = states::state_line(line, c030, c040);
-        return shown(line, n);
+        return shown(rt, line, n);
     }
     true
 }
 
 // One run over waiting bytes, with its lines written. With `states` it plays one record, since `out` has room for one line, and
 // writes both caches after it.
-fn some(
+fn some<H: Print + Eprint>(
+    rt: &H,
     c030: &mut Atc030,
     c040: &mut Atc040,
     longs: &mut [u32],
@@ -112,16 +120,16 @@ fn some(
         read: 0,
         next: Next::Over,
     };
-    if !shown(out, wrote) {
+    if !shown(rt, out, wrote) {
         return over;
     }
-    if !caches_shown(line, c030, c040, states, wrote) {
+    if !caches_shown(rt, line, c030, c040, states, wrote) {
         return over;
     }
     Played {
         kept: now,
         read: ran.read,
-        next: after(why),
+        next: after(rt, why),
     }
 }
 
@@ -150,7 +158,8 @@ fn resting(buffer: &mut [u8], kept: Kept, at: usize, have: usize) -> Waiting
 }
 
 // Plays the waiting bytes as far as whole records stand there.
-fn drained(
+fn drained<H: Print + Eprint>(
+    rt: &H,
     c030: &mut Atc030,
     c040: &mut Atc040,
     longs: &mut [u32],
@@ -168,7 +177,17 @@ fn drained(
     let mut at = 0;
     let mut turns = u64::MAX;
     while turns > 0 {
-        let s = some(c030, c040, longs, now, &buffer[at..have], out, line, states);
+        let s = some(
+            rt,
+            c030,
+            c040,
+            longs,
+            now,
+            &buffer[at..have],
+            out,
+            line,
+            states,
+        );
         now = s.kept;
         let read = s.read;
         let next = s.next;
@@ -188,12 +207,14 @@ fn drained(
 }
 
 // Says on standard error that a read failed.
-fn unread() {
-    io::write_all(STDERR_FILENO, b"player: a read failed\n");
+fn unread<H: Eprint>(rt: &H) {
+    let _ = rt.eprintln("player: a read failed");
 }
 
 // Reads once and plays what came. At the end of the input, or where a read fails, it is over.
-fn turn(
+fn turn<H: Print + Eprint, R: Read>(
+    rt: &H,
+    input: &mut R,
     c030: &mut Atc030,
     c040: &mut Atc040,
     longs: &mut [u32],
@@ -208,32 +229,33 @@ fn turn(
 {
     let kept = w.kept;
     let have = w.have;
-    match streams::fill(STDIN_FILENO, buffer, have) {
+    match streams::fill(input, buffer, have) {
         Got::Failed => {
-            unread();
+            unread(rt);
             over(kept)
         }
         Got::Ended => {
-            finish(have);
+            finish(rt, have);
             over(kept)
         }
-        Got::Waiting(n) => drained(c030, c040, longs, kept, buffer, n, out, line, states),
+        Got::Waiting(n) => drained(rt, c030, c040, longs, kept, buffer, n, out, line, states),
     }
 }
 
 // The version byte: `v1` follows a good one, and refusal 7 anything else.
-fn begins() -> bool {
+fn begins<H: Print + Eprint, R: Read>(rt: &H, input: &mut R) -> bool {
     let mut version = [0u8; 1];
-    let got = libc::read(STDIN_FILENO, &mut version);
-    if got < 0 {
-        unread();
-        return false;
+    match streams::fill(input, &mut version, 0) {
+        Got::Failed => {
+            unread(rt);
+            false
+        }
+        Got::Waiting(_) if version[0] == 1 => written(rt, b"v1\n"),
+        _ => {
+            malformed(rt);
+            false
+        }
     }
-    if got == 1 && version[0] == 1 {
-        return written(b"v1\n");
-    }
-    malformed();
-    false
 }
 
 // How many bytes a run may write. With `states` one line: a line is written where 44 bytes have room, and has two or more.
@@ -247,8 +269,8 @@ fn room_for(states: bool) -> usize
 }
 
 // Plays the trace on standard input.
-pub fn play(states: bool) {
-    if !begins() {
+pub fn play<H: Print + Eprint, R: Read>(rt: &H, input: &mut R, states: bool) {
+    if !begins(rt, input) {
         return;
     }
     let mut c030 = [0u64; 69];
@@ -266,6 +288,8 @@ pub fn play(states: bool) {
     let mut turns = u64::MAX;
     while turns > 0 && w.on {
         w = turn(
+            rt,
+            input,
             &mut c030,
             &mut c040,
             &mut longs,
