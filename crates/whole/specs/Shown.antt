@@ -1,6 +1,6 @@
 -- What it is to have written a trace's lines.
 use Rattle.std.specs.Prelude.{ℕ, ◌+◌, ◌≤◌, ◌<◌, ◌≡◌, List, ◌++◌, eqb, length, take}
-use Rattle.definition.specs.Words.{if◌then◌else◌}
+use Rattle.std.specs.Prelude.{if◌then◌else◌}
 use Rattle.definition.specs.Trace.{malformed_line, text, ending}
 use Rattle.replay.specs.declared.run.Why.{Why}
 use Rattle.replay.specs.declared.run.Why.TheVariants as why
