@@ -6,6 +6,7 @@ use audit::sixteen::{audit_kept, finding_kept};
 use cache::atc030::{Atc030, PAGES, RECENT, SHIFT};
 use cache::atc040::Atc040;
 use definition::{Access, Audit, Finding, Hit, Override, Range, Registers, Root, Translation};
+use std::io;
 
 // ---- What the cases are given.
 
@@ -82,34 +83,39 @@ fn warm(c030: &mut Atc030, c040: &mut Atc040, longs: &[u32; 8192], g: Registers,
 
 // ---- What is written.
 
-fn index(letter: &[u8], i: u32) {
-    io::write_all(1, letter);
-    io::print_decimal(1, i as u64);
+fn index<P: Print>(rt: &P, letter: &str, i: u32) -> io::Result<()> {
+    print!(rt; "{letter}{i}")
 }
 
-fn tell(a: Audit) {
+fn tell<P: Print>(rt: &P, a: Audit) -> io::Result<()> {
     match a {
-        Audit::Clean => {
-            io::write_all(1, b" clean");
-        }
-        Audit::Stale030(i) => index(b" e", i),
-        Audit::Stale040(i) => index(b" d", i),
-        Audit::Refused(n) => index(b" R", n),
+        Audit::Clean => print!(rt; " clean"),
+        Audit::Stale030(i) => index(rt, " e", i),
+        Audit::Stale040(i) => index(rt, " d", i),
+        Audit::Refused(n) => index(rt, " R", n),
     }
 }
 
-fn end_line() {
-    io::write_all(1, b"\n");
+fn end_line<P: Print>(rt: &P) -> io::Result<()> {
+    rt.println("")
 }
 
 // What the audit says from an index on.
-fn show_from(c030: &Atc030, c040: &Atc040, longs: &[u32; 8192], g: Registers, from: u32) {
+fn show_from<P: Print>(
+    rt: &P,
+    c030: &Atc030,
+    c040: &Atc040,
+    longs: &[u32; 8192],
+    g: Registers,
+    from: u32,
+) -> io::Result<()> {
     let list = ranges(0, 0);
-    tell(audit_kept(c030, c040, longs, 0, list, 0, g, from));
+    tell(rt, audit_kept(c030, c040, longs, 0, list, 0, g, from))
 }
 
 // What it says over a base and `n` such ranges.
-fn show_with(
+fn show_with<P: Print>(
+    rt: &P,
     c030: &Atc030,
     c040: &Atc040,
     longs: &[u32; 8192],
@@ -118,88 +124,108 @@ fn show_with(
     last: u32,
     n: usize,
     g: Registers,
-) {
+) -> io::Result<()> {
     let list = ranges(first, last);
-    tell(audit_kept(c030, c040, longs, base, list, n, g, 0));
+    tell(rt, audit_kept(c030, c040, longs, base, list, n, g, 0))
 }
 
-fn show(c030: &Atc030, c040: &Atc040, longs: &[u32; 8192], g: Registers) {
-    show_from(c030, c040, longs, g, 0);
+fn show<P: Print>(
+    rt: &P,
+    c030: &Atc030,
+    c040: &Atc040,
+    longs: &[u32; 8192],
+    g: Registers,
+) -> io::Result<()> {
+    show_from(rt, c030, c040, longs, g, 0)
 }
 
 // The same over one changed long, which is then as it was.
-fn changed(
+fn changed<P: Print>(
+    rt: &P,
     c030: &Atc030,
     c040: &Atc040,
     longs: &mut [u32; 8192],
     g: Registers,
     address: u32,
     value: u32,
-) {
+) -> io::Result<()> {
     let before = longs[(address / 4 % 8192) as usize];
     store(longs, address, value);
-    show(c030, c040, longs, g);
+    let shown = show(rt, c030, c040, longs, g);
     store(longs, address, before);
+    shown
 }
 
 // ---- The 68030.
 
 // As it is; the guard; another page; WP above; S for a user; no table; a bus error; a root that is none.
-fn damage_030() {
+fn damage_030<P: Print>(rt: &P) -> io::Result<()> {
     let mut longs = [0u32; 8192];
     let mut c030 = [0u64; 69];
     let mut c040 = [0u64; 128];
     let g = of_030();
     tables(&mut longs);
-    io::write_all(1, b"030");
-    show(&c030, &c040, &longs, g);
+    print!(rt; "030")?;
+    show(rt, &c030, &c040, &longs, g)?;
     warm(&mut c030, &mut c040, &longs, g, false);
-    show(&c030, &c040, &longs, g);
-    io::write_all(1, b" |");
-    changed(&c030, &c040, &mut longs, g, 0x3004, 0);
-    changed(&c030, &c040, &mut longs, g, 0x3004, 0x66001);
-    changed(&c030, &c040, &mut longs, g, 0x2004, 0x3006);
-    changed(&c030, &c040, &mut longs, g, 0x2004, 0x4003);
-    changed(&c030, &c040, &mut longs, g, 0x1004, 0);
-    show_with(&c030, &c040, &longs, 0, 0x3004, 0x3004, 1, g);
-    show(&c030, &c040, &longs, rooted(30, 0x80C0_7760, 0x8000_0001));
-    end_line();
+    show(rt, &c030, &c040, &longs, g)?;
+    print!(rt; " |")?;
+    changed(rt, &c030, &c040, &mut longs, g, 0x3004, 0)?;
+    changed(rt, &c030, &c040, &mut longs, g, 0x3004, 0x66001)?;
+    changed(rt, &c030, &c040, &mut longs, g, 0x2004, 0x3006)?;
+    changed(rt, &c030, &c040, &mut longs, g, 0x2004, 0x4003)?;
+    changed(rt, &c030, &c040, &mut longs, g, 0x1004, 0)?;
+    show_with(rt, &c030, &c040, &longs, 0, 0x3004, 0x3004, 1, g)?;
+    show(
+        rt,
+        &c030,
+        &c040,
+        &longs,
+        rooted(30, 0x80C0_7760, 0x8000_0001),
+    )?;
+    end_line(rt)
 }
 
 // WP of the entry alone; with the guard: another shift of the cache, and of TC; an invalid entry; the other family.
-fn harmless_030() {
+fn harmless_030<P: Print>(rt: &P) -> io::Result<()> {
     let mut longs = [0u32; 8192];
     let mut c030 = [0u64; 69];
     let mut c040 = [0u64; 128];
     let g = of_030();
     tables(&mut longs);
     warm(&mut c030, &mut c040, &longs, g, false);
-    io::write_all(1, b"030 harmless");
+    print!(rt; "030 harmless")?;
     let page = c030[PAGES];
     c030[PAGES] = page | 1;
-    show(&c030, &c040, &longs, g);
+    show(rt, &c030, &c040, &longs, g)?;
     c030[PAGES] = page;
     store(&mut longs, 0x3004, 0);
-    show(&c030, &c040, &longs, g);
+    show(rt, &c030, &c040, &longs, g)?;
     c030[SHIFT] = 13;
-    show(&c030, &c040, &longs, g);
+    show(rt, &c030, &c040, &longs, g)?;
     c030[SHIFT] = 12;
-    show(&c030, &c040, &longs, registers(30, 0x80C0_7750));
-    show(&c030, &c040, &longs, of_040());
+    show(rt, &c030, &c040, &longs, registers(30, 0x80C0_7750))?;
+    show(rt, &c030, &c040, &longs, of_040())?;
     let tag = c030[0];
     c030[0] = tag & 0xFFFF_FFFE;
-    show(&c030, &c040, &longs, g);
-    end_line();
+    show(rt, &c030, &c040, &longs, g)?;
+    end_line(rt)
 }
 
 // The page of 02041ABC under this code.
-fn coded(mut c030: Atc030, c040: &Atc040, longs: &[u32; 8192], code: u64) {
+fn coded<P: Print>(
+    rt: &P,
+    mut c030: Atc030,
+    c040: &Atc040,
+    longs: &[u32; 8192],
+    code: u64,
+) -> io::Result<()> {
     c030[0] = 0x20411 + code % 8 * 2;
-    show(&c030, c040, longs, of_030());
+    show(rt, &c030, c040, longs, of_030())
 }
 
 // The guard under each code: an access has 1, 2, 5 or 6.
-fn codes() {
+fn codes<P: Print>(rt: &P) -> io::Result<()> {
     let mut longs = [0u32; 8192];
     let mut c030 = [0u64; 69];
     let mut c040 = [0u64; 128];
@@ -207,20 +233,20 @@ fn codes() {
     tables(&mut longs);
     warm(&mut c030, &mut c040, &longs, g, false);
     store(&mut longs, 0x3004, 0);
-    io::write_all(1, b"codes");
-    coded(c030, &c040, &longs, 0);
-    coded(c030, &c040, &longs, 1);
-    coded(c030, &c040, &longs, 2);
-    coded(c030, &c040, &longs, 3);
-    coded(c030, &c040, &longs, 4);
-    coded(c030, &c040, &longs, 5);
-    coded(c030, &c040, &longs, 6);
-    coded(c030, &c040, &longs, 7);
-    end_line();
+    print!(rt; "codes")?;
+    coded(rt, c030, &c040, &longs, 0)?;
+    coded(rt, c030, &c040, &longs, 1)?;
+    coded(rt, c030, &c040, &longs, 2)?;
+    coded(rt, c030, &c040, &longs, 3)?;
+    coded(rt, c030, &c040, &longs, 4)?;
+    coded(rt, c030, &c040, &longs, 5)?;
+    coded(rt, c030, &c040, &longs, 6)?;
+    coded(rt, c030, &c040, &longs, 7)?;
+    end_line(rt)
 }
 
 // The last entry; and from an index on, with entries 0, 7 and 21 stale.
-fn places_030() {
+fn places_030<P: Print>(rt: &P) -> io::Result<()> {
     let mut longs = [0u32; 8192];
     let mut c030 = [0u64; 69];
     let mut c040 = [0u64; 128];
@@ -231,98 +257,90 @@ fn places_030() {
     let tag = c030[0];
     c030[0] = 0;
     c030[21] = tag;
-    io::write_all(1, b"places");
-    show(&c030, &c040, &longs, g);
+    print!(rt; "places")?;
+    show(rt, &c030, &c040, &longs, g)?;
     c030[0] = tag;
     c030[7] = tag;
-    show_from(&c030, &c040, &longs, g, 0);
-    show_from(&c030, &c040, &longs, g, 1);
-    show_from(&c030, &c040, &longs, g, 8);
-    show_from(&c030, &c040, &longs, g, 21);
-    show_from(&c030, &c040, &longs, g, 22);
-    show_from(&c030, &c040, &longs, g, 0xFFFF_FFFF);
-    end_line();
+    show_from(rt, &c030, &c040, &longs, g, 0)?;
+    show_from(rt, &c030, &c040, &longs, g, 1)?;
+    show_from(rt, &c030, &c040, &longs, g, 8)?;
+    show_from(rt, &c030, &c040, &longs, g, 21)?;
+    show_from(rt, &c030, &c040, &longs, g, 22)?;
+    show_from(rt, &c030, &c040, &longs, g, 0xFFFF_FFFF)?;
+    end_line(rt)
 }
 
 // ---- The 68040: as it is; the guard; another page; W; S; no table; W of the slot alone; the last slot; the other family.
-fn case_040(supervisor: bool) {
+fn case_040<P: Print>(rt: &P, supervisor: bool) -> io::Result<()> {
     let mut longs = [0u32; 8192];
     let mut c030 = [0u64; 69];
     let mut c040 = [0u64; 128];
     let g = of_040();
     tables(&mut longs);
     warm(&mut c030, &mut c040, &longs, g, supervisor);
-    show(&c030, &c040, &longs, g);
-    io::write_all(1, b" |");
-    changed(&c030, &c040, &mut longs, g, 0x3004, 0);
-    changed(&c030, &c040, &mut longs, g, 0x3004, 0x66001);
-    changed(&c030, &c040, &mut longs, g, 0x3004, 0x55005);
-    changed(&c030, &c040, &mut longs, g, 0x3004, 0x55081);
-    changed(&c030, &c040, &mut longs, g, 0x1004, 0);
+    show(rt, &c030, &c040, &longs, g)?;
+    print!(rt; " |")?;
+    changed(rt, &c030, &c040, &mut longs, g, 0x3004, 0)?;
+    changed(rt, &c030, &c040, &mut longs, g, 0x3004, 0x66001)?;
+    changed(rt, &c030, &c040, &mut longs, g, 0x3004, 0x55005)?;
+    changed(rt, &c030, &c040, &mut longs, g, 0x3004, 0x55081)?;
+    changed(rt, &c030, &c040, &mut longs, g, 0x1004, 0)?;
     let base = c040[65];
     c040[65] = base | 2;
-    show(&c030, &c040, &longs, g);
+    show(rt, &c030, &c040, &longs, g)?;
     c040[65] = base;
     c040[63] = c040[1];
-    show(&c030, &c040, &longs, g);
-    show_from(&c030, &c040, &longs, g, 64);
-    show(&c030, &c040, &longs, of_030());
-    end_line();
+    show(rt, &c030, &c040, &longs, g)?;
+    show_from(rt, &c030, &c040, &longs, g, 64)?;
+    show(rt, &c030, &c040, &longs, of_030())?;
+    end_line(rt)
 }
 
 // ---- Refusals, in their order: all at once, then without the first of them.
-fn refusals() {
+fn refusals<P: Print>(rt: &P) -> io::Result<()> {
     let longs = [0u32; 8192];
     let mut c030 = [0u64; 69];
     let c040 = [0u64; 128];
     c030[RECENT] = 22;
-    io::write_all(1, b"refusals");
-    show_with(&c030, &c040, &longs, 2, 1, 0, 1, registers(50, 0));
-    show_with(&c030, &c040, &longs, 2, 1, 0, 1, of_030());
-    show_with(&c030, &c040, &longs, 0, 1, 0, 1, of_030());
-    show_with(&c030, &c040, &longs, 0, 1, 0, 0, of_030());
+    print!(rt; "refusals")?;
+    show_with(rt, &c030, &c040, &longs, 2, 1, 0, 1, registers(50, 0))?;
+    show_with(rt, &c030, &c040, &longs, 2, 1, 0, 1, of_030())?;
+    show_with(rt, &c030, &c040, &longs, 0, 1, 0, 1, of_030())?;
+    show_with(rt, &c030, &c040, &longs, 0, 1, 0, 0, of_030())?;
     c030[RECENT] = 0;
     c030[SHIFT] = 32;
-    show(&c030, &c040, &longs, of_040());
+    show(rt, &c030, &c040, &longs, of_040())?;
     c030[SHIFT] = 31;
-    show(&c030, &c040, &longs, of_030());
-    end_line();
+    show(rt, &c030, &c040, &longs, of_030())?;
+    end_line(rt)
 }
 
 // ---- What is said of an entry.
 
-fn tell_hit(h: Hit) {
+fn tell_hit<P: Print>(rt: &P, h: Hit) -> io::Result<()> {
     match h {
-        Hit::At(base) => {
-            io::print_hex(1, base, 8);
-        }
-        Hit::Miss => {
-            io::write_all(1, b"nothing");
-        }
+        Hit::At(base) => print!(rt; "{base:08x}"),
+        Hit::Miss => print!(rt; "nothing"),
     }
 }
 
-fn tell_walk(t: Translation) {
+fn tell_walk<P: Print>(rt: &P, t: Translation) -> io::Result<()> {
     match t {
-        Translation::Address(x) => {
-            io::write_all(1, b" A ");
-            io::print_hex(1, x as u64, 8);
-        }
+        Translation::Address(x) => print!(rt; " A {x:08x}"),
         Translation::Fault {
             kind,
             cause,
             address,
         } => {
-            index(b" F ", definition::kind_number(kind));
-            index(b" ", definition::cause_number(cause));
-            io::write_all(1, b" ");
-            io::print_hex(1, address as u64, 8);
+            index(rt, " F ", definition::kind_number(kind))?;
+            index(rt, " ", definition::cause_number(cause))?;
+            print!(rt; " {address:08x}")
         }
-        Translation::Refused(n) => index(b" R", n),
+        Translation::Refused(n) => index(rt, " R", n),
     }
 }
 
-fn tell_finding(f: Finding) {
+fn tell_finding<P: Print>(rt: &P, f: Finding) -> io::Result<()> {
     match f {
         Finding::Says {
             address,
@@ -330,26 +348,33 @@ fn tell_finding(f: Finding) {
             cached,
             tables,
         } => {
-            io::print_hex(1, address as u64, 8);
-            index(b" ", code);
-            io::write_all(1, b" ");
-            tell_hit(cached);
-            tell_walk(tables);
+            print!(rt; "{address:08x}")?;
+            index(rt, " ", code)?;
+            print!(rt; " ")?;
+            tell_hit(rt, cached)?;
+            tell_walk(rt, tables)?;
         }
-        Finding::Refused(n) => index(b"R", n),
+        Finding::Refused(n) => index(rt, "R", n)?,
     }
-    end_line();
+    end_line(rt)
 }
 
 // Of entry i, for a read and for a write.
-fn said(c030: &Atc030, c040: &Atc040, longs: &[u32; 8192], g: Registers, i: u32) {
+fn said<P: Print>(
+    rt: &P,
+    c030: &Atc030,
+    c040: &Atc040,
+    longs: &[u32; 8192],
+    g: Registers,
+    i: u32,
+) -> io::Result<()> {
     let list = ranges(0, 0);
-    tell_finding(finding_kept(c030, c040, longs, 0, list, 0, g, i, false));
-    tell_finding(finding_kept(c030, c040, longs, 0, list, 0, g, i, true));
+    tell_finding(rt, finding_kept(c030, c040, longs, 0, list, 0, g, i, false))?;
+    tell_finding(rt, finding_kept(c030, c040, longs, 0, list, 0, g, i, true))
 }
 
 // Of the guard; of WP above; of an entry with WP; of an index past the end; of a supervisor's slot whose page has W; of what is refused.
-fn findings() {
+fn findings<P: Print>(rt: &P) -> io::Result<()> {
     let mut longs = [0u32; 8192];
     let mut c030 = [0u64; 69];
     let mut c040 = [0u64; 128];
@@ -358,30 +383,30 @@ fn findings() {
     warm(&mut c030, &mut c040, &longs, g, false);
     store(&mut longs, 0x3004, 0);
     g.tt0 = 0x00FF_8777;
-    said(&c030, &c040, &longs, g, 0);
+    said(rt, &c030, &c040, &longs, g, 0)?;
     tables(&mut longs);
     store(&mut longs, 0x2004, 0x3006);
-    said(&c030, &c040, &longs, g, 0);
+    said(rt, &c030, &c040, &longs, g, 0)?;
     tables(&mut longs);
     let page = c030[PAGES];
     c030[PAGES] = page | 1;
-    said(&c030, &c040, &longs, g, 0);
-    said(&c030, &c040, &longs, g, 22);
+    said(rt, &c030, &c040, &longs, g, 0)?;
+    said(rt, &c030, &c040, &longs, g, 22)?;
     warm(&mut c030, &mut c040, &longs, of_040(), true);
     store(&mut longs, 0x3004, 0x55005);
-    said(&c030, &c040, &longs, of_040(), 1);
-    said(&c030, &c040, &longs, registers(50, 0), 1);
+    said(rt, &c030, &c040, &longs, of_040(), 1)?;
+    said(rt, &c030, &c040, &longs, registers(50, 0), 1)
 }
 
-fn main() {
-    damage_030();
-    harmless_030();
-    codes();
-    places_030();
-    io::write_all(1, b"040 user");
-    case_040(false);
-    io::write_all(1, b"040 supervisor");
-    case_040(true);
-    refusals();
-    findings();
+fn main(rt: HostRuntime) -> io::Result<()> {
+    damage_030(&rt)?;
+    harmless_030(&rt)?;
+    codes(&rt)?;
+    places_030(&rt)?;
+    print!(rt; "040 user")?;
+    case_040(&rt, false)?;
+    print!(rt; "040 supervisor")?;
+    case_040(&rt, true)?;
+    refusals(&rt)?;
+    findings(&rt)
 }
