@@ -4,7 +4,7 @@
 ghost use Rattle.std.specs.Prelude.{◌≡◌, ℕ, ◌<◌};
 ghost use Rattle.definition.specs.Walk030.{shift_of};
 ghost use Rattle.definition.specs.Translate.{hit_address, joined};
-ghost use Rattle.definition.specs.Probe.{probe030, probe040, probe_in_order, probe as probeOf};
+ghost use Rattle.definition.specs.Probe.{probe030, probe040, probe_in_order, probe as probe_of};
 ghost use Rattle.cache.specs.Atc030.{cache_of};
 ghost use Rattle.cache.specs.Atc040.{cache040_of};
 ghost use Rattle.cache.specs.Pair.{caches_of};
@@ -79,7 +79,7 @@ pub fn probe(
     write: bool,
     address: u32,
 ) -> Probe
-    ensures { result ≡ probeOf g own instruction write address (caches_of c030.now c040.now) }
+    ensures { result ≡ probe_of g own instruction write address (caches_of c030.now c040.now) }
 {
     let one = checks::no_family(g.family);
     let four = atc030::bad_cache(c030);

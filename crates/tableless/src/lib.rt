@@ -3,7 +3,7 @@
 #![tactic(auto)]
 
 ghost use Rattle.std.specs.Prelude.{◌≡◌};
-ghost use Rattle.definition.specs.Probe.{probe as probeOf};
+ghost use Rattle.definition.specs.Probe.{probe as probe_of};
 ghost use Rattle.definition.specs.Flush.{flush_all, flush_code, flush_page, flush_frame};
 ghost use Rattle.cache.specs.Pair.{pair_of};
 ghost use Rattle.tableless.specs.ByValue.{FlushedBy};
@@ -27,7 +27,7 @@ pub fn probe(
     address: u32,
     caches: CachePair,
 ) -> Probe
-    ensures { result ≡ probeOf g own instruction write address (pair_of caches) }
+    ensures { result ≡ probe_of g own instruction write address (pair_of caches) }
 {
     let c030 = caches.c030;
     let c040 = caches.c040;
