@@ -1,22 +1,22 @@
--- The loop of `audit_lent`: what is known between two entries, and that a turn keeps it. Assumes nothing.
-use Prim.Native.Nat.{ℕ, zero, suc, ◌+◌, ◌-◌, ◌*◌, ◌/◌, ◌%◌, ◌^◌, ◌≤◌, ◌<◌}
+-- The loop of `audit_lent`, and of `audit` by value: what is known between two entries, and that a turn keeps it. Assumes nothing.
+use Prim.Native.Nat.{ℕ, zero, suc, ◌+◌, ◌-◌, ◌/◌, ◌%◌, ◌<◌}
 use mathlib.Core.Path.{◌≡◌, refl, ap, sym, subst, ◌∙◌}
 use mathlib.Core.List.{List, [], ◌∷◌}
-use mathlib.Core.Bool.{Bool, true, false, not, ◌&&◌, ◌||◌, false≢true, true≢false}
+use mathlib.Core.Bool.{Bool, true, false, not, ◌&&◌, true≢false}
 use native.Mathlib.Omega.{arith}
-use native.Mathlib.Nat.{zero-add, le_refl}
-use borrow.Author.Tests.{eq-eqb, eqb-true, lt-ltb, le-ltb, ltb-true, ltb-false}
-use lib.Dec.{T, eqb, ltb}
+use native.Mathlib.Nat.{le_refl}
+use borrow.Author.Tests.{eqb-true, lt-ltb, le-ltb, ltb-true, ltb-false}
+use lib.Dec.{eqb, ltb}
 use lib.ListN.{length, get_or, drop, length-drop, length-map}
 use lib.Seq.{get_or-drop}
 use Rattle.std.specs.Prelude.{if◌then◌else◌}
-use Rattle.definition.specs.Words.{bit_of, first_of}
+use Rattle.definition.specs.Words.{first_of}
 use Rattle.definition.specs.Memory.{Memory}
 use Rattle.definition.specs.Walk030.{Outcome, walk030, every_level, shift_of}
 use Rattle.definition.specs.Walk040.{walk040, page_bits}
-use Rattle.definition.specs.Cache030.{Entry, Cache030, no_entry}
+use Rattle.definition.specs.Cache030.{Entry, no_entry}
 use Rattle.definition.specs.Cache040.{Slot, no_slot}
-use Rattle.definition.specs.Refusal.{bad_base, bad_range, refusal_of, bad_cache}
+use Rattle.definition.specs.Refusal.{bad_base, bad_range, refusal_of}
 use Rattle.definition.specs.Audit.{first_of_page, first_from, is_access_code, is_end030, is_end040, stale030, stale040, first_stale030, first_stale040, named, audit_family, audit_checks, audit_from}
 use Rattle.definition.specs.declared.Registers.{Registers}
 use Rattle.definition.specs.declared.Shift.{Shift}
@@ -33,7 +33,6 @@ use Rattle.cache.proofs.Entries.{entries_get}
 use Rattle.cache.proofs.Laws030.{level, entries_22}
 use Rattle.cache.proofs.Parts.{part_length}
 use Rattle.cache.proofs.Slots.{key_in, slots_get, slots_read, level_040}
-use Rattle.memory.proofs.Tests.{T_true, T_false}
 use Rattle.audit.specs.declared.Auditing.{Auditing}
 use Rattle.audit.specs.declared.Cached.{Cached}
 use Rattle.audit.specs.declared.walking.Way.{Way}
@@ -189,15 +188,22 @@ module _ (m : Memory) (g : Registers) (c3 c4 : List ℕ) (from : ℕ) where
   last_at = if eqb g.family 30 then 21 else 63
 
   -- what is known at the loop's head; `n` entries are left after the next
-  pub record Turn : Type 0 where
-    pub s : Auditing
+  pub record Turn (s : Auditing) : Type 0 where
     pub n : ℕ
     pub same : whole ≡ rest stale_at name_at last_at s n
     pub room : s.over ≡ false → s.i + n ≡ last_at
     pub sized : SizedAll c3 c4
 
-  abbrev pub left : Turn → ℕ
-  left t = rank stale_at name_at last_at t.s t.n
+  -- how many entries are left, the next among them
+  abbrev pub left : Auditing → ℕ
+  left s = rank stale_at name_at last_at s (last_at - s.i)
+
+  left_is : (s : Auditing) (n : ℕ) → (s.over ≡ false → s.i + n ≡ last_at) → rank stale_at name_at last_at s n ≡ left s
+  left_is s n h = go s.over h
+    where
+      go : (b : Bool) → (b ≡ false → s.i + n ≡ last_at) → (if b then 0 else suc n) ≡ (if b then 0 else suc (last_at - s.i))
+      go true h = refl
+      go false h = omega (arith, h refl)
 
   -- ---- where it begins
   module _ (z : SizedAll c3 c4) where
@@ -288,14 +294,14 @@ module _ (m : Memory) (g : Registers) (c3 c4 : List ℕ) (from : ℕ) where
 
   module _ {two : Bool} (is-two : two ≡ bad_base m) {three : Bool} (is-three : three ≡ bad_range m) {s : Auditing}
       (b : Begun (audit_begin g two three (cache_of c3) from) s c3 c4) where
-    pub opened : Opens b.sized s
+    opened : Opens b.sized s
     opened = subst (Opens b.sized) (sym b.begins) (opens b.sized two three)
 
-    pub begin_same : whole ≡ rest stale_at name_at last_at s (last_at - from)
+    begin_same : whole ≡ rest stale_at name_at last_at s (last_at - from)
     begin_same = rw (b.begins, is-two, is-three) (begun b.sized)
 
-    abbrev pub begin : Turn
-    begin = record { s = s; n = last_at - from; same = begin_same; room = opened; sized = b.sized }
+    pub begin : Turn s
+    begin = record { n = last_at - from; same = begin_same; room = opened; sized = b.sized }
 
   -- ---- a turn
   module _ (z : SizedAll c3 c4) (i : ℕ) where
@@ -344,31 +350,24 @@ module _ (m : Memory) (g : Registers) (c3 c4 : List ℕ) (from : ℕ) where
         go true = ap (λ (b : Bool). turned_of b i 21 (Audit.Stale030 i)) turn_030
         go false = ap (λ (b : Bool). turned_of b i 63 (Audit.Stale040 i)) turn_040
 
-  module _ (t : Turn) {b : Bool} (eb : b ≡ t.s.over) where
-    pub ends : T b → {x : Audit} → x ≡ t.s.answer → {a : Audit} → a ≡ x → a ≡ whole
-    ends h ex ea = ea ∙ ex ∙ sym (t.same ∙ rw (sym eb ∙ T_true b h))
+  module _ {s : Auditing} (t : Turn s) {b : Bool} (eb : b ≡ s.over) where
+    pub ends : b ≡ true → {x : Audit} → x ≡ s.answer → {a : Audit} → a ≡ x → a ≡ whole
+    ends h ex ea = ea ∙ ex ∙ sym (t.same ∙ rw (sym eb ∙ h))
 
-    module _ (h : T (not b)) {x : Cached} (ex : x ≡ cached_at g c3 c4 t.s.i) {address : ℕ} (ea : address ≡ address_for g x) {way : Way} (ew : way ≡ way_for g x)
-        {w : Walks} (walked : w ≡ walks_of m g address way) {r : Auditing} (er : r ≡ audit_took g t.s.i x address w) where
-      pub going_on : t.s.over ≡ false
-      going_on = sym eb ∙ T_false b h
+    module _ (h : b ≡ false) {x : Cached} (ex : x ≡ cached_at g c3 c4 s.i) {address : ℕ} (ea : address ≡ address_for g x) {way : Way} (ew : way ≡ way_for g x)
+        {w : Walks} (walked : w ≡ walks_of m g address way) {r : Auditing} (er : r ≡ audit_took g s.i x address w) where
+      going_on : s.over ≡ false
+      going_on = sym eb ∙ h
 
       -- what the turn makes is what the definition says of the entry
-      pub took_is : r ≡ turned_of (stale_at t.s.i) t.s.i last_at (name_at t.s.i)
-      took_is =
-          er ∙ rw (walked, ea, ew, ex) (turn_is t.sized t.s.i)
+      took_is : r ≡ turned_of (stale_at s.i) s.i last_at (name_at s.i)
+      took_is = er ∙ rw (walked, ea, ew, ex) (turn_is t.sized s.i)
 
-      pub follows : Follows stale_at name_at last_at (rest stale_at name_at last_at t.s t.n) (rank stale_at name_at last_at t.s t.n) (less_one t.n) r
-      follows = rw (going_on, took_is) (turned_on stale_at name_at last_at t.s.i t.n (t.room going_on))
+      follows : Follows stale_at name_at last_at (rest stale_at name_at last_at s t.n) (rank stale_at name_at last_at s t.n) (less_one t.n) r
+      follows = rw (going_on, took_is) (turned_on stale_at name_at last_at s.i t.n (t.room going_on))
 
-      pub next_same : whole ≡ rest stale_at name_at last_at r (less_one t.n)
-      next_same = t.same ∙ follows.same
+      pub less : left r < left s
+      less = rw (← left_is s t.n t.room, ← left_is r (less_one t.n) follows.room) follows.less
 
-      pub next_room : r.over ≡ false → r.i + less_one t.n ≡ last_at
-      next_room = follows.room
-
-      pub less : rank stale_at name_at last_at r (less_one t.n) < rank stale_at name_at last_at t.s t.n
-      less = follows.less
-
-      abbrev pub next : Turn
-      next = record { s = r; n = less_one t.n; same = next_same; room = next_room; sized = t.sized }
+      pub next : Turn r
+      next = record { n = less_one t.n; same = t.same ∙ follows.same; room = follows.room; sized = t.sized }

@@ -1,6 +1,6 @@
 -- What is said of one entry: the covered functions, over plain values, and that what they make is the definition's. Assumes nothing.
-use Prim.Native.Nat.{ℕ, ◌+◌, ◌*◌, ◌/◌, ◌%◌, ◌^◌}
-use mathlib.Core.Path.{◌≡◌, refl, ap, sym, ◌∙◌}
+use Prim.Native.Nat.{ℕ, ◌/◌, ◌%◌}
+use mathlib.Core.Path.{◌≡◌, refl, ◌∙◌}
 use mathlib.Core.List.{List}
 use mathlib.Core.Bool.{Bool, true, false, not, ◌&&◌, ◌||◌}
 use borrow.Author.Tests.{eq-eqb, ne_eqb}
@@ -11,8 +11,8 @@ use Rattle.definition.specs.Words.{bit_of}
 use Rattle.definition.specs.Memory.{Memory}
 use Rattle.definition.specs.Registers.{code_of}
 use Rattle.definition.specs.Walk040.{page_bits}
-use Rattle.definition.specs.Cache030.{Entry, no_entry, permitted}
-use Rattle.definition.specs.Cache040.{Slot, no_slot, same_bool, slot_hit}
+use Rattle.definition.specs.Cache030.{no_entry}
+use Rattle.definition.specs.Cache040.{no_slot, same_bool, slot_hit}
 use Rattle.definition.specs.Refusal.{bad_base, bad_range, refusal_of}
 use Rattle.definition.specs.Translate.{Caches, translate, cacheless, empty_caches}
 use Rattle.definition.specs.Audit.{bare, plain_access, audit_checks, finding030, finding040, finding_family, finding}
@@ -22,7 +22,7 @@ use Rattle.definition.specs.declared.Hit.{Hit}
 use Rattle.definition.specs.declared.Translation.{Translation}
 use Rattle.definition.specs.declared.Finding.{Finding}
 use Rattle.cache.specs.Packed.{odd}
-use Rattle.cache.specs.Atc030.{entry_of, entries_of, tags_of, pages_of, stamps_of, shift_in, cache_of}
+use Rattle.cache.specs.Atc030.{entries_of, tags_of, pages_of, stamps_of, shift_in, cache_of}
 use Rattle.cache.specs.Atc040.{slot_of, slots_of, keys_of, bases_of, cache040_of}
 use Rattle.cache.specs.Pair.{caches_of, SizedAll}
 use Rattle.cache.proofs.Entries.{entries_get}

@@ -1,16 +1,14 @@
 -- What the audit's covered functions return, over plain values. Assumes nothing.
 use Prim.Native.Nat.{ℕ, zero, suc, ◌+◌, ◌-◌, ◌*◌, ◌/◌, ◌%◌, ◌^◌, ◌≤◌, ◌<◌}
-use mathlib.Core.Path.{◌≡◌, refl, ap, sym, subst, ◌∙◌}
+use mathlib.Core.Path.{◌≡◌, refl, ap, sym, ◌∙◌}
 use mathlib.Core.List.{List, [], ◌∷◌}
 use mathlib.Core.Bool.{Bool, true, false, not, ◌&&◌, ◌||◌}
 use native.Mathlib.Omega.{arith}
 use borrow.Author.Tests.{eq-eqb, ne_eqb, lt-ltb, le-ltb}
 use native.Mathlib.Nat.{min-le_left, mul_assoc, mul-mod_left}
 use lib.Pow.{pow-add}
-use lib.Dec.{eqb, ltb}
+use lib.Dec.{eqb}
 use lib.ListN.{length, get_or, take, drop, length-take}
-use Rattle.std.specs.Prelude.{if◌then◌else◌}
-use Rattle.definition.specs.Words.{bit_of}
 use Rattle.definition.specs.Walk030.{shift_of, physical_of}
 use Rattle.definition.specs.Walk040.{page_bits, frame_of}
 use Rattle.definition.specs.Cache030.{Cache030}

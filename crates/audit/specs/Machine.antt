@@ -1,6 +1,6 @@
 -- The audit as a machine over the two arrays: what is known between two entries, and what one walk changes.
 -- It serves the code alone; the meaning is `Audit` of `definition`.
-use Rattle.std.specs.Prelude.{ℕ, ◌+◌, ◌*◌, ◌/◌, ◌%◌, ◌^◌, ◌≡◌, Bool, true, false, not, ◌&&◌, ◌||◌, List, eqb, ltb, get_or}
+use Rattle.std.specs.Prelude.{ℕ, ◌+◌, ◌*◌, ◌/◌, ◌%◌, ◌^◌, ◌≡◌, Bool, true, false, not, ◌&&◌, List, eqb, ltb, get_or}
 use Rattle.std.specs.Prelude.{if◌then◌else◌}
 use Rattle.definition.specs.Walk030.{shift_of}
 use Rattle.definition.specs.Walk040.{page_bits}

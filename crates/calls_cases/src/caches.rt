@@ -6,6 +6,7 @@ ghost use Rattle.std.specs.Prelude.{◌<◌};
 use crate::setting;
 use cache::atc030::{Atc030, CLOCK, PAGES, RECENT, SHIFT, STAMPS};
 use definition::{Access, Override, Translation};
+use std::io;
 
 // The valid tag of the page of 02041ABC, user data, and that of another page.
 const KEY: u64 = 0x20413;
@@ -68,46 +69,34 @@ fn cache_of(tags: Tags, wp: u64, stamps: Stamps, recent: u64, clock: u64, shift:
 }
 
 // Writes an answer.
-fn show_answer(answer: Translation) {
+fn show_answer<P: Print>(rt: &P, answer: Translation) -> io::Result<()> {
     match answer {
-        Translation::Address(x) => {
-            io::write_all(1, b"A ");
-            io::print_hex(1, x as u64, 8);
-        }
-        Translation::Fault { .. } => {
-            io::write_all(1, b"F");
-        }
-        Translation::Refused(n) => {
-            io::write_all(1, b"R ");
-            io::print_decimal(1, n as u64);
-        }
+        Translation::Address(x) => print!(rt; "A {x:08x}"),
+        Translation::Fault { .. } => print!(rt; "F"),
+        Translation::Refused(n) => print!(rt; "R {n}"),
     }
 }
 
 // Writes entry i.
-fn show_entry(c030: &Atc030, i: usize)
+fn show_entry<P: Print>(rt: &P, c030: &Atc030, i: usize) -> io::Result<()>
     requires { i < 22 }
 {
-    io::write_all(1, b" ");
-    io::print_hex(1, setting::at(c030, i), 1);
-    io::write_all(1, b",");
-    io::print_hex(1, setting::at(c030, PAGES + i), 1);
-    io::write_all(1, b",");
-    io::print_decimal(1, setting::at(c030, STAMPS + i));
+    let tag = setting::at(c030, i);
+    let page = setting::at(c030, PAGES + i);
+    let stamp = setting::at(c030, STAMPS + i);
+    print!(rt; " {tag:x},{page:x},{stamp}")
 }
 
 // Writes the most recent index, the clock and the shift.
-fn show_marks(c030: &Atc030) {
-    io::write_all(1, b" m=");
-    io::print_decimal(1, setting::at(c030, RECENT));
-    io::write_all(1, b" c=");
-    io::print_decimal(1, setting::at(c030, CLOCK));
-    io::write_all(1, b" s=");
-    io::print_decimal(1, setting::at(c030, SHIFT));
+fn show_marks<P: Print>(rt: &P, c030: &Atc030) -> io::Result<()> {
+    let recent = setting::at(c030, RECENT);
+    let clock = setting::at(c030, CLOCK);
+    let shift = setting::at(c030, SHIFT);
+    print!(rt; " m={recent} c={clock} s={shift}")
 }
 
 // Translates over a cache and writes what it gives and leaves.
-fn tried(then: Atc030, a: Access) {
+fn tried<P: Print>(rt: &P, then: Atc030, a: Access) -> io::Result<()> {
     let mut c030 = then;
     let mut c040 = [0u64; 128];
     let longs = setting::tree();
@@ -115,14 +104,14 @@ fn tried(then: Atc030, a: Access) {
     let g = setting::registers(30, true);
     let r = kept::translate(&mut c030, &mut c040, &longs, 0x1000, list, 0, false, g, a);
     let answer = r.answer;
-    show_answer(answer);
-    io::write_all(1, b" ");
-    io::print_decimal(1, r.count as u64);
-    show_marks(&c030);
-    show_entry(&c030, 0);
-    show_entry(&c030, 3);
-    show_entry(&c030, 7);
-    io::write_all(1, b"\n");
+    let count = r.count;
+    show_answer(rt, answer)?;
+    print!(rt; " {count}")?;
+    show_marks(rt, &c030)?;
+    show_entry(rt, &c030, 0)?;
+    show_entry(rt, &c030, 3)?;
+    show_entry(rt, &c030, 7)?;
+    rt.println("")
 }
 
 // Two entries of one key, at 3 and 7, and all stamps 5.
@@ -140,12 +129,12 @@ fn two_of(wp: u64, recent: u64, shift: u64) -> Atc030 {
 }
 
 // The same at shift 12.
-fn twice(wp: u64, recent: u64, a: Access) {
-    tried(two_of(wp, recent, 12), a);
+fn twice<P: Print>(rt: &P, wp: u64, recent: u64, a: Access) -> io::Result<()> {
+    tried(rt, two_of(wp, recent, 12), a)
 }
 
 // No entry of the key, and the stamps 100 but at 7.
-fn full(seventh: u64, shift: u64) {
+fn full<P: Print>(rt: &P, seventh: u64, shift: u64) -> io::Result<()> {
     let tags = Tags {
         third: OTHER,
         seventh: OTHER,
@@ -155,11 +144,11 @@ fn full(seventh: u64, shift: u64) {
         third: 100,
         seventh,
     };
-    tried(cache_of(tags, 0, stamps, 0, 7, shift), reading(true));
+    tried(rt, cache_of(tags, 0, stamps, 0, 7, shift), reading(true))
 }
 
 // The clock at its end, the stamps 100 but 5 at 3 and the clock's own at 7.
-fn at_the_end(seventh: u64, wp: u64, recent: u64, a: Access) {
+fn at_the_end<P: Print>(rt: &P, seventh: u64, wp: u64, recent: u64, a: Access) -> io::Result<()> {
     let tags = Tags {
         third: OTHER,
         seventh,
@@ -169,44 +158,44 @@ fn at_the_end(seventh: u64, wp: u64, recent: u64, a: Access) {
         third: 5,
         seventh: LAST,
     };
-    tried(cache_of(tags, wp, stamps, recent, LAST, 12), a);
+    tried(rt, cache_of(tags, wp, stamps, recent, LAST, 12), a)
 }
 
 // Caches that no replay reaches.
-pub fn unreached() {
-    io::write_all(1, b"unreached\n");
+pub fn unreached<P: Print>(rt: &P) -> io::Result<()> {
+    println!(rt; "unreached")?;
     // Most recent index 200, then shift 77. Number 4, and all stays.
-    tried(two_of(0, 200, 12), reading(true));
-    tried(two_of(0, 0, 77), reading(true));
+    tried(rt, two_of(0, 200, 12), reading(true))?;
+    tried(rt, two_of(0, 0, 77), reading(true))?;
     // Most recent 7: 'Matching tries the most recent entry', base 77000, and a hit on it changes nothing.
-    twice(0, 7, reading(true));
+    twice(rt, 0, 7, reading(true))?;
     // Most recent 0: 'then the lowest index', base 11000. The clock becomes 10, stamps 3, and 3 is most recent.
-    twice(0, 0, reading(true));
+    twice(rt, 0, 0, reading(true))?;
     // The same unrecorded: nothing changes.
-    twice(0, 0, reading(false));
+    twice(rt, 0, 0, reading(false))?;
     // A write, WP in both: the hit on 7 misses, 3 longs; 'Insert takes the lowest index of the same key': 3, without WP, stamp 10.
-    twice(1, 7, writing());
+    twice(rt, 1, 7, writing())?;
     // Most recent 0: the hit on 3 is a use too, at 10; the insert then stamps it 11.
-    twice(1, 0, writing());
+    twice(rt, 1, 0, writing())?;
     // Full, stamps above the clock 7: 'the smallest stamp', 50 at 7, goes, and the new one's is 8.
-    full(50, 12);
+    full(rt, 50, 12)?;
     // All stamps equal: the 'lowest index among equals', 0.
-    full(100, 12);
+    full(rt, 100, 12)?;
     // Stored shift 31: 'an insert then empties first', and the first invalid is 0.
-    full(50, 31);
+    full(rt, 50, 31)
 }
 
 // The clock at 2^64 - 1: 'before it is raised each stamp becomes the number of smaller stamps and the clock 22'.
-pub fn clock() {
-    io::write_all(1, b"clock\n");
+pub fn clock<P: Print>(rt: &P) -> io::Result<()> {
+    println!(rt; "clock")?;
     // A recorded hit on 7: stamps 1 but 0 at 3, the clock 22, then 23, which is the stamp of 7.
-    at_the_end(KEY, 0, 0, reading(true));
+    at_the_end(rt, KEY, 0, 0, reading(true))?;
     // A recorded hit on the most recent: nothing changes.
-    at_the_end(KEY, 0, 7, reading(true));
+    at_the_end(rt, KEY, 0, 7, reading(true))?;
     // An unrecorded hit: nothing changes.
-    at_the_end(KEY, 0, 0, reading(false));
+    at_the_end(rt, KEY, 0, 0, reading(false))?;
     // An insert: the smallest stamp, 5 at 3, goes; ranks 1, and 21 at 7; the clock 23 is the stamp of 3.
-    at_the_end(OTHER, 0, 0, reading(true));
+    at_the_end(rt, OTHER, 0, 0, reading(true))?;
     // A write that hits WP at 7: the use ranks and raises to 23, the insert raises to 24.
-    at_the_end(KEY, 1, 0, writing());
+    at_the_end(rt, KEY, 1, 0, writing())
 }

@@ -6,13 +6,15 @@ mod caches;
 mod refusals;
 mod setting;
 
-fn main() {
-    refusals::loads();
-    refusals::translations();
-    refusals::tests();
-    refusals::probes();
-    refusals::flushes();
-    refusals::largest_taken();
-    caches::unreached();
-    caches::clock();
+use std::io;
+
+fn main(rt: HostRuntime) -> io::Result<()> {
+    refusals::loads(&rt)?;
+    refusals::translations(&rt)?;
+    refusals::tests(&rt)?;
+    refusals::probes(&rt)?;
+    refusals::flushes(&rt)?;
+    refusals::largest_taken(&rt)?;
+    caches::unreached(&rt)?;
+    caches::clock(&rt)
 }

@@ -4,6 +4,7 @@ use crate::setting::{Given, Trial};
 use cache::atc030::{Atc030, RECENT, SHIFT};
 use cache::atc040::Atc040;
 use definition::{Flush, Load, Override, Probe, Test, Translation};
+use std::io;
 
 // ---- What stays.
 
@@ -293,187 +294,187 @@ fn off(t: Trial) -> Trial {
 // ---- The lines.
 
 // Loads that meet one number alone: 1 6 5 2 2 3 4 4.
-fn loads_alone(t: Trial) {
-    setting::show(load(one(t)));
-    setting::show(load(six(t)));
-    setting::show(load(five(t)));
-    setting::show(load(two(t)));
-    setting::show(load(two_high(t)));
-    setting::show(load(three(t)));
-    setting::show(load(four(t)));
-    setting::show(load(four_shift(t)));
+fn loads_alone<P: Print>(rt: &P, t: Trial) -> io::Result<()> {
+    setting::show(rt, load(one(t)))?;
+    setting::show(rt, load(six(t)))?;
+    setting::show(rt, load(five(t)))?;
+    setting::show(rt, load(two(t)))?;
+    setting::show(rt, load(two_high(t)))?;
+    setting::show(rt, load(three(t)))?;
+    setting::show(rt, load(four(t)))?;
+    setting::show(rt, load(four_shift(t)))
 }
 
 // Loads that meet two neighbours, of which the first is given: 1 6 5 2 3. No family is both 1 and 6, so 1 stands with 5.
-fn loads_of_two(t: Trial) {
-    setting::show(load(one(five(t))));
-    setting::show(load(six(five(t))));
-    setting::show(load(five(two(t))));
-    setting::show(load(two(three(t))));
-    setting::show(load(three(four(t))));
+fn loads_of_two<P: Print>(rt: &P, t: Trial) -> io::Result<()> {
+    setting::show(rt, load(one(five(t))))?;
+    setting::show(rt, load(six(five(t))))?;
+    setting::show(rt, load(five(two(t))))?;
+    setting::show(rt, load(two(three(t))))?;
+    setting::show(rt, load(three(four(t))))
 }
 
 // Writes a line of loads, from what none refuses.
-fn load_line(t: Trial) {
-    loads_alone(t);
-    io::write_all(1, b" |");
-    loads_of_two(t);
-    io::write_all(1, b"\n");
+fn load_line<P: Print>(rt: &P, t: Trial) -> io::Result<()> {
+    loads_alone(rt, t)?;
+    print!(rt; " |")?;
+    loads_of_two(rt, t)?;
+    rt.println("")
 }
 
 // Loads, with the PMMU on and off.
-pub fn loads() {
+pub fn loads<P: Print>(rt: &P) -> io::Result<()> {
     let t = setting::fit();
-    io::write_all(1, b"load");
-    load_line(t);
-    io::write_all(1, b"load, off");
-    load_line(off(t));
+    print!(rt; "load")?;
+    load_line(rt, t)?;
+    print!(rt; "load, off")?;
+    load_line(rt, off(t))
 }
 
 // Translations that meet one number alone: 1 5 2 2 3 4 4. Number 6 is not theirs.
-fn translations_alone(t: Trial) {
-    setting::show(translate(one(t)));
-    setting::show(translate(five(t)));
-    setting::show(translate(two(t)));
-    setting::show(translate(two_high(t)));
-    setting::show(translate(three(t)));
-    setting::show(translate(four(t)));
-    setting::show(translate(four_shift(t)));
+fn translations_alone<P: Print>(rt: &P, t: Trial) -> io::Result<()> {
+    setting::show(rt, translate(one(t)))?;
+    setting::show(rt, translate(five(t)))?;
+    setting::show(rt, translate(two(t)))?;
+    setting::show(rt, translate(two_high(t)))?;
+    setting::show(rt, translate(three(t)))?;
+    setting::show(rt, translate(four(t)))?;
+    setting::show(rt, translate(four_shift(t)))
 }
 
 // Translations that meet two neighbours: 1 5 2 3. And on family 40 number 4 applies too: 4.
-fn translations_of_two(t: Trial) {
-    setting::show(translate(one(five(t))));
-    setting::show(translate(five(two(t))));
-    setting::show(translate(two(three(t))));
-    setting::show(translate(three(four(t))));
-    setting::show(translate(six(four(t))));
+fn translations_of_two<P: Print>(rt: &P, t: Trial) -> io::Result<()> {
+    setting::show(rt, translate(one(five(t))))?;
+    setting::show(rt, translate(five(two(t))))?;
+    setting::show(rt, translate(two(three(t))))?;
+    setting::show(rt, translate(three(four(t))))?;
+    setting::show(rt, translate(six(four(t))))
 }
 
 // Writes a line of translations, from what none refuses.
-fn translate_line(t: Trial) {
-    translations_alone(t);
-    io::write_all(1, b" |");
-    translations_of_two(t);
-    io::write_all(1, b"\n");
+fn translate_line<P: Print>(rt: &P, t: Trial) -> io::Result<()> {
+    translations_alone(rt, t)?;
+    print!(rt; " |")?;
+    translations_of_two(rt, t)?;
+    rt.println("")
 }
 
 // Translations, with the PMMU on and off.
-pub fn translations() {
+pub fn translations<P: Print>(rt: &P) -> io::Result<()> {
     let t = setting::fit();
-    io::write_all(1, b"translate");
-    translate_line(t);
-    io::write_all(1, b"translate, off");
-    translate_line(off(t));
+    print!(rt; "translate")?;
+    translate_line(rt, t)?;
+    print!(rt; "translate, off")?;
+    translate_line(rt, off(t))
 }
 
 // Tests that meet one number alone: 1 6 5 5 2 2 3, the second 5 by its level.
-fn tests_alone(t: Trial) {
-    setting::show(test(one(t), 0));
-    setting::show(test(six(t), 0));
-    setting::show(test(five(t), 0));
-    setting::show(test(t, 8));
-    setting::show(test(two(t), 0));
-    setting::show(test(two_high(t), 0));
-    setting::show(test(three(t), 0));
+fn tests_alone<P: Print>(rt: &P, t: Trial) -> io::Result<()> {
+    setting::show(rt, test(one(t), 0))?;
+    setting::show(rt, test(six(t), 0))?;
+    setting::show(rt, test(five(t), 0))?;
+    setting::show(rt, test(t, 8))?;
+    setting::show(rt, test(two(t), 0))?;
+    setting::show(rt, test(two_high(t), 0))?;
+    setting::show(rt, test(three(t), 0))
 }
 
 // Tests that meet two neighbours: 1 6 5 2. They take no cache, so a bad one is nothing to them: 0. With the PMMU off: 6 5.
-fn tests_of_two(t: Trial) {
-    setting::show(test(one(five(t)), 7));
-    setting::show(test(six(five(t)), 7));
-    setting::show(test(five(two(t)), 7));
-    setting::show(test(two(three(t)), 7));
-    setting::show(test(four(t), 0));
-    setting::show(test(six(off(t)), 7));
-    setting::show(test(off(t), 8));
+fn tests_of_two<P: Print>(rt: &P, t: Trial) -> io::Result<()> {
+    setting::show(rt, test(one(five(t)), 7))?;
+    setting::show(rt, test(six(five(t)), 7))?;
+    setting::show(rt, test(five(two(t)), 7))?;
+    setting::show(rt, test(two(three(t)), 7))?;
+    setting::show(rt, test(four(t), 0))?;
+    setting::show(rt, test(six(off(t)), 7))?;
+    setting::show(rt, test(off(t), 8))
 }
 
 // Writes a line of tests.
-pub fn tests() {
+pub fn tests<P: Print>(rt: &P) -> io::Result<()> {
     let t = setting::fit();
-    io::write_all(1, b"test");
-    tests_alone(t);
-    io::write_all(1, b" |");
-    tests_of_two(t);
-    io::write_all(1, b"\n");
+    print!(rt; "test")?;
+    tests_alone(rt, t)?;
+    print!(rt; " |")?;
+    tests_of_two(rt, t)?;
+    rt.println("")
 }
 
 // Probes: 1 and 4, and off. Memory and codes are nothing to them.
-pub fn probes() {
+pub fn probes<P: Print>(rt: &P) -> io::Result<()> {
     let t = setting::fit();
-    io::write_all(1, b"probe");
+    print!(rt; "probe")?;
     // Alone: 1 4 4. Of two: 1. Off: 1 4. Spoilt in what it doesn't take: 0.
-    setting::show(probe(one(t)));
-    setting::show(probe(four(t)));
-    setting::show(probe(four_shift(t)));
-    setting::show(probe(one(four(t))));
-    setting::show(probe(one(off(t))));
-    setting::show(probe(four(off(t))));
-    setting::show(probe(five(two(three(t)))));
-    io::write_all(1, b"\n");
+    setting::show(rt, probe(one(t)))?;
+    setting::show(rt, probe(four(t)))?;
+    setting::show(rt, probe(four_shift(t)))?;
+    setting::show(rt, probe(one(four(t))))?;
+    setting::show(rt, probe(one(off(t))))?;
+    setting::show(rt, probe(four(off(t))))?;
+    setting::show(rt, probe(five(two(three(t)))))?;
+    rt.println("")
 }
 
 // Flushes of all: 4 4.
-fn flushes_all(t: Trial) {
-    setting::show(flush_all(four(t)));
-    setting::show(flush_all(four_shift(t)));
+fn flushes_all<P: Print>(rt: &P, t: Trial) -> io::Result<()> {
+    setting::show(rt, flush_all(four(t)))?;
+    setting::show(rt, flush_all(four_shift(t)))
 }
 
 // Flushes by code: 5 5 4, of two 5. Code and mask 7 are taken, and no entry of code 1 goes: 0.
-fn flushes_code(t: Trial) {
-    setting::show(flush_code(five(t), 7));
-    setting::show(flush_code(t, 8));
-    setting::show(flush_code(four(t), 7));
-    setting::show(flush_code(five(four(t)), 7));
-    setting::show(flush_code(largest(t), 7));
+fn flushes_code<P: Print>(rt: &P, t: Trial) -> io::Result<()> {
+    setting::show(rt, flush_code(five(t), 7))?;
+    setting::show(rt, flush_code(t, 8))?;
+    setting::show(rt, flush_code(four(t), 7))?;
+    setting::show(rt, flush_code(five(four(t)), 7))?;
+    setting::show(rt, flush_code(largest(t), 7))
 }
 
 // Flushes by page: 5 5 4, of two 5.
-fn flushes_page(t: Trial) {
-    setting::show(flush_page(five(t), 7));
-    setting::show(flush_page(t, 8));
-    setting::show(flush_page(four(t), 7));
-    setting::show(flush_page(five(four(t)), 7));
+fn flushes_page<P: Print>(rt: &P, t: Trial) -> io::Result<()> {
+    setting::show(rt, flush_page(five(t), 7))?;
+    setting::show(rt, flush_page(t, 8))?;
+    setting::show(rt, flush_page(four(t), 7))?;
+    setting::show(rt, flush_page(five(four(t)), 7))
 }
 
 // Flushes of frame 2^20: 5. Frame FFFFF is taken, and no slot of frame 0 goes: 0.
-fn flushes_frame() {
-    setting::show(flush_frame(0x10_0000));
-    setting::show(flush_frame(0xF_FFFF));
+fn flushes_frame<P: Print>(rt: &P) -> io::Result<()> {
+    setting::show(rt, flush_frame(0x10_0000))?;
+    setting::show(rt, flush_frame(0xF_FFFF))
 }
 
 // Flushes that none refuses, and each drops what the caches have: 0! four times.
-fn flushes_that_drop(t: Trial) {
-    setting::show(flush_all(t));
-    setting::show(flush_code(t, 7));
-    setting::show(flush_page(t, 7));
-    setting::show(flush_frame(0));
+fn flushes_that_drop<P: Print>(rt: &P, t: Trial) -> io::Result<()> {
+    setting::show(rt, flush_all(t))?;
+    setting::show(rt, flush_code(t, 7))?;
+    setting::show(rt, flush_page(t, 7))?;
+    setting::show(rt, flush_frame(0))
 }
 
 // Writes a line of flushes.
-pub fn flushes() {
+pub fn flushes<P: Print>(rt: &P) -> io::Result<()> {
     let t = setting::fit();
-    io::write_all(1, b"flush");
-    flushes_all(t);
-    io::write_all(1, b" |");
-    flushes_code(t);
-    io::write_all(1, b" |");
-    flushes_page(t);
-    io::write_all(1, b" |");
-    flushes_frame();
-    io::write_all(1, b" |");
-    flushes_that_drop(t);
-    io::write_all(1, b"\n");
+    print!(rt; "flush")?;
+    flushes_all(rt, t)?;
+    print!(rt; " |")?;
+    flushes_code(rt, t)?;
+    print!(rt; " |")?;
+    flushes_page(rt, t)?;
+    print!(rt; " |")?;
+    flushes_frame(rt)?;
+    print!(rt; " |")?;
+    flushes_that_drop(rt, t)?;
+    rt.println("")
 }
 
 // What is just not refused, with the PMMU off, where nothing changes: 0 each.
-pub fn largest_taken() {
+pub fn largest_taken<P: Print>(rt: &P) -> io::Result<()> {
     let t = off(largest(setting::fit()));
-    io::write_all(1, b"largest");
-    setting::show(load(t));
-    setting::show(translate(t));
-    setting::show(test(t, 0));
-    setting::show(probe(t));
-    io::write_all(1, b"\n");
+    print!(rt; "largest")?;
+    setting::show(rt, load(t))?;
+    setting::show(rt, translate(t))?;
+    setting::show(rt, test(t, 0))?;
+    setting::show(rt, probe(t))?;
+    rt.println("")
 }

@@ -1,5 +1,6 @@
 // What the cases are given: registers, tables, accesses, and what compares and prints.
 use definition::{Access, Override, Range, Registers, Root};
+use std::io;
 
 // What a call is tried with; `fit` has nothing that is refused, and each case spoils some of it.
 #[derive(Clone, Copy)]
@@ -110,10 +111,11 @@ pub fn at(a: &[u64], i: usize) -> u64 {
 }
 
 // Writes a refusal's number, and a mark where the count was not 0 or the caches changed.
-pub fn show(g: Given) {
-    io::write_all(1, b" ");
-    io::print_decimal(1, g.number as u64);
+pub fn show<P: Print>(rt: &P, g: Given) -> io::Result<()> {
+    let number = g.number;
+    print!(rt; " {number}")?;
     if !g.kept {
-        io::write_all(1, b"!");
+        print!(rt; "!")?;
     }
+    Ok(())
 }

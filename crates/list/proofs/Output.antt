@@ -9,7 +9,7 @@ use borrow.Author.Tests.{lt-ltb, le-ltb}
 use lib.Dec.{ltb}
 use lib.ListN.{length, set, take, drop, length-drop, length-set, length-map, take-append-drop}
 use lib.Seq.{length-take-le, take-suc-set, drop-set-lt, append_snoc, drop-length}
-use Rattle.definition.specs.Words.{if◌then◌else◌}
+use Rattle.std.specs.Prelude.{if◌then◌else◌}
 use Rattle.definition.specs.List.{gather, end_of, ranges_from, room_for}
 use Rattle.definition.specs.declared.Mapped.{Mapped}
 use Rattle.list.specs.Numbers.{number_of, ListedTo}

@@ -1,6 +1,6 @@
 -- A target by the descriptor as the code is given it. This serves the code alone; the meaning is `seen_target` of `definition`.
 use Rattle.std.specs.Prelude.{eqb}
-use Rattle.definition.specs.Words.{if◌then◌else◌}
+use Rattle.std.specs.Prelude.{if◌then◌else◌}
 use Rattle.definition.specs.List.{page_at, lost_at}
 use Rattle.definition.specs.declared.Node.{Node}
 use Rattle.definition.specs.declared.Seen.{Seen}

@@ -1,6 +1,6 @@
 -- The lister's numbers: the ranges that it is lent, the ranges that it writes, and what it says of them.
 use Rattle.std.specs.Prelude.{ℕ, ◌+◌, ◌*◌, ◌/◌, ◌%◌, ◌^◌, ◌≡◌, List, [], ◌∷◌, ◌++◌, map, Bool, true, false, length, drop}
-use Rattle.definition.specs.Words.{if◌then◌else◌}
+use Rattle.std.specs.Prelude.{if◌then◌else◌}
 use Rattle.definition.specs.List.{Listing}
 use Rattle.definition.specs.declared.Range.{Range}
 use Rattle.definition.specs.declared.Mapped.{Mapped}

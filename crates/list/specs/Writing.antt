@@ -1,7 +1,7 @@
 -- What the lister's two functions carry: the output so far, and what is asked of the node they stand at. This serves the code alone; the meaning is
 -- `List` of `definition`.
 use Rattle.std.specs.Prelude.{ℕ, ◌+◌, ◌-◌, ◌%◌, ◌^◌, ◌<◌, ◌≤◌, ◌≡◌, List, [], ◌∷◌, Bool, true, false, length, get_or, set, drop, ltb, eqb}
-use Rattle.definition.specs.Words.{if◌then◌else◌}
+use Rattle.std.specs.Prelude.{if◌then◌else◌}
 use Rattle.definition.specs.Memory.{Memory}
 use Rattle.definition.specs.Walk030.{used, sum_of}
 use Rattle.definition.specs.Refusal.{refusal_of}

@@ -1,7 +1,7 @@
 -- PLOAD in three stages, what is planned without the tables, the walk, and what is concluded from it; and what it promises in place.
 -- The stages serve the code alone: the meaning is the definition's, and proofs/Loading.antt ties the two.
 use Rattle.std.specs.Prelude.{ℕ, ◌%◌, ◌≡◌, List, [], Bool, not, eqb, length}
-use Rattle.definition.specs.Words.{if◌then◌else◌}
+use Rattle.std.specs.Prelude.{if◌then◌else◌}
 use Rattle.definition.specs.Registers.{on}
 use Rattle.definition.specs.Transparent.{transparent030}
 use Rattle.definition.specs.Walk030.{every_level, walk030, shift_of}

@@ -11,7 +11,7 @@ use borrow.Author.Tests.{le-leb, lt-leb}
 use lib.Dec.{leb}
 use lib.ListN.{length, get_or, take, drop, length-drop}
 use lib.Seq.{drop-cons, drop-drop}
-use Rattle.definition.specs.Words.{if◌then◌else◌}
+use Rattle.std.specs.Prelude.{if◌then◌else◌}
 use Rattle.definition.specs.Trace.{State, Body, Short, Ended, front_of, Record, Calls, Malformed, record_of, is_malformed, step_of, text, play_from}
 use Rattle.definition.proofs.Files.{plays_on}
 use Rattle.trace.specs.Lines.{line_in, Wrote}

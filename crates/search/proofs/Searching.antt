@@ -4,7 +4,8 @@ use mathlib.Core.Path.{◌≡◌, refl, ap, sym, ◌∙◌}
 use mathlib.Core.List.{List, []}
 use mathlib.Core.Bool.{Bool, true, false, not, ◌&&◌}
 use lib.ListN.{length}
-use Rattle.definition.specs.Words.{if◌then◌else◌, bit_of}
+use Rattle.std.specs.Prelude.{if◌then◌else◌}
+use Rattle.definition.specs.Words.{bit_of}
 use Rattle.definition.specs.Walk030.{shift_of, physical_of}
 use Rattle.definition.specs.Cache030.{Cache030, inserted}
 use Rattle.definition.specs.Translate.{base_of, violation, bus_error, configuration, cached, on_end030, searched}

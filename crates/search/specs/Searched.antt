@@ -1,7 +1,7 @@
 -- What an end of a 68030 walk gives, and what the code promises of it in place.
 -- It serves the code alone: the meaning is the definition's.
 use Rattle.std.specs.Prelude.{ℕ, ◌≡◌, List, [], Bool, ◌&&◌, length}
-use Rattle.definition.specs.Words.{if◌then◌else◌}
+use Rattle.std.specs.Prelude.{if◌then◌else◌}
 use Rattle.definition.specs.Cache030.{Cache030}
 use Rattle.definition.specs.Translate.{Searched, violation, on_page030, on_end030}
 use Rattle.definition.specs.declared.FaultCause.{FaultCause}

@@ -2,7 +2,7 @@
 #![tactic(auto)]
 
 ghost use Rattle.std.specs.Prelude.{length, ◌≡◌, ◌%◌, ◌<◌};
-ghost use Rattle.definition.specs.Words.{if◌then◌else◌};
+ghost use Rattle.std.specs.Prelude.{if◌then◌else◌};
 ghost use Rattle.definition.specs.Walk030.{shift_of};
 ghost use Rattle.definition.specs.Cache030.{Cache030};
 ghost use Rattle.definition.specs.Translate.{violation, bus_error, configuration, cached};

@@ -1,7 +1,7 @@
 -- PTEST in three stages, what is planned without the tables, the walk, and what is concluded from it; and what it promises in place.
 -- The stages serve the code alone: the meaning is the definition's, and proofs/Testing.antt ties the two.
 use Rattle.std.specs.Prelude.{ℕ, ◌≡◌, [], Bool, false, ◌||◌, eqb, length}
-use Rattle.definition.specs.Words.{if◌then◌else◌}
+use Rattle.std.specs.Prelude.{if◌then◌else◌}
 use Rattle.definition.specs.Memory.{Memory}
 use Rattle.definition.specs.Walk030.{walk030}
 use Rattle.definition.specs.Transparent.{transparent030}

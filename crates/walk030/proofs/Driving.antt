@@ -11,7 +11,8 @@ use borrow.Author.Tests.{eqb-true, eqb-false, ne_eqb, le-leb, lt-leb, lt-ltb}
 use lib.Dec.{eqb, ltb}
 use lib.ListN.{length, get_or, drop, length-append, length-drop, drop_of_length-le}
 use lib.Seq.{drop-cons}
-use Rattle.definition.specs.Words.{if◌then◌else◌, bit_of}
+use Rattle.std.specs.Prelude.{if◌then◌else◌}
+use Rattle.definition.specs.Words.{bit_of}
 use Rattle.definition.specs.Memory.{Memory, fetch_of}
 use Rattle.definition.specs.Walk030.{entry_of, Descriptor, Whole, Lost, short_of, long_of, on_second, read_of, is_of, used, widths_of, top_index, Step, steps, steps_with, Found, Outcome, ended, asking, deeper, guarded, by_kind, on_target, on_table, on_descriptor, walk_from, start, walk_steps, outcome_of, walk030}
 use Rattle.definition.specs.Registers.{root_of}

@@ -1,7 +1,8 @@
 -- The 68030 walk as a machine: what is known before a descriptor, and what one descriptor changes.
 -- This serves the code alone; the meaning is `Walk030` of `definition`.
 use Rattle.std.specs.Prelude.{ℕ, ◌+◌, ◌*◌, ◌/◌, ◌%◌, List, Bool, true, false, not, ◌&&◌, ◌||◌, get_or, ltb, leb, eqb}
-use Rattle.definition.specs.Words.{if◌then◌else◌, bit_of}
+use Rattle.std.specs.Prelude.{if◌then◌else◌}
+use Rattle.definition.specs.Words.{bit_of}
 use Rattle.definition.specs.Walk030.{entry_of, is_of, top_index, by_kind}
 use Rattle.memory.specs.declared.descriptor.Descriptor.{Descriptor}
 use Rattle.memory.specs.declared.descriptor.Descriptor.TheVariants.{Whole, Lost}
