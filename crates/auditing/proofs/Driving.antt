@@ -1,8 +1,8 @@
 -- Bytes that move to the front of a buffer, and runs that follow each other over it. Assumes nothing.
-use Prim.Native.Nat.{ℕ, zero, suc, ◌+◌, ◌-◌, ◌≤◌, ◌<◌}
+use Prim.Native.Nat.{ℕ, ◌+◌, ◌-◌, ◌≤◌, ◌<◌}
 use mathlib.Core.Path.{◌≡◌, refl, ap, sym, subst, ◌∙◌}
-use mathlib.Core.Bool.{Bool, true, false, true≢false}
-use mathlib.Core.List.{List, [], ◌∷◌, ◌++◌, append_assoc, append-nil}
+use mathlib.Core.Bool.{Bool, false, true≢false}
+use mathlib.Core.List.{List, [], ◌++◌, append_assoc, append-nil}
 use native.Mathlib.Omega.{arith}
 use native.Mathlib.Numerals.{add-one}
 use lib.ListN.{length, get_or, take, drop, set, length-drop, length-take}
@@ -10,7 +10,7 @@ use lib.Seq.{take-suc, take-suc-set, get_or-drop, drop-set-lt, drop-drop, take-a
 use Rattle.definition.specs.Words.{any_of}
 use Rattle.definition.specs.Refusal.{crossed}
 use Rattle.definition.specs.Trace.{State}
-use Rattle.replay.specs.Playing.{ranges_of, state_of, Runs, none, more, Going}
+use Rattle.replay.specs.Playing.{ranges_of, Runs, none, more, Going}
 use Rattle.replay.specs.declared.Kept.{Kept}
 use Rattle.streams.specs.Filled.{Filled, Came as Held}
 use Rattle.streams.specs.declared.Got.{Got}

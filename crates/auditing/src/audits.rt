@@ -269,7 +269,14 @@ fn put_record(out: &mut [u8], named: Named, record: u64) -> usize {
 }
 
 // At the end of a trace: the stale entries, and how many of how many they are.
-pub fn at_end<H: Print + Eprint>(rt: &H, out: &mut [u8], c030: &Atc030, c040: &Atc040, longs: &[u32], kept: Kept) -> bool {
+pub fn at_end<H: Print + Eprint>(
+    rt: &H,
+    out: &mut [u8],
+    c030: &Atc030,
+    c040: &Atc040,
+    longs: &[u32],
+    kept: Kept,
+) -> bool {
     let named = put_stales(out, c030, c040, longs, kept);
     let all = entries(c030, c040, longs, kept);
     let to = put_verdict(out, named, all);

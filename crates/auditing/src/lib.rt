@@ -328,7 +328,9 @@ fn turn<H: Env + Print + Eprint, R: Read>(
             finish(rt, line, c030, c040, longs, kept, have, how, records[0]);
             over(kept)
         }
-        Got::Waiting(n) => drained(rt, c030, c040, longs, kept, buffer, n, out, line, how, records),
+        Got::Waiting(n) => drained(
+            rt, c030, c040, longs, kept, buffer, n, out, line, how, records,
+        ),
     }
 }
 

@@ -1,5 +1,5 @@
 -- What the driver promises of the bytes that stand in its buffer: no record of them is lost, and none is played twice.
--- Which bytes a read brought, and that all of them are counted, is not said: no contract of `libc` speaks of them.
+-- Which bytes a read brought, and that all of them are counted, is not said: no contract speaks of what standard input gives.
 use Rattle.std.specs.Prelude.{ℕ, ◌≡◌, Bool, true, false, List, ◌++◌, take, drop}
 use Rattle.definition.specs.Trace.{State}
 use Rattle.replay.specs.Playing.{Runs}

@@ -11,7 +11,7 @@ invariant-loop-turns g l =
       same : l.buffer ≡ l.initial.buffer;
       within : l.at ≤ l.have;
       uncrossed : any_of crossed (ranges_of l.now) ≡ false;
-      plays : Plays (state_of l.initial.now l.initial.longs l.initial.c030 l.initial.c040) (take l.have l.initial.buffer) (state_of l.now l.longs l.c030 l.c040) (take (l.have - l.at) (drop l.at l.initial.buffer))
+      plays : Plays (state_of l.initial.now l.initial.longs l.initial.c030 l.initial.c040) (take l.have l.initial.buffer) (state_of l.now l.longs l.c030 l.c040) (take (l.have - l.at) (drop l.at l.initial.buffer));
     }
 
 abbrev pub decreases-loop-turns : goal.decreases-loop-turns

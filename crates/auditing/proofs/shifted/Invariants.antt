@@ -6,7 +6,7 @@ invariant-loop-i l =
     record {
       within : l.i ≤ l.left;
       moved : take l.i l.buffer ≡ take l.i (drop l.from l.initial.buffer);
-      stays : drop l.i l.buffer ≡ drop l.i l.initial.buffer
+      stays : drop l.i l.buffer ≡ drop l.i l.initial.buffer;
     }
 
 abbrev pub decreases-loop-i : goal.decreases-loop-i
