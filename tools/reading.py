@@ -12,18 +12,21 @@ from pathlib import Path
 # The crates whose public functions are the calls; of the others, the functions in place (`.._in`) are.
 CALLS = ["translate", "load", "test", "probe", "mmu", "tableless", "pair", "audit", "list", "host", "host_audit", "host_list", "replay", "whole"]
 
-FUNCTION = re.compile(r'^pub (?:extern "C" )?fn (\w+)(.*?)^\{$', re.DOTALL | re.MULTILINE)
-IMPORT = re.compile(r"^(?:ghost )?use Rattle·(\w+)(?:·specs)?\.specs\.(?:specs\.)?(\w+)\.\{(.*?)\}", re.MULTILINE)
+FUNCTION = re.compile(r'^pub fn (\w+)(.*?)^\{$', re.DOTALL | re.MULTILINE)
+IMPORT = re.compile(r"^(?:ghost )?use Rattle\.(\w+)\.specs\.(\w+)\.\{(.*?)\}", re.MULTILINE | re.DOTALL)
+
+# What a reader has elsewhere: the definition, which is read whole, and the library.
+ELSEWHERE = ["definition", "std", "core"]
 DEFINES = re.compile(r"^(?:abbrev |unfoldable )?pub (?:record |data )?([^\s:]+)", re.MULTILINE)
 ROW = re.compile(r"^\| `(crates/\w+/specs/\w+\.antt)` \|([^|]*)\|", re.MULTILINE)
 WORD = re.compile(r"[^\s(){};,.:]+")
 
 
 def imported(source):
-    """The names that a source takes from specs/, each with its file and its name there. The definition's are left out."""
+    """The names that a source takes from specs/, each with its file and its name there, as far as they aren't elsewhere."""
     found = {}
     for crate, module, names in IMPORT.findall(source):
-        for name in names.split(",") if crate != "definition" else []:
+        for name in names.split(",") if crate not in ELSEWHERE else []:
             there, _, here = name.strip().partition(" as ")
             found[here or there] = (f"crates/{crate}/specs/{module}.antt", there)
     return found
