@@ -1,7 +1,6 @@
--- The words that the other files are written in: numbers, truth values and lists from the libraries; choice, bits, and what is said of lists. No sentence of
--- document 01 is here.
-pub use Rattle.std.specs.Prelude.{ℕ, zero, suc, ◌+◌, ◌-◌, ◌*◌, ◌/◌, ◌%◌, ◌^◌, Bool, true, false, not, ◌&&◌, ◌||◌, List, [], ◌∷◌, ◌++◌, map, eqb, ltb, leb, length, get_or, set, take, drop, replicate, if◌then◌else◌}
-pub use Rattle.std.specs.Int.Bits.{bit_and, bit_or, bit_xor}
+-- The words that the other files share, over the library's: bits, and what is said of lists. No sentence of document 01 is here.
+use Rattle.std.specs.Prelude.{ℕ, zero, suc, ◌/◌, ◌%◌, ◌^◌, Bool, true, false, ◌&&◌, ◌||◌, List, [], ◌∷◌, eqb, if◌then◌else◌}
+use Rattle.std.specs.Int.Bits.{bit_and, bit_xor}
 
 -- bit k of x
 abbrev pub bit_of : ℕ → ℕ → Bool

@@ -1,5 +1,5 @@
 // What a 68030 tree maps in one code, from an address on, as numbers in a lent output. A table reads its entries, and an entry opens its own table.
-// The bus-error ranges are lent as numbers, two for each: two functions that call each other can't take a slice of structs.
+// The bus-error ranges are lent as numbers, two for each (docs/DECISIONS.md).
 #![tactic(auto)]
 
 mod reading;

@@ -1,4 +1,4 @@
-// What a thin function reads off the registers: it has no fields of its own.
+// What the walks and the calls read off the registers.
 ghost use Rattle.std.specs.Prelude.{◌≡◌};
 
 use definition::Registers;
