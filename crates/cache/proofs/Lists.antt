@@ -12,6 +12,8 @@ use borrow.Author.Count.{below_none, below_more}
 use lib.Dec.{leb}
 use lib.ListN.{length, get_or, set, drop, drop_of_length-le}
 use lib.Seq.{drop-cons}
+use Rattle.std.specs.List.{count_by}
+use Rattle.std.proofs.lemmas.List.Recursion.{is_count_by}
 use Rattle.definition.specs.Words.{first_of, count_of, all_of}
 
 -- ---- a test that goes by a number of each element
@@ -95,34 +97,14 @@ module _ (p : ℕ → Bool) where
   all_false (x ∷ xs) zero h e = rw e
   all_false (x ∷ xs) (suc k) h e = rw (all_false xs k (le_of_suc-le-suc h) e) (and-false (p x))
 
-  -- a count up to i: n so far
-  pub record Counted (l : List ℕ) (i n : ℕ) : Type 0 where
-    pub at_most : n ≤ i
-    pub rest : n + count_of p (drop i l) ≡ count_of p l
-
-  count_step : (l : List ℕ) (i : ℕ) → i < length l → count_of p (drop i l) ≡ (if p (get_or l i 0) then suc (count_of p (drop (i + 1) l)) else count_of p (drop (i + 1) l))
-  unfolding count_of
-  count_step l i h = rw (add-one, drop-cons l i 0)
-
-  count_end : (l : List ℕ) (i : ℕ) → length l ≤ i → count_of p (drop i l) ≡ 0
-  unfolding count_of
-  count_end l i e = rw (drop_of_length-le l e)
-
-  pub count_start : (l : List ℕ) → Counted l 0 0
-  count_start l = record { at_most = zero-le; rest = zero-add (count_of p l) }
-
-  pub count_one : (l : List ℕ) (i n y : ℕ) → i < length l → y ≡ get_or l i 0 → p y ≡ true → Counted l i n → Counted l (i + 1) (n + 1)
-  count_one l i n y h a t r =
-      let e = rw (← a, t) at (count_step l i h) in
-      record { at_most = omega (arith, r.at_most); rest = omega (arith, r.rest, e) }
-
-  pub count_skip : (l : List ℕ) (i n y : ℕ) → i < length l → y ≡ get_or l i 0 → p y ≡ false → Counted l i n → Counted l (i + 1) n
-  count_skip l i n y h a t r =
-      let e = rw (← a, t) at (count_step l i h) in
-      record { at_most = omega (arith, r.at_most); rest = omega (arith, r.rest, e) }
-
-  pub count_is : (l : List ℕ) (i n : ℕ) → length l ≤ i → Counted l i n → n ≡ count_of p l
-  count_is l i n h r = omega (arith, r.rest, count_end l i h)
+-- a count, as the library says it
+pub count_by_is : (p : ℕ → Bool) (l : List ℕ) → count_of p l ≡ count_by p l
+unfolding count_of
+count_by_is p l = is_count_by (count_of p) p refl (λ x xs. go (p x) (count_of p xs)) l
+  where
+    go : (b : Bool) (n : ℕ) → (if b then suc n else n) ≡ (if b then 1 + n else n)
+    go true n = omega arith
+    go false n = refl
 
 -- ---- the smallest
 -- x stands at b, is at most each of the first i, and less than each before b
