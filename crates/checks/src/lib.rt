@@ -54,12 +54,6 @@ pub fn bad_frame(frame: u32) -> bool
     0x10_0000 <= frame
 }
 
-// The length of an array that is lent is known once it is lent as a slice.
-pub fn sized(c: &[u64]) {}
-
-// The same of both caches' arrays.
-pub fn lengths(c030: &[u64], c040: &[u64]) {}
-
 // The first that applies in the order 1, 6, 5, 2, 3, 4; 0 where none does.
 #[tactic(auto, unfolding(definition::specs::Refusal::refusal_of))]
 pub fn first_refusal(one: bool, six: bool, five: bool, two: bool, three: bool, four: bool) -> u32

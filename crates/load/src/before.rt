@@ -42,7 +42,6 @@ pub fn plan_load(
 ) -> Plan
     ensures { PlannedIn (plan_load g code write address two crossed (cache_of c030.old)) result c030.new }
 {
-    checks::sized(c030);
     let one = checks::no_family(g.family);
     let six = checks::not_030(g.family);
     let five = checks::above_seven(code);

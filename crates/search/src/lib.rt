@@ -133,7 +133,6 @@ pub fn end_030(
 ) -> Translation
     ensures { Ended (end030 tc (cache_of c030.old) (code % 8) address write w) result c030.new }
 {
-    checks::sized(c030);
     let end = w.end;
     match end {
         End::Page { field, consumed } => {

@@ -42,7 +42,6 @@ fn plan_030(
 ) -> Plan
     ensures { PlannedIn030 (plan030 (cache_of c030.old) recorded (code % 8) address write (shift_of tc)) result c030.new }
 {
-    checks::sized(c030);
     let code = code % 8;
     match memory::page030::page_shift(tc) {
         None => Plan::Walk030 { code },
@@ -103,7 +102,6 @@ pub fn plan_access(
 ) -> Plan
     ensures { PlannedIn (plan_access g a two crossed (caches_of c030.old c040.old)) result c030.new c040.new }
 {
-    checks::lengths(c030, c040);
     let code = a.code;
     let five = checks::bad_override(code);
     let four = bad_cache(c030);
