@@ -8,6 +8,7 @@ mod sums;
 use cache::atc030::Atc030;
 use cache::atc040::Atc040;
 use cache::{CachePair, atc030, atc040};
+
 // Operations 1 to 6, on the 68030 cache: what they answer.
 fn on_030(row: &[u32; 9], c030: &mut Atc030) -> Option<u64> {
     let code = row[1] % 8;
