@@ -57,7 +57,11 @@ pub fn walk_for(
 ) -> Walks
     ensures { result ≡ walks_of (memory longs.now base ranges.now) g address way }
 {
-    let tables = Tables { longs, base, ranges };
+    let tables = Tables {
+        longs,
+        base,
+        ranges,
+    };
     match way {
         Way::Idle => idle(),
         Way::By030 { code } => {

@@ -137,7 +137,11 @@ pub fn walk_030(
     ensures { result ≡ shown (walk030 (memory longs.now base (take n list)) g address code limit) }
 {
     let m = of_sixteen(n);
-    let tables = Tables { longs, base, ranges: &list[..m] };
+    let tables = Tables {
+        longs,
+        base,
+        ranges: &list[..m],
+    };
     walk030::walk(&tables, g, address, code, limit)
 }
 
@@ -154,6 +158,10 @@ pub fn walk_040(
     ensures { result ≡ shown040 (walk040 (memory longs.now base (take n list)) g address supervisor) }
 {
     let m = of_sixteen(n);
-    let tables = Tables { longs, base, ranges: &list[..m] };
+    let tables = Tables {
+        longs,
+        base,
+        ranges: &list[..m],
+    };
     walk040::walk(&tables, g, address, supervisor)
 }

@@ -68,7 +68,11 @@ fn walked(
         Plan::Settled(answer) => settled(answer),
         Plan::Walk030 { code } => {
             let limit = walk030::EVERY_LEVEL;
-            let tables = Tables { longs, base, ranges };
+            let tables = Tables {
+                longs,
+                base,
+                ranges,
+            };
             let root = walk030::root_of(g, code);
             let walk = walk030::walk_030(&tables, g.tc, root, address, code, limit);
             by_030(code, walk)

@@ -1,10 +1,8 @@
 -- One 68030 descriptor as the code reads it. This serves the code alone; the meaning is `Walk030` of `definition`.
-use Rattle.std.specs.Prelude.{ℕ, ◌%◌, Bool, true, false, not, ◌&&◌, length}
+use Rattle.std.specs.Prelude.{ℕ, ◌%◌, Bool, true, false, not, ◌&&◌, length, Option, Some, None}
 use Rattle.definition.specs.Words.{bit_of}
 use Rattle.definition.specs.Walk030.{entry_of, on_second}
 use Rattle.definition.specs.Walk030 as walk030
-use Rattle.definition.specs.declared.Fetched.{Fetched}
-use Rattle.definition.specs.declared.Fetched.TheVariants.{Long, Failed}
 use Rattle.memory.specs.declared.descriptor.Descriptor.{Descriptor}
 use Rattle.memory.specs.declared.descriptor.Descriptor.TheVariants.{Whole, Lost}
 

@@ -6,7 +6,6 @@ ghost use Rattle.memory.specs.Descriptors.{described_of, shown_read};
 use crate::bits::bit;
 use crate::ranges::Ranges;
 use crate::tables::Tables;
-use definition::Fetched;
 
 // What reading one 68030 descriptor gives, with the number of longs asked for. Lost: the long at `at` failed.
 #[derive(Clone, Copy)]
@@ -77,16 +76,15 @@ fn described(first: u32, field: u32, long: bool, asked: u32) -> Descriptor
 pub fn read_desc<R: Ranges>(tables: &Tables<R>, at: u32, long: bool) -> Descriptor
     ensures { result ≡ shown_read (read_of tables.now at long) }
 {
-    let first = match tables.fetch(at) {
-        Fetched::Long(x) => x,
-        Fetched::Failed => return Descriptor::Lost { at, asked: 1 },
+    let Some(first) = tables.fetch(at) else {
+        return Descriptor::Lost { at, asked: 1 };
     };
     if !long {
         return described(first, first, false, 1);
     }
     let next = entry(at, 1, false);
     match tables.fetch(next) {
-        Fetched::Long(field) => described(first, field, true, 2),
-        Fetched::Failed => Descriptor::Lost { at: next, asked: 2 },
+        Some(field) => described(first, field, true, 2),
+        None => Descriptor::Lost { at: next, asked: 2 },
     }
 }

@@ -5,7 +5,6 @@ ghost use Rattle.definition.specs.Refusal.{bad_base, crossed};
 ghost use Rattle.definition.specs.Words.{any_of};
 
 use crate::ranges::{Ranges, any_crossed, hits};
-use definition::Fetched;
 use std::marker::Model;
 
 // Longs from a base address, and bus-error ranges. A clause sees the definition's memory of them.
@@ -44,24 +43,24 @@ impl<'a, R: Ranges> Tables<'a, R> {
     }
 
     // A long fails if it lies outside the longs or any of its four bytes lies in a range.
-    pub fn fetch(&self, at: u32) -> Fetched
+    pub fn fetch(&self, at: u32) -> Option<u32>
         ensures { result ≡ fetch_of self.now at }
     {
         let hit = hits(self.ranges, at);
         if at < self.base {
-            return Fetched::Failed;
+            return None;
         }
         let off = at - self.base;
         if off % 4 != 0 {
-            return Fetched::Failed;
+            return None;
         }
         let i = (off / 4) as usize;
         if self.longs.len() <= i {
-            return Fetched::Failed;
+            return None;
         }
         if hit {
-            return Fetched::Failed;
+            return None;
         }
-        Fetched::Long(self.longs[i])
+        Some(self.longs[i])
     }
 }

@@ -65,7 +65,11 @@ fn walked(
     match plan {
         Plan::Settled(answer) => settled(answer),
         Plan::Walk030 => {
-            let tables = Tables { longs, base, ranges };
+            let tables = Tables {
+                longs,
+                base,
+                ranges,
+            };
             let root = walk030::root_of(g, code);
             let walk = walk030::walk_030(&tables, g.tc, root, address, code, level);
             by_030(walk)

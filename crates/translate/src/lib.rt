@@ -67,7 +67,11 @@ fn by_040(supervisor: bool, walk: Walked040) -> Found
 fn walked(longs: &[u32], base: u32, ranges: &[Range], g: Registers, a: Access, plan: Plan) -> Found
     ensures { result ≡ found_of (memory longs.now base ranges.now) g a plan }
 {
-    let tables = Tables { longs, base, ranges };
+    let tables = Tables {
+        longs,
+        base,
+        ranges,
+    };
     match plan {
         Plan::Settled(answer) => settled(answer),
         Plan::Walk030 { code } => {

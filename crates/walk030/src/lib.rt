@@ -94,13 +94,7 @@ pub fn walk_030(
 }
 
 // The walk in a code's space under these registers, of at most `limit` levels.
-pub fn walk(
-    tables: &Tables<&[Range]>,
-    g: Registers,
-    address: u32,
-    code: u32,
-    limit: u32,
-) -> Walked
+pub fn walk(tables: &Tables<&[Range]>, g: Registers, address: u32, code: u32, limit: u32) -> Walked
     ensures { result ≡ shown (walk030 tables.now g address code limit) }
 {
     let root = root_of(g, code);
