@@ -21,7 +21,7 @@ use crate::walking::{Walks, Way, walk_for};
 use cache::atc030;
 use cache::atc030::Atc030;
 use cache::atc040::Atc040;
-use definition::{Audit, End, End040, Range, Registers, Shift};
+use definition::{Audit, End, End040, Range, Registers};
 
 // Where an audit stands between two entries: it is over with this answer, or entry `i` is next.
 #[derive(Clone, Copy)]
@@ -90,8 +90,8 @@ fn at_shift(shift: u64, tc: u32) -> bool
     ensures { result ≡ at_shift shift (shift_of tc) }
 {
     match memory::page030::page_shift(tc) {
-        Shift::NoPage => false,
-        Shift::Bits(s) => shift == s as u64,
+        None => false,
+        Some(s) => shift == s as u64,
     }
 }
 

@@ -3,7 +3,6 @@
 use Rattle.std.specs.Prelude.{ℕ, ◌+◌, ◌*◌, ◌-◌, ◌/◌, ◌%◌, ◌^◌, ◌≡◌, Bool, not, List, [], ◌∷◌, map, eqb, ltb, leb, length, get_or, set, ◌<◌, ◌≤◌, Option, MatchOption, if◌then◌else◌}
 use Rattle.definition.specs.Words.{first_of, count_of, all_of}
 use Rattle.definition.specs.Cache030.{Entry, Cache030, hit_of, after_hit}
-use Rattle.definition.specs.declared.Hit.{Hit}
 use Rattle.cache.specs.Packed.{odd, part}
 
 -- ---- the cache that the array is
@@ -45,7 +44,7 @@ pub record Stepped (f : Cache030 → Cache030) (l l' : List ℕ) : Type 0 where
   pub sized : length l' ≡ 69
 
 -- a look answers r, and leaves the array
-pub record Looked (l : List ℕ) (code page shift : ℕ) (write recorded : Bool) (r : Hit) (l' : List ℕ) : Type 0 where
+pub record Looked (l : List ℕ) (code page shift : ℕ) (write recorded : Bool) (r : Option ℕ) (l' : List ℕ) : Type 0 where
   pub answers : r ≡ hit_of (cache_of l) code page shift write
   pub steps : Stepped (λ (c : Cache030). after_hit c recorded code page shift) l l'
 

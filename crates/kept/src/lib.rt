@@ -23,6 +23,7 @@ use cache::atc040::Atc040;
 use definition::{Access, Range, Registers};
 use load::LoadOutcome;
 use memory::ranges;
+use memory::tables::Tables;
 use test::TestOutcome;
 use translate::Outcome;
 use walk030::Walked;
@@ -136,7 +137,12 @@ pub fn walk_030(
     ensures { result ≡ shown (walk030 (memory longs.now base (take n list)) g address code limit) }
 {
     let m = of_sixteen(n);
-    walk030::walk(longs, base, &list[..m], g, address, code, limit)
+    let tables = Tables {
+        longs,
+        base,
+        ranges: &list[..m],
+    };
+    walk030::walk(&tables, g, address, code, limit)
 }
 
 // The 68040 walk with the first `n` of the kept ranges.
@@ -152,5 +158,10 @@ pub fn walk_040(
     ensures { result ≡ shown040 (walk040 (memory longs.now base (take n list)) g address supervisor) }
 {
     let m = of_sixteen(n);
-    walk040::walk(longs, base, &list[..m], g, address, supervisor)
+    let tables = Tables {
+        longs,
+        base,
+        ranges: &list[..m],
+    };
+    walk040::walk(&tables, g, address, supervisor)
 }

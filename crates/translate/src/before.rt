@@ -12,7 +12,7 @@ ghost use Rattle.translate.specs.InPlace.{PlannedIn030, PlannedIn};
 use crate::Plan;
 use cache::atc030::{Atc030, bad_cache, look};
 use cache::atc040::{Atc040, look_040};
-use definition::{Access, Hit, Registers, Shift, Translation};
+use definition::{Access, Registers, Translation};
 
 // The answer is an address, and no table is asked.
 fn at_address(address: u32) -> Plan
@@ -22,12 +22,12 @@ fn at_address(address: u32) -> Plan
 }
 
 // By what the look gave: a hit adds the address's low page-shift bits.
-fn looked(hit: Hit, code: u32, address: u32, shift: u32) -> Plan
+fn looked(hit: Option<u64>, code: u32, address: u32, shift: u32) -> Plan
     ensures { result ≡ look_plan code address shift hit }
 {
     match hit {
-        Hit::At(base) => at_address(memory::page030::hit_address(base, address, shift)),
-        Hit::Miss => Plan::Walk030 { code },
+        Some(base) => at_address(memory::page030::hit_address(base, address, shift)),
+        None => Plan::Walk030 { code },
     }
 }
 
@@ -44,8 +44,8 @@ fn plan_030(
 {
     let code = code % 8;
     match memory::page030::page_shift(tc) {
-        Shift::NoPage => Plan::Walk030 { code },
-        Shift::Bits(shift) => {
+        None => Plan::Walk030 { code },
+        Some(shift) => {
             let page = address >> shift;
             let hit = look(c030, code, page, shift, write, recorded);
             looked(hit, code, address, shift)
@@ -54,12 +54,12 @@ fn plan_030(
 }
 
 // By what the look into the 68040 cache gave: a hit joins base and low bits.
-fn looked_040(hit: Hit, tc: u32, address: u32, supervisor: bool) -> Plan
+fn looked_040(hit: Option<u64>, tc: u32, address: u32, supervisor: bool) -> Plan
     ensures { result ≡ look_plan040 tc address supervisor hit }
 {
     match hit {
-        Hit::At(base) => at_address(memory::page040::joined_040(tc, base, address)),
-        Hit::Miss => Plan::Walk040 { supervisor },
+        Some(base) => at_address(memory::page040::joined_040(tc, base, address)),
+        None => Plan::Walk040 { supervisor },
     }
 }
 
