@@ -141,7 +141,14 @@ pub fn permitted(p: u64, write: bool) -> Option<u64>
 }
 
 // A look: the base of the page's entry, and a recorded hit is a use. A code has three bits, here and below.
-pub fn look(c030: &mut Atc030, code: u32, page: u32, shift: u32, write: bool, recorded: bool) -> Option<u64>
+pub fn look(
+    c030: &mut Atc030,
+    code: u32,
+    page: u32,
+    shift: u32,
+    write: bool,
+    recorded: bool,
+) -> Option<u64>
     ensures { Looked c030.old (code % 8) page shift write recorded result c030.new }
 {
     let i = held(c030, code, page, shift)?;

@@ -1,6 +1,6 @@
 use Rattle.std.proofs.Common.{◌≡◌, sym, ◌∙◌, eq-eqb, ne_eqb, get_or, arith}
 use Rattle.std.proofs.Math.ListN.{get_or-eq_default}
-use Rattle.cache.specs.Atc030.{tags_of, recent_in, key_of, match_in, held_in}
+use Rattle.cache.specs.Atc030.{tags_of, recent_in, match_in, held_in}
 use Rattle.cache.proofs.Parts.{tag_get, tags_22}
 use Rattle.cache.proofs.atc030.held.Goals as goal
 use Rattle.cache.proofs.atc030.held.Goals.{else-recent-lt22-via-then-recent-lt22+else-c030-recent, else-recent-lt22-via-else-recent-lt22}

@@ -1,4 +1,4 @@
-use Rattle.std.proofs.Common.{◌≡◌, ◌<◌, ◌-◌}
+use Rattle.std.proofs.Common.{◌<◌, ◌-◌}
 use Rattle.cache.specs.Atc030.{tags_of, stamps_of}
 use Rattle.cache.proofs.Victim.{Seen}
 use Rattle.cache.proofs.atc030.place.Given as goal

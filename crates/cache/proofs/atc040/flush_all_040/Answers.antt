@@ -18,4 +18,4 @@ returns c =
     let l = c.args.c040.now in
     flushed_all_040 l c.told-c040 _
     (rw (← all_first _ 64 l _ _ (omega (arith, c.loop-k-test.false, c.loop-k.auto.k-index-end)) c.loop-k.invariant)
-     (keys_put l c.loop-k.k-items c.told-c040 (omega (arith, c.loop-k.auto.k-items, length-take-le 64 l (omega arith)))))
+    (keys_put l c.loop-k.k-items c.told-c040 (omega (arith, c.loop-k.auto.k-items, length-take-le 64 l (omega arith)))))
