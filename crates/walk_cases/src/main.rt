@@ -18,17 +18,17 @@ use walk040::Walked040;
 
 // The 68030 walk of a case.
 fn walked_030(longs: &[u32], c: Case, limit: u32) -> Walked {
-    let list = c.list;
+    let ranges = c.ranges.as_slice();
     let g = c.registers;
-    kept::walk_030(longs, c.base, list, c.ranges, g, c.address, c.code, limit)
+    walk030::walk(longs, c.base, ranges, g, c.address, c.code, limit)
 }
 
 // The 68040 walk of a case.
 fn walked_040(longs: &[u32], c: Case) -> Walked040 {
-    let list = c.list;
+    let ranges = c.ranges.as_slice();
     let g = c.registers;
     let supervisor = answers::is_supervisor(c.code);
-    kept::walk_040(longs, c.base, list, c.ranges, g, c.address, supervisor)
+    walk040::walk(longs, c.base, ranges, g, c.address, supervisor)
 }
 
 // Whether the five numbers at `at` are this answer: fault address kind cause count.

@@ -4,6 +4,7 @@ ghost use Rattle.std.specs.Prelude.{◌+◌, ◌*◌, ◌^◌, ◌≤◌, ◌<�
 ghost use Rattle.walk_cases.specs.Rows.{Room};
 
 use definition::{Range, Registers, Root};
+use memory::kept::Ranges;
 
 // How many pairs and ranges a row has, if it has a row's length.
 #[derive(Clone, Copy)]
@@ -20,8 +21,7 @@ pub struct Case {
     pub code: u32,
     pub write: bool,
     pub base: u32,
-    pub list: [Range; 16],
-    pub ranges: usize,
+    pub ranges: Ranges,
 }
 
 // How many numbers the answers are: a translation's five and, for family 30, three for each of seven levels.
@@ -93,18 +93,18 @@ pub fn store_pairs(row: &[u32; 128], pairs: usize, longs: &mut [u32]) -> bool
 }
 
 // A row's ranges.
-fn ranges_of(row: &[u32; 128], at: usize, ranges: usize) -> [Range; 16]
-    requires { (at + 2 * ranges ≤ 128) × (ranges ≤ 16) }
+fn ranges_of(row: &[u32; 128], at: usize, n: usize) -> Ranges
+    requires { (at + 2 * n ≤ 128) × (n ≤ 16) }
 {
-    let none = Range { first: 0, last: 0 };
-    let mut list = [none; 16];
-    for k in 0..ranges {
-        list[k] = Range {
+    let mut ranges = Ranges::new();
+    ranges.n = n;
+    for k in 0..n {
+        ranges.list[k] = Range {
             first: row[at + 2 * k],
             last: row[at + 2 * k + 1],
         };
     }
-    list
+    ranges
 }
 
 // The PMMU is on, and no transparent register is enabled.
@@ -135,7 +135,7 @@ fn registers_of(row: &[u32; 128]) -> Registers {
 pub fn case_of(row: &[u32; 128], pairs: usize, ranges: usize) -> Case
     requires { (13 + 2 * pairs + 2 * ranges ≤ 128) × (ranges ≤ 16) }
 {
-    let list = ranges_of(row, 13 + 2 * pairs, ranges);
+    let kept = ranges_of(row, 13 + 2 * pairs, ranges);
     let registers = registers_of(row);
     Case {
         registers,
@@ -143,7 +143,6 @@ pub fn case_of(row: &[u32; 128], pairs: usize, ranges: usize) -> Case
         code: row[7],
         write: row[8] == 1,
         base: row[9],
-        list,
-        ranges,
+        ranges: kept,
     }
 }
