@@ -9,7 +9,7 @@ use borrow.Author.Tests.{eqb-true, lt-ltb, le-ltb, ltb-true, ltb-false}
 use lib.Dec.{eqb, ltb}
 use lib.ListN.{length, get_or, drop, length-drop, length-map}
 use lib.Seq.{get_or-drop}
-use Rattle.std.specs.Prelude.{if◌then◌else◌}
+use Rattle.std.specs.Prelude.{if◌then◌else◌, Option, Some, None}
 use Rattle.definition.specs.Words.{first_of}
 use Rattle.definition.specs.Memory.{Memory}
 use Rattle.definition.specs.Walk030.{Outcome, walk030, every_level, shift_of}
@@ -19,8 +19,6 @@ use Rattle.definition.specs.Cache040.{Slot, no_slot}
 use Rattle.definition.specs.Refusal.{bad_base, bad_range, refusal_of}
 use Rattle.definition.specs.Audit.{first_of_page, first_from, is_access_code, is_end030, is_end040, stale030, stale040, first_stale030, first_stale040, named, audit_family, audit_checks, audit_from}
 use Rattle.definition.specs.declared.Registers.{Registers}
-use Rattle.definition.specs.declared.Shift.{Shift}
-use Rattle.definition.specs.declared.Shift.TheVariants.{Bits, NoPage}
 use Rattle.definition.specs.declared.End.{End}
 use Rattle.definition.specs.declared.End.TheVariants.{Page, Invalid, LevelStop, BusError, Config}
 use Rattle.definition.specs.declared.Audit.{Audit}
@@ -213,12 +211,12 @@ module _ (m : Memory) (g : Registers) (c3 c4 : List ℕ) (from : ℕ) where
         sym (length-map (slots_of (keys_of c4) (bases_of c4)) key_in) ∙ ap length (slots_read (keys_of c4) (bases_of c4) level).0
         ∙ part_length 0 64 c4 (omega (arith, z.sized040))
 
-    begun_030 : (sh : Shift) → eqb g.family 30 ≡ true
+    begun_030 : (sh : Option ℕ) → eqb g.family 30 ≡ true
         → named (λ (i : ℕ). Audit.Stale030 i) (length (cache_of c3).entries) (first_stale030 g m (cache_of c3) from sh)
         ≡ rest stale_at name_at last_at (if at_shift (cache_of c3).shift sh then going_from from 22 else done_by Audit.Clean) (last_at - from)
     unfolding cache_of
-    begun_030 NoPage f = rw (le-ltb (length entries) (length entries) (le_refl _))
-    begun_030 (Bits s) f = go (eqb (shift_in c3) s) refl
+    begun_030 None f = rw (le-ltb (length entries) (length entries) (le_refl _))
+    begun_030 (Some s) f = go (eqb (shift_in c3) s) refl
       where
         go : (b : Bool) → eqb (shift_in c3) s ≡ b
             → named (λ (i : ℕ). Audit.Stale030 i) (length entries) (if b then first_from (stale030 g m s) from entries else length entries)

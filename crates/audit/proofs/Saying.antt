@@ -6,7 +6,7 @@ use mathlib.Core.Bool.{Bool, true, false, not, ◌&&◌, ◌||◌}
 use borrow.Author.Tests.{eq-eqb, ne_eqb}
 use lib.Dec.{eqb}
 use lib.ListN.{get_or}
-use Rattle.std.specs.Prelude.{if◌then◌else◌}
+use Rattle.std.specs.Prelude.{if◌then◌else◌, Option, Some, None}
 use Rattle.definition.specs.Words.{bit_of}
 use Rattle.definition.specs.Memory.{Memory}
 use Rattle.definition.specs.Registers.{code_of}
@@ -18,7 +18,6 @@ use Rattle.definition.specs.Translate.{Caches, translate, cacheless, empty_cache
 use Rattle.definition.specs.Audit.{bare, plain_access, audit_checks, finding030, finding040, finding_family, finding}
 use Rattle.definition.specs.declared.Registers.{Registers}
 use Rattle.definition.specs.declared.Access.{Access}
-use Rattle.definition.specs.declared.Hit.{Hit}
 use Rattle.definition.specs.declared.Translation.{Translation}
 use Rattle.definition.specs.declared.Finding.{Finding}
 use Rattle.cache.specs.Packed.{odd}
@@ -45,11 +44,11 @@ module _ (g : Registers) (x : Cached) where
   code_040 f e = rw (ne_eqb g.family 30 f) e
 
   module _ (write : Bool) where
-    pub hit_none : (x.key % 2 ≡ 1 → ⊥) → Hit.Miss ≡ hit_for g x write
+    pub hit_none : (x.key % 2 ≡ 1 → ⊥) → None ≡ hit_for g x write
     unfolding hit_for
     hit_none h = rw (ne_eqb (x.key % 2) 1 h)
 
-    module _ (h : x.key % 2 ≡ 1) {r : Hit} where
+    module _ (h : x.key % 2 ≡ 1) {r : Option ℕ} where
       pub hit_030 : g.family ≡ 30 → r ≡ permits030 x.page write → r ≡ hit_for g x write
       unfolding hit_for
       hit_030 f e = rw (eq-eqb (x.key % 2) 1 h, eq-eqb g.family 30 f) e
@@ -68,7 +67,7 @@ module _ (g : Registers) (x : Cached) where
       unfolding told_of
       told_refused h = rw (ne_eqb n 0 h)
 
-      pub told_says : n ≡ 0 → {address code : ℕ} {hit : Hit} → address ≡ address_for g x → code ≡ code_for g x → hit ≡ hit_for g x write
+      pub told_says : n ≡ 0 → {address code : ℕ} {hit : Option ℕ} → address ≡ address_for g x → code ≡ code_for g x → hit ≡ hit_for g x write
           → Finding.Says address code hit answer ≡ told_of g x write n answer
       unfolding told_of
       told_says h a c k = rw (eq-eqb n 0 h, a, c, k)
@@ -78,10 +77,10 @@ same_bool_lem : (b : Bool) → same_bool b b ≡ true
 same_bool_lem true = refl
 same_bool_lem false = refl
 
-hit_slot : (k b : ℕ) (write : Bool) → (if odd k then permits040 b (odd (k / 2)) write else Hit.Miss) ≡ slot_hit (k / 4) (odd (k / 2)) write (slot_of k b)
+hit_slot : (k b : ℕ) (write : Bool) → (if odd k then permits040 b (odd (k / 2)) write else None) ≡ slot_hit (k / 4) (odd (k / 2)) write (slot_of k b)
 hit_slot k b write = rw (eq-eqb (k / 4) (k / 4) refl, same_bool_lem (odd (k / 2))) (go (odd k) (write && odd (b / 2) || not (odd (k / 2)) && odd b))
   where
-    go : (v f : Bool) → (if v then (if f then Hit.Miss else Hit.At (b / 4)) else Hit.Miss) ≡ (if v && true && not f then Hit.At (b / 4) else Hit.Miss)
+    go : (v f : Bool) → (if v then (if f then None else Some (b / 4)) else None) ≡ (if v && true && not f then Some (b / 4) else None)
     go true true = refl
     go true false = refl
     go false f = refl
@@ -105,8 +104,8 @@ module _ (g : Registers) (m : Memory) (c3 c4 : List ℕ) (i : ℕ) (write : Bool
   abbrev code : Bool → ℕ
   code b = if b then (at b).key / 2 % 8 else code_of (odd ((at b).key / 2)) false
 
-  abbrev hit : Bool → Hit
-  hit b = if odd (at b).key then (if b then permits030 (at b).page write else permits040 (at b).page (odd ((at b).key / 2)) write) else Hit.Miss
+  abbrev hit : Bool → Option ℕ
+  hit b = if odd (at b).key then (if b then permits030 (at b).page write else permits040 (at b).page (odd ((at b).key / 2)) write) else None
 
   -- what stands at i, of the one cache or the other
   said_is : SizedAll c3 c4 → Finding.Says (address_for g here) (code_for g here) (hit_for g here write) walks ≡ finding_family g m (caches_of c3 c4) i write

@@ -1,4 +1,5 @@
 -- What the audit's covered functions return, over plain values. Assumes nothing.
+use Rattle.std.specs.Prelude.{Option, Some, None}
 use Prim.Native.Nat.{ℕ, zero, suc, ◌+◌, ◌-◌, ◌*◌, ◌/◌, ◌%◌, ◌^◌, ◌≤◌, ◌<◌}
 use mathlib.Core.Path.{◌≡◌, refl, ap, sym, ◌∙◌}
 use mathlib.Core.List.{List, [], ◌∷◌}
@@ -15,8 +16,6 @@ use Rattle.definition.specs.Cache030.{Cache030}
 use Rattle.definition.specs.Refusal.{no_family, bad_cache, refusal_of}
 use Rattle.definition.specs.Audit.{is_access_code, is_end030, is_end040}
 use Rattle.definition.specs.declared.Registers.{Registers}
-use Rattle.definition.specs.declared.Shift.{Shift}
-use Rattle.definition.specs.declared.Shift.TheVariants.{Bits, NoPage}
 use Rattle.definition.specs.declared.End.{End}
 use Rattle.definition.specs.declared.End.TheVariants.{Page}
 use Rattle.definition.specs.declared.End040.{End040}
@@ -57,11 +56,11 @@ module _ (from size : ℕ) {r : Auditing} where
   pub from_past : size ≤ from → r ≡ done_by Audit.Clean → r ≡ going_from from size
   from_past h e = rw (le-ltb from size h) e
 
-module _ (shift tc : ℕ) {r : Shift} (is : r ≡ shift_of tc) where
-  pub no_shift : r ≡ NoPage → false ≡ at_shift shift (shift_of tc)
+module _ (shift tc : ℕ) {r : Option ℕ} (is : r ≡ shift_of tc) where
+  pub no_shift : r ≡ None → false ≡ at_shift shift (shift_of tc)
   no_shift e = rw (sym is ∙ e)
 
-  pub some_shift : {s : ℕ} → r ≡ Bits s → eqb shift s ≡ at_shift shift (shift_of tc)
+  pub some_shift : {s : ℕ} → r ≡ Some s → eqb shift s ≡ at_shift shift (shift_of tc)
   some_shift e = rw (sym is ∙ e)
 
 module _ (g : Registers) (two three : Bool) (c : Cache030) {one four : Bool} {n : ℕ} where

@@ -1,6 +1,6 @@
 -- The audit as a machine over the two arrays: what is known between two entries, and what one walk changes.
 -- It serves the code alone; the meaning is `Audit` of `definition`.
-use Rattle.std.specs.Prelude.{ℕ, ◌+◌, ◌*◌, ◌/◌, ◌%◌, ◌^◌, ◌≡◌, Bool, true, false, not, ◌&&◌, List, eqb, ltb, get_or}
+use Rattle.std.specs.Prelude.{ℕ, ◌+◌, ◌*◌, ◌/◌, ◌%◌, ◌^◌, ◌≡◌, Bool, true, false, not, ◌&&◌, List, eqb, ltb, get_or, Option, Some, None}
 use Rattle.std.specs.Prelude.{if◌then◌else◌}
 use Rattle.definition.specs.Walk030.{shift_of}
 use Rattle.definition.specs.Walk040.{page_bits}
@@ -8,8 +8,6 @@ use Rattle.definition.specs.Cache030.{Cache030}
 use Rattle.definition.specs.Refusal.{no_family, bad_cache, refusal_of}
 use Rattle.definition.specs.Audit.{is_access_code, is_end030, is_end040}
 use Rattle.definition.specs.declared.Registers.{Registers}
-use Rattle.definition.specs.declared.Shift.{Shift}
-use Rattle.definition.specs.declared.Shift.TheVariants.{Bits, NoPage}
 use Rattle.definition.specs.declared.Audit.{Audit}
 use Rattle.cache.specs.Packed.{odd}
 use Rattle.cache.specs.Atc030.{entry_of, tags_of, pages_of, shift_in}
@@ -36,9 +34,9 @@ going_from from size = if ltb from size then going_to from else done_by Audit.Cl
 
 -- ---- where it begins
 -- TC has the cache's shift
-abbrev pub at_shift : ℕ → Shift → Bool
-at_shift s NoPage = false
-at_shift s (Bits shift) = eqb s shift
+abbrev pub at_shift : ℕ → Option ℕ → Bool
+at_shift s None = false
+at_shift s (Some shift) = eqb s shift
 
 unfoldable pub audit_refusal : Registers → Bool → Bool → Cache030 → ℕ
 audit_refusal g two three c = refusal_of (checks_of (no_family g.family) false false two three (bad_cache c))

@@ -20,7 +20,7 @@ use crate::walking::{Walks, Way, walk_for};
 use cache::atc030;
 use cache::atc030::Atc030;
 use cache::atc040::Atc040;
-use definition::{Audit, End, End040, Range, Registers, Shift};
+use definition::{Audit, End, End040, Range, Registers};
 
 // Where an audit stands between two entries: it is over with this answer, or entry `i` is next.
 #[derive(Clone, Copy)]
@@ -89,8 +89,8 @@ fn at_shift(shift: u64, tc: u32) -> bool
     ensures { result ≡ at_shift shift (shift_of tc) }
 {
     match memory::page030::page_shift(tc) {
-        Shift::NoPage => false,
-        Shift::Bits(s) => shift == s as u64,
+        None => false,
+        Some(s) => shift == s as u64,
     }
 }
 
@@ -125,7 +125,6 @@ fn opened(c030: &Atc030, two: bool, three: bool, g: Registers, from: u32) -> Aud
 fn begin(c030: &Atc030, c040: &Atc040, two: bool, three: bool, g: Registers, from: u32) -> Auditing
     ensures { Begun (audit_begin g two three (cache_of c030.now) from) result c030.now c040.now }
 {
-    checks::lengths(c030, c040);
     opened(c030, two, three, g, from)
 }
 
@@ -162,7 +161,6 @@ fn cached_at(c030: &Atc030, c040: &Atc040, g: Registers, i: u32) -> Cached
 fn looked_at(c030: &Atc030, c040: &Atc040, g: Registers, i: u32) -> Cached
     ensures { LooksAt g c030.now c040.now i result }
 {
-    checks::lengths(c030, c040);
     cached_at(c030, c040, g, i)
 }
 

@@ -7,7 +7,7 @@ ghost use Rattle.audit.specs.Told.{code_for, hit_for, access_for, told_of};
 
 use crate::{Cached, address_for};
 use cache::{CachePair, atc030, atc040};
-use definition::{Access, Finding, Hit, Override, Registers};
+use definition::{Access, Finding, Registers};
 use mmu::by_value::Translated;
 
 // The code of an entry; a 68040 slot has the data code of its privilege.
@@ -21,11 +21,11 @@ pub fn code_for(g: Registers, x: Cached) -> u32
 }
 
 // What the entry gives an access with its key.
-fn hit_for(g: Registers, x: Cached, write: bool) -> Hit
+fn hit_for(g: Registers, x: Cached, write: bool) -> Option<u64>
     ensures { result ≡ hit_for g x write }
 {
     if x.key % 2 != 1 {
-        return Hit::Miss;
+        return None;
     }
     if g.family == 30 {
         return atc030::permitted(x.page, write);
@@ -46,7 +46,7 @@ pub fn access_for(g: Registers, x: Cached, write: bool) -> Access
         supervisor,
         instruction: code % 4 == 2,
         own: supervisor,
-        code: Override::Plain,
+        code: None,
         recorded: false,
     }
 }

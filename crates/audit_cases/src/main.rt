@@ -6,7 +6,7 @@ use audit::audit_lent;
 use audit::finding::finding_lent;
 use cache::atc030::{Atc030, PAGES, RECENT, SHIFT};
 use cache::atc040::Atc040;
-use definition::{Access, Audit, Finding, Hit, Override, Range, Registers, Root, Translation};
+use definition::{Access, Audit, Finding, Range, Registers, Root, Translation};
 use std::io;
 
 // ---- What the cases are given.
@@ -53,7 +53,7 @@ fn reading(supervisor: bool) -> Access {
         supervisor,
         instruction: false,
         own: supervisor,
-        code: Override::Plain,
+        code: None,
         recorded: true,
     }
 }
@@ -321,10 +321,10 @@ fn refusals<P: Print>(rt: &P) -> io::Result<()> {
 
 // ---- What is said of an entry.
 
-fn tell_hit<P: Print>(rt: &P, h: Hit) -> io::Result<()> {
+fn tell_hit<P: Print>(rt: &P, h: Option<u64>) -> io::Result<()> {
     match h {
-        Hit::At(base) => print!(rt; "{base:08x}"),
-        Hit::Miss => print!(rt; "nothing"),
+        Some(base) => print!(rt; "{base:08x}"),
+        None => print!(rt; "nothing"),
     }
 }
 

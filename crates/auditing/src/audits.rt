@@ -3,7 +3,7 @@ use audit::audit_lent;
 use audit::finding::finding_lent;
 use cache::atc030::Atc030;
 use cache::atc040::Atc040;
-use definition::{Audit, Finding, Hit, Translation};
+use definition::{Audit, Finding, Translation};
 use replay::Kept;
 use states::put_hex;
 use streams::{put, put_decimal, put_text, shown};
@@ -17,10 +17,10 @@ struct Named {
 }
 
 // What the cache gives.
-fn put_hit(out: &mut [u8], at: usize, h: Hit) -> usize {
+fn put_hit(out: &mut [u8], at: usize, h: Option<u64>) -> usize {
     match h {
-        Hit::At(base) => put_hex(out, at, base),
-        Hit::Miss => put_text(out, at, b"nothing"),
+        Some(base) => put_hex(out, at, base),
+        None => put_text(out, at, b"nothing"),
     }
 }
 
@@ -195,8 +195,8 @@ fn is_cached(c030: &Atc030, c040: &Atc040, longs: &[u32], kept: Kept, i: u32) ->
             cached,
             tables: _,
         } => match cached {
-            Hit::At(_) => true,
-            Hit::Miss => false,
+            Some(_) => true,
+            None => false,
         },
         Finding::Refused(_) => false,
     }

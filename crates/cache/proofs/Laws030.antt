@@ -1,5 +1,5 @@
 -- The definitions of the 68030's cache, at the cache that an array is.
-use Rattle.std.specs.Prelude.{if◌then◌else◌}
+use Rattle.std.specs.Prelude.{if◌then◌else◌, Option, Some, None}
 use Prim.Native.Nat.{ℕ, ◌+◌, ◌*◌, ◌-◌, ◌/◌, ◌%◌, ◌^◌, ◌<◌, ◌≤◌}
 use mathlib.Core.Path.{◌≡◌, refl, sym, ◌∙◌}
 use mathlib.Core.Bool.{Bool, true, false, ◌&&◌, ◌||◌, not, and-true, and-false}
@@ -12,8 +12,6 @@ use lib.ListN.{length, get_or, set, length-map}
 use lib.Seq.{set-get_or}
 use Rattle.definition.specs.Words.{agrees, count_of}
 use Rattle.definition.specs.Cache030.{Entry, Cache030, matches, matching, stamped, rested, put_at, touched, found, hit_of, after_hit, dropped, shifted, victim, inserted, flushed_all, flushed_code, flushed_page}
-use Rattle.definition.specs.declared.Hit.{Hit}
-use Rattle.definition.specs.declared.Hit.TheVariants.{At, Miss}
 use Rattle.cache.specs.Packed.{bit, odd, drop_tag}
 use Rattle.cache.specs.Atc030.{recent_in, clock_in, shift_in, entry_of, entries_of, tags_of, pages_of, stamps_of, cache_of, Stepped, Looked, key_of, match_in, held_in, place_of, ranked, rest_stamps, rest_clock, used_stamps, Parts, Used}
 use Rattle.cache.proofs.Parts.{part_length, part_get, tags_22, stamps_22, parts_of, put_tag, put_page, put_shift}
@@ -122,16 +120,16 @@ module _ (l : List ℕ) (w : length l ≡ 69) where
         go true e = matching_is ∙ sym e
         go false e = absurd (omega arith)
 
-    pub miss_at : (write : Bool) → 22 ≤ i → Miss ≡ hit_of (cache_of l) code page shift write
+    pub miss_at : (write : Bool) → 22 ≤ i → None ≡ hit_of (cache_of l) code page shift write
     unfolding hit_of
     miss_at write m = rw (found_is, le-ltb i 22 m)
 
-    pub hit_at : (write : Bool) (r : Hit) → i < 22 → r ≡ (if write && odd (get_or l (22 + i) 0) then Miss else At (get_or l (22 + i) 0 / 2)) → r ≡ hit_of (cache_of l) code page shift write
+    pub hit_at : (write : Bool) (r : Option ℕ) → i < 22 → r ≡ (if write && odd (get_or l (22 + i) 0) then None else Some (get_or l (22 + i) 0 / 2)) → r ≡ hit_of (cache_of l) code page shift write
     unfolding hit_of cache_of
     hit_at write r m e =
         rw (found_is, lt-ltb i 22 m, matching_at m, entries_get ts ps ss i level, ← part_get 22 22 l i (22 + i) refl m) e
 
-    pub missed : (write recorded : Bool) → 22 ≤ i → Looked l code page shift write recorded Miss l
+    pub missed : (write recorded : Bool) → 22 ≤ i → Looked l code page shift write recorded None l
     unfolding after_hit
     missed write recorded m =
         record {
@@ -139,7 +137,7 @@ module _ (l : List ℕ) (w : length l ≡ 69) where
           steps = record { leaves = rw (found_is, le-ltb i 22 m, and-false recorded) refl; sized = w };
         }
 
-    pub looked : (write recorded : Bool) (r : Hit) (l' : List ℕ) → i < 22 → r ≡ (if write && odd (get_or l (22 + i) 0) then Miss else At (get_or l (22 + i) 0 / 2))
+    pub looked : (write recorded : Bool) (r : Option ℕ) (l' : List ℕ) → i < 22 → r ≡ (if write && odd (get_or l (22 + i) 0) then None else Some (get_or l (22 + i) 0 / 2))
         → Stepped (λ (c : Cache030). if recorded then touched c i else c) l l' → Looked l code page shift write recorded r l'
     unfolding after_hit
     looked write recorded r l' m e s =

@@ -1,5 +1,5 @@
 -- The definitions of the 68040's cache, at the cache that an array is.
-use Rattle.std.specs.Prelude.{if◌then◌else◌}
+use Rattle.std.specs.Prelude.{if◌then◌else◌, Option, Some, None}
 use Prim.Native.Nat.{ℕ, zero, suc, ◌+◌, ◌*◌, ◌-◌, ◌/◌, ◌%◌, ◌<◌}
 use mathlib.Core.Path.{◌≡◌, refl, ap, sym, ◌∙◌}
 use mathlib.Core.Bool.{Bool, true, false, ◌&&◌, ◌||◌, not}
@@ -10,8 +10,6 @@ use lib.Dec.{eqb}
 use lib.ListN.{length, get_or, set}
 use lib.Seq.{set-get_or}
 use Rattle.definition.specs.Cache040.{Slot, Cache040, no_slot, same_bool, holds, hit040, inserted040, emptied, flushed_all040, flushed_frame}
-use Rattle.definition.specs.declared.Hit.{Hit}
-use Rattle.definition.specs.declared.Hit.TheVariants.{At, Miss}
 use Rattle.cache.specs.Packed.{bit, odd}
 use Rattle.cache.specs.Atc040.{slot_of, slots_of, keys_of, bases_of, cache040_of, key_of040, Parts040, Stepped040}
 use Rattle.cache.proofs.Parts.{part_length, part_get, parts_040, put_key, put_base}
@@ -122,20 +120,20 @@ module _ (l : List ℕ) (w : length l ≡ 128) where
         rw (part_get 0 64 l i i (omega arith) h, part_get 64 64 l i (64 + i) refl h)
         (slots_get ks bs i level_040)
 
-    pub missed_040 : (supervisor write : Bool) → (get_or l i 0 ≡ key_of040 frame supervisor → ⊥) → Miss ≡ hit040 (cache040_of l) frame supervisor write
+    pub missed_040 : (supervisor write : Bool) → (get_or l i 0 ≡ key_of040 frame supervisor → ⊥) → None ≡ hit040 (cache040_of l) frame supervisor write
     unfolding hit040 cache040_of
     missed_040 supervisor write n =
         rw (← ei, slot_at, key_holds frame supervisor (get_or l i 0) (get_or l (64 + i) 0), ne_eqb (get_or l i 0) (key_of040 frame supervisor) n)
 
-    pub looked_040 : (supervisor write : Bool) (r : Hit) → get_or l i 0 ≡ key_of040 frame supervisor
-        → r ≡ (if write && odd (get_or l (64 + i) 0 / 2) || not supervisor && odd (get_or l (64 + i) 0) then Miss else At (get_or l (64 + i) 0 / 4))
+    pub looked_040 : (supervisor write : Bool) (r : Option ℕ) → get_or l i 0 ≡ key_of040 frame supervisor
+        → r ≡ (if write && odd (get_or l (64 + i) 0 / 2) || not supervisor && odd (get_or l (64 + i) 0) then None else Some (get_or l (64 + i) 0 / 4))
         → r ≡ hit040 (cache040_of l) frame supervisor write
     unfolding hit040 cache040_of
     looked_040 supervisor write r e h =
         rw (← ei, slot_at, key_holds frame supervisor (get_or l i 0) (get_or l (64 + i) 0), eq-eqb (get_or l i 0) (key_of040 frame supervisor) e)
         (h ∙ go (write && odd (get_or l (64 + i) 0 / 2) || not supervisor && odd (get_or l (64 + i) 0)))
       where
-        go : (b : Bool) → (if b then Miss else At (get_or l (64 + i) 0 / 4)) ≡ (if not b then At (get_or l (64 + i) 0 / 4) else Miss)
+        go : (b : Bool) → (if b then None else Some (get_or l (64 + i) 0 / 4)) ≡ (if not b then Some (get_or l (64 + i) 0 / 4) else None)
         go true = refl
         go false = refl
 

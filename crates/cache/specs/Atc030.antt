@@ -1,9 +1,8 @@
 -- The 68030's cache in one array of 69 numbers, for every content of it:
 -- 22 tags page * 16 + code * 2 + valid; 22 pages base * 2 + WP; 22 stamps; the most recent index, the clock, the shift.
-use Rattle.std.specs.Prelude.{ℕ, ◌+◌, ◌*◌, ◌-◌, ◌/◌, ◌%◌, ◌^◌, ◌≡◌, Bool, not, List, [], ◌∷◌, map, eqb, ltb, leb, length, get_or, set, if◌then◌else◌}
+use Rattle.std.specs.Prelude.{ℕ, ◌+◌, ◌*◌, ◌-◌, ◌/◌, ◌%◌, ◌^◌, ◌≡◌, Bool, not, List, [], ◌∷◌, map, eqb, ltb, leb, length, get_or, set, if◌then◌else◌, Option}
 use Rattle.definition.specs.Words.{first_of, count_of, all_of}
 use Rattle.definition.specs.Cache030.{Entry, Cache030, hit_of, after_hit}
-use Rattle.definition.specs.declared.Hit.{Hit}
 use Rattle.cache.specs.Packed.{odd, part}
 
 -- ---- the cache that the array is
@@ -45,7 +44,7 @@ pub record Stepped (f : Cache030 → Cache030) (l l' : List ℕ) : Type 0 where
   pub sized : length l' ≡ 69
 
 -- a look answers r, and leaves the array
-pub record Looked (l : List ℕ) (code page shift : ℕ) (write recorded : Bool) (r : Hit) (l' : List ℕ) : Type 0 where
+pub record Looked (l : List ℕ) (code page shift : ℕ) (write recorded : Bool) (r : Option ℕ) (l' : List ℕ) : Type 0 where
   pub answers : r ≡ hit_of (cache_of l) code page shift write
   pub steps : Stepped (λ (c : Cache030). after_hit c recorded code page shift) l l'
 

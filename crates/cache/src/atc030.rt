@@ -1,5 +1,5 @@
 // The 68030's 22 entries in one array: 22 tags page * 16 + code * 2 + valid, 22 pages base * 2 + WP, 22 stamps; then the most recent index, the clock, the page shift.
-ghost use Rattle.std.specs.Prelude.{◌≡◌, true, false, ◌&&◌, ◌||◌, map, ℕ, ◌+◌, ◌/◌, ◌%◌, ◌^◌, ◌<◌, eqb, ltb, get_or, length, set, if◌then◌else◌};
+ghost use Rattle.std.specs.Prelude.{◌≡◌, true, false, ◌&&◌, ◌||◌, map, ℕ, ◌+◌, ◌/◌, ◌%◌, ◌^◌, ◌<◌, eqb, ltb, get_or, length, set, if◌then◌else◌, Some, None};
 ghost use Rattle.definition.specs.Words.{agrees, first_of, count_of};
 ghost use Rattle.definition.specs.Refusal.{bad_cache};
 ghost use Rattle.definition.specs.Cache030.{Cache030, touched, hit_of, shifted, inserted, flushed_all, flushed_code, flushed_page};
@@ -7,7 +7,6 @@ ghost use Rattle.cache.specs.Packed.{odd, drop_tag};
 ghost use Rattle.cache.specs.Atc030.{tags_of, pages_of, stamps_of, recent_in, clock_in, shift_in, cache_of, Parts, Stepped, Looked, key_of, held_in, place_of, ranked, Used};
 
 use crate::packed::{flag, sized, word};
-use definition::Hit;
 
 pub type Atc030 = [u64; 69];
 
@@ -172,23 +171,23 @@ fn held(c030: &Atc030, key: u64, shift: u32) -> usize
 }
 
 // The base of a cached page, unless WP makes a write miss.
-pub fn permitted(p: u64, write: bool) -> Hit
-    ensures { result ≡ (if write && odd p then Hit.Miss else Hit.At (p / 2)) }
+pub fn permitted(p: u64, write: bool) -> Option<u64>
+    ensures { result ≡ (if write && odd p then None else Some (p / 2)) }
 {
     if write && p % 2 == 1 {
-        return Hit::Miss;
+        return None;
     }
-    Hit::At(p / 2)
+    Some(p / 2)
 }
 
 // A look: the base of the page's entry, and a recorded hit is a use. A code has three bits, here and below.
-pub fn look(c030: &mut Atc030, code: u32, page: u32, shift: u32, write: bool, recorded: bool) -> Hit
+pub fn look(c030: &mut Atc030, code: u32, page: u32, shift: u32, write: bool, recorded: bool) -> Option<u64>
     ensures { Looked c030.old (code % 8) page shift write recorded result c030.new }
 {
     sized(c030);
     let i = held(c030, key_of(code % 8, page), shift);
     if 22 <= i {
-        return Hit::Miss;
+        return None;
     }
     let p = c030[PAGES + i];
     touch(c030, i, recorded);
@@ -196,13 +195,13 @@ pub fn look(c030: &mut Atc030, code: u32, page: u32, shift: u32, write: bool, re
 }
 
 // A look that changes nothing.
-pub fn probe(c030: &Atc030, code: u32, page: u32, shift: u32, write: bool) -> Hit
+pub fn probe(c030: &Atc030, code: u32, page: u32, shift: u32, write: bool) -> Option<u64>
     ensures { result ≡ hit_of (cache_of c030.now) (code % 8) page shift write }
 {
     sized(c030);
     let i = held(c030, key_of(code % 8, page), shift);
     if 22 <= i {
-        return Hit::Miss;
+        return None;
     }
     permitted(c030[PAGES + i], write)
 }

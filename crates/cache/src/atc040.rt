@@ -1,11 +1,10 @@
 // The 68040's 64 slots in one array: 64 keys frame * 4 + supervisor * 2 + valid, 64 bases base * 4 + W * 2 + S.
-ghost use Rattle.std.specs.Prelude.{◌≡◌, not, ◌&&◌, ◌||◌, ◌/◌, ◌%◌, ◌<◌, if◌then◌else◌};
+ghost use Rattle.std.specs.Prelude.{◌≡◌, not, ◌&&◌, ◌||◌, ◌/◌, ◌%◌, ◌<◌, if◌then◌else◌, Some, None};
 ghost use Rattle.definition.specs.Cache040.{Cache040, hit040, inserted040, flushed_all040, flushed_frame};
 ghost use Rattle.cache.specs.Packed.{odd};
 ghost use Rattle.cache.specs.Atc040.{cache040_of, Stepped040, key_of040};
 
 use crate::packed::{flag, sized};
-use definition::Hit;
 
 pub type Atc040 = [u64; 128];
 
@@ -27,26 +26,26 @@ fn key_of(frame: u32, supervisor: bool) -> u64
 }
 
 // The base of a cached page. A hit that protection forbids is a miss.
-pub fn permitted(b: u64, supervisor: bool, write: bool) -> Hit
-    ensures { result ≡ (if write && odd (b / 2) || not supervisor && odd b then Hit.Miss else Hit.At (b / 4)) }
+pub fn permitted(b: u64, supervisor: bool, write: bool) -> Option<u64>
+    ensures { result ≡ (if write && odd (b / 2) || not supervisor && odd b then None else Some (b / 4)) }
 {
     if write && b / 2 % 2 == 1 {
-        return Hit::Miss;
+        return None;
     }
     if !supervisor && b % 2 == 1 {
-        return Hit::Miss;
+        return None;
     }
-    Hit::At(b / 4)
+    Some(b / 4)
 }
 
 // A look: the base of the frame's slot.
-pub fn look_040(c040: &Atc040, frame: u32, supervisor: bool, write: bool) -> Hit
+pub fn look_040(c040: &Atc040, frame: u32, supervisor: bool, write: bool) -> Option<u64>
     ensures { result ≡ hit040 (cache040_of c040.now) frame supervisor write }
 {
     sized(c040);
     let i = slot_of(frame);
     if c040[i] != key_of(frame, supervisor) {
-        return Hit::Miss;
+        return None;
     }
     permitted(c040[BASES + i], supervisor, write)
 }

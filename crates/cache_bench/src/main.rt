@@ -9,7 +9,6 @@ ghost use Rattle.std.specs.Prelude.{◌<◌};
 use cache::atc030::Atc030;
 use cache::atc040::Atc040;
 use cache::{CachePair, atc030, atc040};
-use definition::Hit;
 use std::io;
 use std::rt::Env;
 use vectors::{Cursor, Number};
@@ -32,18 +31,18 @@ fn with_answer(sum: u64, answer: u64) -> u64 {
 }
 
 // A hit's base, or 5 for a miss.
-fn answer_of(hit: Hit) -> u64 {
+fn answer_of(hit: Option<u64>) -> u64 {
     match hit {
-        Hit::At(base) => base,
-        Hit::Miss => 5,
+        Some(base) => base,
+        None => 5,
     }
 }
 
 // One look-up in the 68030 cache, with an insert at a miss. Each page's base is its number.
 fn access_030(page: u32, c: &mut Atc030) -> u64 {
     match atc030::look(c, 1, page, 12, false, true) {
-        Hit::At(base) => base,
-        Hit::Miss => {
+        Some(base) => base,
+        None => {
             atc030::insert(c, 1, page, 12, page, false);
             5
         }
@@ -95,8 +94,8 @@ fn warm_030(pages: u32, count: u32) -> u64
 // One look-up in the 68040 cache, with an insert at a miss.
 fn access_040(page: u32, c: &mut Atc040) -> u64 {
     match atc040::look_040(c, page, false, false) {
-        Hit::At(base) => base,
-        Hit::Miss => {
+        Some(base) => base,
+        None => {
             atc040::insert_040(c, page, false, page, false, false);
             5
         }

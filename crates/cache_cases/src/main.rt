@@ -8,12 +8,11 @@ mod sums;
 use cache::atc030::Atc030;
 use cache::atc040::Atc040;
 use cache::{CachePair, atc030, atc040};
-use definition::Hit;
 use std::io::Read;
 use vectors::Progress;
 
 // Operations 1 to 6, on the 68030 cache: what they answer.
-fn on_030(row: &[u32; 128], c030: &mut Atc030) -> Hit {
+fn on_030(row: &[u32; 128], c030: &mut Atc030) -> Option<u64> {
     let code = row[1] % 8;
     let operation = row[0];
     match operation {
@@ -21,39 +20,39 @@ fn on_030(row: &[u32; 128], c030: &mut Atc030) -> Hit {
         2 => atc030::probe(c030, code, row[2], row[3], row[4] == 1),
         3 => {
             atc030::insert(c030, code, row[2], row[3], row[4], row[5] == 1);
-            Hit::Miss
+            None
         }
         4 => {
             atc030::flush_all(c030);
-            Hit::Miss
+            None
         }
         5 => {
             atc030::flush_code(c030, code, row[2]);
-            Hit::Miss
+            None
         }
         _ => {
             atc030::flush_page(c030, code, row[2], row[3]);
-            Hit::Miss
+            None
         }
     }
 }
 
 // Operations 11 to 14, on the 68040 cache.
-fn on_040(row: &[u32; 128], c040: &mut Atc040) -> Hit {
+fn on_040(row: &[u32; 128], c040: &mut Atc040) -> Option<u64> {
     let operation = row[0];
     match operation {
         11 => atc040::look_040(c040, row[1], row[2] == 1, row[3] == 1),
         12 => {
             atc040::insert_040(c040, row[1], row[2] == 1, row[3], row[4] == 1, row[5] == 1);
-            Hit::Miss
+            None
         }
         13 => {
             atc040::flush_all_040(c040);
-            Hit::Miss
+            None
         }
         _ => {
             atc040::flush_frame(c040, row[1]);
-            Hit::Miss
+            None
         }
     }
 }
@@ -64,10 +63,10 @@ fn wide(x: u32) -> u64 {
 }
 
 // Whether the row has this answer and this sum.
-fn has(row: &[u32; 128], answer: Hit, sum: u32) -> bool {
+fn has(row: &[u32; 128], answer: Option<u64>, sum: u32) -> bool {
     match answer {
-        Hit::At(base) => (row[6] == 1) & (wide(row[7]) == base) & (row[8] == sum),
-        Hit::Miss => (row[6] == 0) & (row[7] == 0) & (row[8] == sum),
+        Some(base) => (row[6] == 1) & (wide(row[7]) == base) & (row[8] == sum),
+        None => (row[6] == 0) & (row[7] == 0) & (row[8] == sum),
     }
 }
 

@@ -5,7 +5,7 @@ ghost use Rattle.std.specs.Prelude.{◌<◌};
 
 use crate::setting;
 use cache::atc030::{Atc030, CLOCK, PAGES, RECENT, SHIFT, STAMPS};
-use definition::{Access, Override, Translation};
+use definition::{Access, Translation};
 use std::io;
 
 // The valid tag of the page of 02041ABC, user data, and that of another page.
@@ -18,12 +18,12 @@ const LAST: u64 = 0xFFFF_FFFF_FFFF_FFFF;
 
 // A read of user data.
 fn reading(recorded: bool) -> Access {
-    setting::access(Override::Plain, false, recorded)
+    setting::access(None, false, recorded)
 }
 
 // A recorded write of user data.
 fn writing() -> Access {
-    setting::access(Override::Plain, true, true)
+    setting::access(None, true, true)
 }
 
 // 22 entries of another page, base 11000 with WP or not, and one stamp.

@@ -3,7 +3,7 @@ use crate::setting;
 use crate::setting::{Given, Trial};
 use cache::atc030::{Atc030, RECENT, SHIFT};
 use cache::atc040::Atc040;
-use definition::{Flush, Load, Override, Probe, Test, Translation};
+use definition::{Flush, Load, Probe, Test, Translation};
 use std::io;
 
 // ---- What stays.
@@ -81,7 +81,7 @@ fn translate(t: Trial) -> Given {
     let longs = setting::tree();
     let ranges = setting::ranges(t.first, t.last);
     let g = setting::registers(t.family, t.enabled);
-    let a = setting::access(Override::Code(t.code), false, true);
+    let a = setting::access(Some(t.code), false, true);
     let r = translate::translate(
         &mut c030,
         &mut c040,

@@ -1,5 +1,5 @@
 // What the cases are given: registers, tables, accesses, and what compares and prints.
-use definition::{Access, Override, Range, Registers, Root};
+use definition::{Access, Range, Registers, Root};
 use std::io;
 
 // What a call is tried with; `fit` has nothing that is refused, and each case spoils some of it.
@@ -75,7 +75,7 @@ pub fn ranges(first: u32, last: u32) -> [Range; 1] {
 }
 
 // Logical 02041ABC of user data, or under a function code.
-pub fn access(code: Override, write: bool, recorded: bool) -> Access {
+pub fn access(code: Option<u32>, write: bool, recorded: bool) -> Access {
     Access {
         address: 0x0204_1ABC,
         write,

@@ -1,5 +1,5 @@
 -- How large a code, a page shift and a page's bits can be. Assumes nothing.
-use Rattle.std.specs.Prelude.{if◌then◌else◌}
+use Rattle.std.specs.Prelude.{if◌then◌else◌, Option, Some, None}
 use Prim.Native.Nat.{ℕ, ◌+◌, ◌-◌, ◌%◌, ◌<◌}
 use mathlib.Core.Path.{◌≡◌, refl, sym, ◌∙◌}
 use mathlib.Core.Bool.{Bool, true, false, ◌&&◌}
@@ -11,8 +11,6 @@ use Rattle.definition.specs.Words.{bit_of}
 use Rattle.definition.specs.Registers.{code_of}
 use Rattle.definition.specs.Walk030.{used, widths_of, is_of, sum_of, shift_from, shift_of}
 use Rattle.definition.specs.Walk040.{page_bits}
-use Rattle.definition.specs.declared.Shift.{Shift}
-use Rattle.definition.specs.declared.Shift.TheVariants.{Bits, NoPage}
 
 -- the code of an access is below 8
 pub code_small : (supervisor instruction : Bool) → code_of supervisor instruction < 8
@@ -22,19 +20,19 @@ code_small true false = omega arith
 code_small true true = omega arith
 
 -- the page shift is below 32
-from_small : (sum s : ℕ) → shift_from sum ≡ Bits s → s < 32
+from_small : (sum s : ℕ) → shift_from sum ≡ Some s → s < 32
 from_small sum s e = go (leb 1 sum) (leb sum 31) refl e
   where
-    bits : (n : ℕ) → Bits n ≡ Bits s → n ≡ s
+    bits : (n : ℕ) → Some n ≡ Some s → n ≡ s
     bits n e = cc
 
-    go : (b d : Bool) → leb 1 sum ≡ b → (if b && d then Bits (32 - sum) else NoPage) ≡ Bits s → s < 32
+    go : (b d : Bool) → leb 1 sum ≡ b → (if b && d then Some (32 - sum) else None) ≡ Some s → s < 32
     go true true h e = omega (arith, bits (32 - sum) e, leb-true 1 sum h)
     go true false h e = let z : ◌≡◌ {A = ℕ} 0 1 = cc in omega arith
     go false true h e = let z : ◌≡◌ {A = ℕ} 0 1 = cc in omega arith
     go false false h e = let z : ◌≡◌ {A = ℕ} 0 1 = cc in omega arith
 
-pub shift_small : (tc : ℕ) {r : Shift} {s : ℕ} → r ≡ shift_of tc → r ≡ Bits s → s < 32
+pub shift_small : (tc : ℕ) {r : Option ℕ} {s : ℕ} → r ≡ shift_of tc → r ≡ Some s → s < 32
 shift_small tc {r} {s} e f = from_small (is_of tc + sum_of (used (widths_of tc))) s (sym e ∙ f)
 
 -- a code below 8 is the code that a look or an insert takes

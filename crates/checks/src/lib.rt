@@ -7,7 +7,7 @@ ghost use Rattle.definition.specs.Registers.{on, code_of, supervisor_by, instruc
 ghost use Rattle.definition.specs.Refusal.{no_family, bad_base, not030, above_seven, bad_override, bad_frame, refusal_of};
 ghost use Rattle.checks.specs.Given.{checks_of};
 
-use definition::{Access, Override, Registers};
+use definition::{Access, Registers};
 
 // 1: the family is not 30, 40 or 60.
 pub fn no_family(family: u32) -> bool
@@ -38,12 +38,12 @@ pub fn above_seven(n: u32) -> bool
 }
 
 // 5: an override above 7.
-pub fn bad_override(code: Override) -> bool
+pub fn bad_override(code: Option<u32>) -> bool
     ensures { result ≡ bad_override code }
 {
     match code {
-        Override::Plain => false,
-        Override::Code(n) => 7 < n,
+        None => false,
+        Some(n) => 7 < n,
     }
 }
 
@@ -53,12 +53,6 @@ pub fn bad_frame(frame: u32) -> bool
 {
     0x10_0000 <= frame
 }
-
-// The length of an array that is lent is known once it is lent as a slice.
-pub fn sized(c: &[u64]) {}
-
-// The same of both caches' arrays.
-pub fn lengths(c030: &[u64], c040: &[u64]) {}
 
 // The first that applies in the order 1, 6, 5, 2, 3, 4; 0 where none does.
 #[tactic(auto, unfolding(definition::specs::Refusal::refusal_of))]
@@ -117,22 +111,22 @@ pub fn code_of(supervisor: bool, instruction: bool) -> u32
 }
 
 // An override replaces supervisor by bit 2.
-pub fn supervisor_by(code: Override, supervisor: bool) -> bool
+pub fn supervisor_by(code: Option<u32>, supervisor: bool) -> bool
     ensures { result ≡ supervisor_by code supervisor }
 {
     match code {
-        Override::Plain => supervisor,
-        Override::Code(n) => (n >> 2) % 2 == 1,
+        None => supervisor,
+        Some(n) => (n >> 2) % 2 == 1,
     }
 }
 
 // And instruction by 'low two bits are 2'.
-fn instruction_by(code: Override, instruction: bool) -> bool
+fn instruction_by(code: Option<u32>, instruction: bool) -> bool
     ensures { result ≡ instruction_by code instruction }
 {
     match code {
-        Override::Plain => instruction,
-        Override::Code(n) => n % 4 == 2,
+        None => instruction,
+        Some(n) => n % 4 == 2,
     }
 }
 
@@ -165,7 +159,7 @@ pub fn compared_code(a: Access) -> u32
 {
     let code = a.code;
     match code {
-        Override::Plain => code_of(a.own, a.instruction),
-        Override::Code(n) => n,
+        None => code_of(a.own, a.instruction),
+        Some(n) => n,
     }
 }

@@ -1,4 +1,5 @@
 -- A 68030 walk depends only on the longs that it asks for: over two memories that give the same at each of them, it ends alike. Assumes nothing.
+use Rattle.std.specs.Prelude.{Option, Some, None}
 use Prim.Native.Nat.{ℕ, ◌*◌, ◌/◌, ◌%◌}
 use mathlib.Core.Path.{◌≡◌, refl, ap, ◌∙◌}
 use mathlib.Core.List.{List, [], ◌∷◌, ◌++◌}
@@ -9,8 +10,6 @@ use Rattle.definition.specs.Memory.{Memory, fetch_of}
 use Rattle.definition.specs.Registers.{root_of}
 use Rattle.definition.specs.Walk030.{entry_of, Descriptor, Whole, Lost, short_of, on_second, long_of, read_of, Step, steps_of, Found, Outcome, asking, deeper, guarded, on_target, on_table, on_descriptor, walk_from, start, walk_steps, walk030}
 use Rattle.definition.proofs.Replay.{In}
-use Rattle.definition.specs.declared.Fetched.{Fetched}
-use Rattle.definition.specs.declared.Fetched.TheVariants.{Long, Failed}
 use Rattle.definition.specs.declared.Registers.{Registers}
 use Rattle.definition.specs.declared.Root.{Root}
 use Rattle.definition.proofs.Choice.{if_both}
@@ -27,28 +26,28 @@ asked_for (Whole kind field wp sup asked) = asked
 asked_for (Lost at asked) = asked
 
 -- ---- one descriptor
-short_in : (at : ℕ) (r : Fetched) → In at (asked_for (short_of at r))
-short_in at (Long first) = inl refl
-short_in at Failed = inl refl
+short_in : (at : ℕ) (r : Option ℕ) → In at (asked_for (short_of at r))
+short_in at (Some first) = inl refl
+short_in at None = inl refl
 
-second_in : (first at : ℕ) (r : Fetched) → In (entry_of at 1 false) (asked_for (on_second first at (entry_of at 1 false) r))
-second_in first at (Long second) = inr (inl refl)
-second_in first at Failed = inr (inl refl)
+second_in : (first at : ℕ) (r : Option ℕ) → In (entry_of at 1 false) (asked_for (on_second first at (entry_of at 1 false) r))
+second_in first at (Some second) = inr (inl refl)
+second_in first at None = inr (inl refl)
 
-second_at : (first at : ℕ) (r : Fetched) → In at (asked_for (on_second first at (entry_of at 1 false) r))
-second_at first at (Long second) = inl refl
-second_at first at Failed = inl refl
+second_at : (first at : ℕ) (r : Option ℕ) → In at (asked_for (on_second first at (entry_of at 1 false) r))
+second_at first at (Some second) = inl refl
+second_at first at None = inl refl
 
-long_in : (m : Memory) (at : ℕ) (r : Fetched) → In at (asked_for (long_of m at r))
-long_in m at (Long first) = second_at first at (fetch_of m (entry_of at 1 false))
-long_in m at Failed = inl refl
+long_in : (m : Memory) (at : ℕ) (r : Option ℕ) → In at (asked_for (long_of m at r))
+long_in m at (Some first) = second_at first at (fetch_of m (entry_of at 1 false))
+long_in m at None = inl refl
 
 module _ (m m' : Memory) where
-  long_same : (at : ℕ) (r : Fetched) → Agree m m' (asked_for (long_of m at r)) → long_of m at r ≡ long_of m' at r
-  long_same at (Long first) h =
+  long_same : (at : ℕ) (r : Option ℕ) → Agree m m' (asked_for (long_of m at r)) → long_of m at r ≡ long_of m' at r
+  long_same at (Some first) h =
       ap (on_second first at (entry_of at 1 false))
       (h (entry_of at 1 false) (second_in first at (fetch_of m (entry_of at 1 false))))
-  long_same at Failed h = refl
+  long_same at None h = refl
 
   read_same : (at : ℕ) (long : Bool) → Agree m m' (asked_for (read_of m at long)) → read_of m at long ≡ read_of m' at long
   unfolding read_of

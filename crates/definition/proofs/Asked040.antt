@@ -1,4 +1,5 @@
 -- A 68040 walk depends only on the longs that it asks for. Assumes nothing.
+use Rattle.std.specs.Prelude.{Option, Some, None}
 use Prim.Native.Nat.{ℕ, ◌*◌, ◌/◌, ◌%◌}
 use mathlib.Core.Path.{◌≡◌, refl, ap, ◌∙◌}
 use mathlib.Core.List.{List, [], ◌∷◌, ◌++◌}
@@ -9,8 +10,6 @@ use Rattle.definition.specs.Words.{bit_of}
 use Rattle.definition.specs.Memory.{Memory, fetch_of}
 use Rattle.definition.specs.Walk040.{Outcome040, on_long, asks, root_at, pointer_at, page_at, on_page, on_entry, on_pointer, on_root, walk040}
 use Rattle.definition.proofs.Replay.{In}
-use Rattle.definition.specs.declared.Fetched.{Fetched}
-use Rattle.definition.specs.declared.Fetched.TheVariants.{Long, Failed}
 use Rattle.definition.specs.declared.FaultCause.TheVariants as cause
 use Rattle.definition.specs.declared.Registers.{Registers}
 use Rattle.definition.proofs.Choice.{if_both}
@@ -28,10 +27,10 @@ Keeps next = (a x : ℕ) (asked : List ℕ) → In a asked → In a (next x aske
 abbrev Has : ℕ → Outcome040 → Type 0
 Has a o = In a o.asked
 
-long_keeps : (a at : ℕ) (before : List ℕ) (next : ℕ → List ℕ → Outcome040) (r : Fetched) → Keeps next → In a (before ++ (at ∷ []))
+long_keeps : (a at : ℕ) (before : List ℕ) (next : ℕ → List ℕ → Outcome040) (r : Option ℕ) → Keeps next → In a (before ++ (at ∷ []))
     → In a (on_long at before next r).asked
-long_keeps a at before next (Long x) k i = k a x (before ++ (at ∷ [])) i
-long_keeps a at before next Failed k i = i
+long_keeps a at before next (Some x) k i = k a x (before ++ (at ∷ [])) i
+long_keeps a at before next None k i = i
 
 asks_keeps : (m : Memory) (a at : ℕ) (before : List ℕ) (next : ℕ → List ℕ → Outcome040) → Keeps next → In a before → In a (asks m at before next).asked
 asks_keeps m a at before next k i = long_keeps a at before next (fetch_of m at) k (in_left a before (at ∷ []) i)
@@ -55,10 +54,10 @@ module _ (m m' : Memory) where
   abbrev Same : (ℕ → List ℕ → Outcome040) → (ℕ → List ℕ → Outcome040) → Type 0
   Same next next' = (x : ℕ) (asked : List ℕ) → Agree m m' (next x asked).asked → next x asked ≡ next' x asked
 
-  long_same : (at : ℕ) (before : List ℕ) (next next' : ℕ → List ℕ → Outcome040) (r : Fetched) → Same next next'
+  long_same : (at : ℕ) (before : List ℕ) (next next' : ℕ → List ℕ → Outcome040) (r : Option ℕ) → Same next next'
       → Agree m m' (on_long at before next r).asked → on_long at before next r ≡ on_long at before next' r
-  long_same at before next next' (Long x) s q = s x (before ++ (at ∷ [])) q
-  long_same at before next next' Failed s q = refl
+  long_same at before next next' (Some x) s q = s x (before ++ (at ∷ [])) q
+  long_same at before next next' None s q = refl
 
   asks_same : (at : ℕ) (before : List ℕ) (next next' : ℕ → List ℕ → Outcome040) → Keeps next → Same next next'
       → Agree m m' (asks m at before next).asked → asks m at before next ≡ asks m' at before next'

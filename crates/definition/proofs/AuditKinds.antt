@@ -1,5 +1,6 @@
 -- Each kind of damage that the audit names and each harmless kind that it passes over, of both caches: one statement over one table, by one computed
 -- test; and the guard of README's sample, with its flush and without. Assumes nothing.
+use Rattle.std.specs.Prelude.{Some, None}
 use Prim.Native.Nat.{ℕ}
 use mathlib.Core.Path.{◌≡◌, refl}
 use mathlib.Core.List.{List, [], ◌∷◌, ◌++◌, map}
@@ -23,8 +24,6 @@ use Rattle.definition.specs.declared.Audit.{Audit}
 use Rattle.definition.specs.declared.FaultCause.TheVariants as cause
 use Rattle.definition.specs.declared.FaultKind.TheVariants as kind
 use Rattle.definition.specs.declared.Finding.{Finding}
-use Rattle.definition.specs.declared.Hit.TheVariants.{At, Miss}
-use Rattle.definition.specs.declared.Override.{Override}
 use Rattle.definition.specs.declared.Registers.{Registers}
 use Rattle.definition.specs.declared.Translation.{Translation}
 use Rattle.definition.proofs.Examples.{longs_of, tree}
@@ -165,14 +164,14 @@ protected write = finding plain (memory (longs_of (tree 0x3002 0x55001)) 0 []) (
 
 pub said_of_wp :
     map protected (false ∷ true ∷ [])
-    ≡ Finding.Says 0x02041000 1 (At 0x55000) (Translation.Address 0x55000) ∷ Finding.Says 0x02041000 1 Miss (Translation.Address 0x55000) ∷ []
+    ≡ Finding.Says 0x02041000 1 (Some 0x55000) (Translation.Address 0x55000) ∷ Finding.Says 0x02041000 1 None (Translation.Address 0x55000) ∷ []
 unfolding finding translate in_order transparent translate030 search030 hit_of after_hit matching inserted victim shifted rested oldest first_of walk_from read_of widths_of refusal_of any_of touches_of
 said_of_wp = refl
 
 -- nor what the tables say
 pub said_behind :
     finding (both 30 0x80C07760) (memory (longs_of (tree 0x3002 0)) 0 []) (at030 12 (cached_as 1 0x55000 false ∷ no_entry ∷ [])) 0 true
-    ≡ Finding.Says 0x02041000 1 (At 0x55000) (Translation.Fault kind.AccessLevelViolation cause.PageFault 0x02041000)
+    ≡ Finding.Says 0x02041000 1 (Some 0x55000) (Translation.Fault kind.AccessLevelViolation cause.PageFault 0x02041000)
 unfolding finding translate in_order transparent translate030 search030 hit_of after_hit matching inserted victim shifted rested oldest first_of walk_from read_of widths_of refusal_of any_of touches_of
 said_behind = refl
 
@@ -184,7 +183,7 @@ mapped =
     ∷ Stores 0x1004 0x2002
     ∷ Stores 0x2004 0x3002
     ∷ Stores 0x3004 0x55001
-    ∷ Calls (access (record { address = 0x02041ABC; write = false; supervisor = false; instruction = false; own = false; code = Override.Plain; recorded = true }))
+    ∷ Calls (access (record { address = 0x02041ABC; write = false; supervisor = false; instruction = false; own = false; code = None; recorded = true }))
     ∷ []
 
 -- the guard: the page's descriptor is cleared
@@ -203,6 +202,6 @@ guard_audited = (refl, (refl, refl))
 -- what is said of that entry: the cache gives the page's first address, the tables a page fault
 pub guard_said :
     finding plain (memory_of (warmed guarded)) (warmed guarded).caches 0 false
-    ≡ Finding.Says 0x02041000 1 (At 0x55000) (Translation.Fault kind.AccessLevelViolation cause.PageFault 0x02041000)
+    ≡ Finding.Says 0x02041000 1 (Some 0x55000) (Translation.Fault kind.AccessLevelViolation cause.PageFault 0x02041000)
 unfolding finding kept_after step_of calling translate in_order transparent translate030 search030 hit_of after_hit matching inserted victim shifted rested oldest first_of walk_from read_of widths_of refusal_of any_of touches_of
 guard_said = refl

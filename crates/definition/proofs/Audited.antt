@@ -10,7 +10,7 @@ use native.Mathlib.Nat.{mul-mod_left}
 use borrow.Author.Tests.{eqb-true, eq-eqb, not-true, not-false}
 use lib.Dec.{eqb}
 use lib.Pow.{shl-shr}
-use Rattle.std.specs.Prelude.{if◌then◌else◌}
+use Rattle.std.specs.Prelude.{if◌then◌else◌, Option, Some, None}
 use Rattle.definition.specs.Words.{bit_of}
 use Rattle.definition.specs.Registers.{on, code_of}
 use Rattle.definition.specs.Memory.{Memory, fetch_of}
@@ -30,13 +30,9 @@ use Rattle.definition.specs.declared.End.{End}
 use Rattle.definition.specs.declared.End.TheVariants.{Page, Invalid, LevelStop, BusError, Config}
 use Rattle.definition.specs.declared.End040.{End040}
 use Rattle.definition.specs.declared.End040.TheVariants.{Resident, Absent, Lost}
-use Rattle.definition.specs.declared.Hit.{Hit}
-use Rattle.definition.specs.declared.Hit.TheVariants.{At, Miss}
 use Rattle.definition.specs.declared.Probe.{Probe}
 use Rattle.definition.specs.declared.Translation.{Translation}
 use Rattle.definition.specs.declared.Registers.{Registers}
-use Rattle.definition.specs.declared.Shift.{Shift}
-use Rattle.definition.specs.declared.Shift.TheVariants.{Bits, NoPage}
 use Rattle.definition.proofs.Choice.{if_by, and_left, and_right, or_left, or_right}
 use Rattle.definition.proofs.Lists.{All, all_index}
 use Rattle.definition.proofs.Entries.{Anything}
@@ -74,7 +70,7 @@ based_first : (field consumed page s : ℕ)
 based_first field consumed page s = rw (mul-mod_left page (2 ^ s)) (omega arith)
 
 module _ (g : Registers) (m : Memory) (P : Memory → Type 0) (in-it : P m) where
-  module _ (s : ℕ) (e : Entry) (sh : shift_of g.tc ≡ Bits s) (write : Bool) (may : (write && e.wp) ≡ false) where
+  module _ (s : ℕ) (e : Entry) (sh : shift_of g.tc ≡ Some s) (write : Bool) (may : (write && e.wp) ≡ false) where
     end_hits : (o : Outcome) → found_for030 g m s e ≡ o → (end : End) → o.end ≡ end
         → is_end030 e (first_of_page e.page s) o.found.wp o.found.sup end ≡ true → Hits030 g P s e.code e.page e.base write
     end_hits o is (Page field consumed) i t =
@@ -177,16 +173,16 @@ module _ (g : Registers) (m : Memory) (c : Caches) (own instruction write : Bool
   same_address : (y : ℕ) → Probe.Address y ≡ Probe.Address x → Translation.Address y ≡ Translation.Address x
   same_address y e = let z : y ≡ x = cc in rw z
 
-  gives_030 : (sh : Shift) → probe030 c.c030 (code_of own instruction) write address sh ≡ Probe.Address x
+  gives_030 : (sh : Option ℕ) → probe030 c.c030 (code_of own instruction) write address sh ≡ Probe.Address x
       → (with030 g m c.c030 false (code_of own instruction) address write sh).answer ≡ Translation.Address x
-  gives_030 NoPage e = silent e
-  gives_030 (Bits s) e = go (hit_of c.c030 (code_of own instruction) (address / 2 ^ s) s write) e
+  gives_030 None e = silent e
+  gives_030 (Some s) e = go (hit_of c.c030 (code_of own instruction) (address / 2 ^ s) s write) e
     where
-      go : (hit : Hit) → probed (λ (base : ℕ). hit_address base address s) hit ≡ Probe.Address x
+      go : (hit : Option ℕ) → probed (λ (base : ℕ). hit_address base address s) hit ≡ Probe.Address x
           → (on_hit030 g m (after_hit c.c030 false (code_of own instruction) (address / 2 ^ s) s) (code_of own instruction) address write s hit).answer
           ≡ Translation.Address x
-      go (At base) e = same_address _ e
-      go Miss e = silent e
+      go (Some base) e = same_address _ e
+      go None e = silent e
 
   gives_030_whole : Gives (probe030 c.c030 (code_of own instruction) write address (shift_of g.tc)) (translate030 g (plain_access own instruction write address) m c)
   unfolding translate030
@@ -196,10 +192,10 @@ module _ (g : Registers) (m : Memory) (c : Caches) (own instruction write : Bool
   unfolding translate040
   gives_040 e = go (hit040 c.c040 (address / 2 ^ page_bits g.tc) own write) e
     where
-      go : (hit : Hit) → probed (λ (base : ℕ). joined g.tc base address) hit ≡ Probe.Address x
+      go : (hit : Option ℕ) → probed (λ (base : ℕ). joined g.tc base address) hit ≡ Probe.Address x
           → (on_hit040 g (plain_access own instruction write address) m c hit).answer ≡ Translation.Address x
-      go (At base) e = same_address _ e
-      go Miss e = silent e
+      go (Some base) e = same_address _ e
+      go None e = silent e
 
   gives_in_order : Gives (probe_in_order g own instruction write address c) (in_order g (plain_access own instruction write address) m c)
   unfolding probe_in_order in_order
@@ -232,9 +228,9 @@ same_slot : (g : Registers) (m : Memory) → stale040 (bare g) m ≡ stale040 g 
 unfolding stale040 walk040
 same_slot g m = λ i s. stale040 g m s
 
-same_first : (g : Registers) (m : Memory) (c : Cache030) (from : ℕ) (sh : Shift) → first_stale030 (bare g) m c from sh ≡ first_stale030 g m c from sh
-same_first g m c from NoPage = refl
-same_first g m c from (Bits s) = rw (same_entry g m s)
+same_first : (g : Registers) (m : Memory) (c : Cache030) (from : ℕ) (sh : Option ℕ) → first_stale030 (bare g) m c from sh ≡ first_stale030 g m c from sh
+same_first g m c from None = refl
+same_first g m c from (Some s) = rw (same_entry g m s)
 
 -- neither whether the PMMU is there and on, nor the transparent registers
 pub switches_unread : (g : Registers) (m : Memory) (c : Caches) (from : ℕ) → audit_from (bare g) m c from ≡ audit_from g m c from

@@ -1,5 +1,6 @@
 -- No call changes either cache but by the changes of Entries030 and Entries040, with walks under its registers and over its memory: so what those keep
 -- the calls keep, and any moment of a replay. Assumes nothing.
+use Rattle.std.specs.Prelude.{Option, Some, None}
 use Prim.Native.Nat.{ℕ, ◌/◌, ◌^◌}
 use mathlib.Core.Path.{◌≡◌, refl}
 use mathlib.Core.Bool.{Bool, true, false, not, ◌&&◌, ◌||◌}
@@ -22,8 +23,6 @@ use Rattle.definition.specs.declared.Registers.{Registers}
 use Rattle.definition.specs.declared.Access.{Access}
 use Rattle.definition.specs.declared.End040.{End040}
 use Rattle.definition.specs.declared.End040.TheVariants.{Resident, Absent, Lost}
-use Rattle.definition.specs.declared.Hit.{Hit}
-use Rattle.definition.specs.declared.Hit.TheVariants.{At, Miss}
 use Rattle.definition.proofs.Choice.{if_by, if_both}
 use Rattle.definition.proofs.Entries030.{Keeps030, search_keeps, with_keeps, flushed_page_keeps, OfEntries, Sound030, empty_sound, sound_keeps}
 use Rattle.definition.proofs.Entries040.{Keeps040, free_040}
@@ -66,9 +65,9 @@ module _ (I : Cache030 → Type 0) (J : Cache040 → Type 0) (g : Registers) (m 
     found_040 (Absent missing) e = h
     found_040 (Lost at) e = h
 
-    hit_040 : (hit : Hit) → After (on_hit040 g a m c hit)
-    hit_040 (At base) = h
-    hit_040 Miss = found_040 (walk040 m g a.address (as_supervisor a)).end refl
+    hit_040 : (hit : Option ℕ) → After (on_hit040 g a m c hit)
+    hit_040 (Some base) = h
+    hit_040 None = found_040 (walk040 m g a.address (as_supervisor a)).end refl
 
     by_040 : After (translate040 g a m c)
     unfolding translate040

@@ -1,5 +1,6 @@
 -- The 68030 cache's entries: nothing changes one but to drop it or stamp it again, and nothing adds one but a walk of its key; and the cache keeps its
 -- 22 places and passes check 4. So what these keep of one entry is kept of all. Assumes nothing.
+use Rattle.std.specs.Prelude.{Option, Some, None}
 use Prim.Native.Nat.{ℕ, ◌+◌, ◌-◌, ◌/◌, ◌^◌, ◌≤◌, ◌<◌}
 use mathlib.Core.Path.{◌≡◌, refl, ◌∙◌}
 use mathlib.Core.List.{List, [], ◌∷◌, map}
@@ -17,11 +18,7 @@ use Rattle.definition.specs.Translate.{base_of, cached, Searched, on_end030, sea
 use Rattle.definition.specs.Refusal.{bad_cache}
 use Rattle.definition.specs.declared.End.{End}
 use Rattle.definition.specs.declared.End.TheVariants.{Page, Invalid, LevelStop, BusError, Config}
-use Rattle.definition.specs.declared.Hit.{Hit}
-use Rattle.definition.specs.declared.Hit.TheVariants.{At, Miss}
 use Rattle.definition.specs.declared.Registers.{Registers}
-use Rattle.definition.specs.declared.Shift.{Shift}
-use Rattle.definition.specs.declared.Shift.TheVariants.{Bits, NoPage}
 use Rattle.definition.proofs.Choice.{if_by, if_both, and_right, or_left, or_right}
 use Rattle.definition.proofs.Lists.{All, all_set, all_get, all_by, all_replicate, all_made, all_map, first_within, all_pass, Least, least_of}
 use Rattle.definition.proofs.Page030.{shift_cut}
@@ -29,7 +26,7 @@ use Rattle.definition.proofs.Page030.{shift_cut}
 -- ---- what a call does to the cache
 -- a walk of this code and page under g and over m found the page with this base and WP, and S let it be cached
 pub record Walked030 (g : Registers) (m : Memory) (s code page base : ℕ) (wp : Bool) : Type 0 where
-  pub shift : shift_of g.tc ≡ Bits s
+  pub shift : shift_of g.tc ≡ Some s
   pub address : ℕ
   pub at : address / 2 ^ s ≡ page
   pub field : ℕ
@@ -57,12 +54,12 @@ module _ (g : Registers) (m : Memory) (I : Cache030 → Type 0) (k : Keeps030 g 
       (k.drop (λ (e : Entry). agrees e.code code mask && eqb e.page (address / 2 ^ c.shift)) c h)
 
   module _ (code address : ℕ) (write : Bool) where
-    cached_keeps : (c : Cache030) → I c → (field consumed : ℕ) (sh : Shift) → shift_of g.tc ≡ sh
+    cached_keeps : (c : Cache030) → I c → (field consumed : ℕ) (sh : Option ℕ) → shift_of g.tc ≡ sh
         → (walk030 m g address code every_level).end ≡ Page field consumed
         → ((walk030 m g address code every_level).found.sup && not (bit_of code 2)) ≡ false
         → I (cached sh c code address (physical_of field consumed address) (walk030 m g address code every_level).found.wp)
-    cached_keeps c h field consumed NoPage e f a = h
-    cached_keeps c h field consumed (Bits s) e f a =
+    cached_keeps c h field consumed None e f a = h
+    cached_keeps c h field consumed (Some s) e f a =
         k.insert c code (address / 2 ^ s) s _ _ (shift_cut g.tc s e).most
         (record {
           shift = e;
@@ -92,14 +89,14 @@ module _ (g : Registers) (m : Memory) (I : Cache030 → Type 0) (k : Keeps030 g 
     unfolding search030
     search_keeps c h = end_keeps c h (walk030 m g address code every_level).end refl
 
-    on_hit_keeps : (c : Cache030) (s : ℕ) (hit : Hit) → I c → I (on_hit030 g m c code address write s hit).cache
-    on_hit_keeps c s (At base) h = h
-    on_hit_keeps c s Miss h = search_keeps c h
+    on_hit_keeps : (c : Cache030) (s : ℕ) (hit : Option ℕ) → I c → I (on_hit030 g m c code address write s hit).cache
+    on_hit_keeps c s (Some base) h = h
+    on_hit_keeps c s None h = search_keeps c h
 
     -- nor does a translation
-    pub with_keeps : (c : Cache030) (recorded : Bool) (sh : Shift) → I c → I (with030 g m c recorded code address write sh).cache
-    with_keeps c recorded NoPage h = search_keeps c h
-    with_keeps c recorded (Bits s) h =
+    pub with_keeps : (c : Cache030) (recorded : Bool) (sh : Option ℕ) → I c → I (with030 g m c recorded code address write sh).cache
+    with_keeps c recorded None h = search_keeps c h
+    with_keeps c recorded (Some s) h =
         on_hit_keeps (after_hit c recorded code (address / 2 ^ s) s) s (hit_of c code (address / 2 ^ s) s write)
         (k.look c recorded code (address / 2 ^ s) s h)
 

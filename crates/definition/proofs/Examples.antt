@@ -1,4 +1,5 @@
 -- Document 01's twelve marked examples, of the definitions: one statement over one table, by one computed test. Assumes nothing.
+use Rattle.std.specs.Prelude.{Option, Some, None}
 use Prim.Native.Nat.{ℕ, zero, suc, ◌+◌, ◌*◌, ◌/◌}
 use mathlib.Core.Path.{◌≡◌, refl}
 use mathlib.Core.List.{List, [], ◌∷◌, ◌++◌, map}
@@ -17,9 +18,6 @@ use Rattle.definition.specs.Test.{test_in_order, test}
 use Rattle.definition.specs.Probe.{probe_in_order, probe}
 use Rattle.definition.specs.Calls.{Call, access, testing, probing, Line, A, F, T, N, calling}
 use Rattle.definition.specs.declared.Registers.{Registers}
-use Rattle.definition.specs.declared.Override.{Override}
-use Rattle.definition.specs.declared.Shift.{Shift}
-use Rattle.definition.specs.declared.Shift.TheVariants.{Bits, NoPage}
 
 -- what is asked: a call, or the page shift that TC gives
 pub data Question : Type 0 where
@@ -29,7 +27,7 @@ pub data Question : Type 0 where
 -- what it must give: a call's line in the trace, or the page shift
 pub data Given : Type 0 where
   line : Line → Given
-  shift : Shift → Given
+  shift : Option ℕ → Given
 
 -- a row of the table: registers, longs by their addresses, and each question with what it must give
 pub record Row : Type 0 where
@@ -84,7 +82,7 @@ user address write recorded =
       supervisor = false;
       instruction = false;
       own = false;
-      code = Override.Plain;
+      code = None;
       recorded = recorded;
     }))
 
@@ -108,7 +106,7 @@ on030 longs asks = row 30 0x80C07760 0x80000002 longs asks
 abbrev pub tree : ℕ → ℕ → List (ℕ × ℕ)
 tree second third = (0x1004, 0x2002) ∷ (0x2004, second) ∷ (0x3004, third) ∷ []
 
-abbrev pub shift_is : ℕ → Shift → Row
+abbrev pub shift_is : ℕ → Option ℕ → Row
 shift_is tc s = row 30 tc 0x80000002 [] ((page_shift, shift s) ∷ [])
 
 -- example 12's pages: n of them from page i on, each mapped 100000 above itself
@@ -155,10 +153,10 @@ rows =
     -- 8. CRP limit type 1: configuration fault; PTEST 8000, 1000.
     ∷ row 30 0x80C07760 0x80000001 (tree 0x3002 0x55001) (read (F 0 3 0x02041ABC 0) ∷ ptest 7 (T 0x8000 0x1000 0) ∷ [])
     -- 9. Widths 7, 0, 6: shift 25. IS 15, widths 15, 1: shift 1. Sum 32 or 0: none.
-    ∷ shift_is 0x80C07060 (Bits 25)
-    ∷ shift_is 0x800FF100 (Bits 1)
-    ∷ shift_is 0x80008888 NoPage
-    ∷ shift_is 0x80000000 NoPage
+    ∷ shift_is 0x80C07060 (Some 25)
+    ∷ shift_is 0x800FF100 (Some 1)
+    ∷ shift_is 0x80008888 None
+    ∷ shift_is 0x80000000 None
     -- 10. Family 40, TC 8000, 3004=55085: user write WriteProtect, user read SupervisorProtect.
     ∷ row 40 0x8000 0x80000002 (tree 0x3002 0x55085) (write (F 2 4 0x02041ABC 3) ∷ read (F 2 5 0x02041ABC 3) ∷ [])
     -- 11. Family 40, TC C000, 3000=55001: 00055ABC. The same with 3004=0, where an index by 17:12 would fault.

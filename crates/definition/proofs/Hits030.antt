@@ -1,5 +1,6 @@
 -- A hit of the 68030 cache gives what the walk gives, where its entries are good: each has its walk, over a memory where the longs of the walk read the
 -- same as now. Assumes nothing.
+use Rattle.std.specs.Prelude.{Option, Some, None}
 use Prim.Native.Nat.{ℕ, ◌/◌, ◌^◌, ◌<◌}
 use mathlib.Core.Path.{◌≡◌, refl, ap, sym, subst, ◌∙◌}
 use mathlib.Core.List.{List}
@@ -16,11 +17,7 @@ use Rattle.definition.specs.Translate.{hit_address, Searched, on_end030, conclud
 use Rattle.definition.specs.Audit.{is_access_code}
 use Rattle.definition.specs.declared.End.{End}
 use Rattle.definition.specs.declared.End.TheVariants.{Page, Invalid, LevelStop, BusError, Config}
-use Rattle.definition.specs.declared.Hit.{Hit}
-use Rattle.definition.specs.declared.Hit.TheVariants.{At, Miss}
 use Rattle.definition.specs.declared.Registers.{Registers}
-use Rattle.definition.specs.declared.Shift.{Shift}
-use Rattle.definition.specs.declared.Shift.TheVariants.{Bits, NoPage}
 use Rattle.definition.specs.declared.Translation.TheVariants.{Address}
 use Rattle.definition.proofs.Choice.{if_by, if_both, if_alike, and_left, and_right}
 use Rattle.definition.proofs.Lists.{All, all_get, all_replicate, first_passes}
@@ -58,7 +55,7 @@ module _ (g : Registers) (m : Memory) (code address : ℕ) (write : Bool) where
   search_asked c = end_asked g.tc c code address write _ _ _ (walk030 m g address code every_level).end
 
 -- ---- the entry that hits
-pub no_hit : {X : Type 0} (base : ℕ) → Miss ≡ At base → X
+pub no_hit : {X : Type 0} (base : ℕ) → None ≡ Some base → X
 no_hit base e = let z : ◌≡◌ {A = ℕ} 0 1 = cc in absurd (omega arith)
 
 matching_matches : (c : Cache030) (code page : ℕ) → matching c code page < length c.entries
@@ -80,14 +77,14 @@ pub record Met030 (B : ℕ → Entry → Type 0) (s code page base : ℕ) (write
   pub entry : Entry
   pub held : B s entry
   pub key : matches code page entry ≡ true
-  pub permits : permitted write entry ≡ At base
+  pub permits : permitted write entry ≡ Some base
 
 -- a hit has met one
 pub met_030 : (B : ℕ → Entry → Type 0) → ((s : ℕ) → B s no_entry) → (c : Cache030) (code page s base : ℕ) (write : Bool) → All (B c.shift) c.entries
-    → hit_of c code page s write ≡ At base → Met030 B s code page base write
+    → hit_of c code page s write ≡ Some base → Met030 B s code page base write
 unfolding hit_of
 met_030 B none c code page s base write h =
-    if_by (λ (hit : Hit). hit ≡ At base → Met030 B s code page base write) (found c code page s) _ _
+    if_by (λ (hit : Option ℕ). hit ≡ Some base → Met030 B s code page base write) (found c code page s) _ _
     (λ t e.
     let same = eqb-true c.shift s (and_left (eqb c.shift s) _ t) in
     let there = ltb-true (matching c code page) (length c.entries) (and_right (eqb c.shift s) _ t) in
@@ -112,7 +109,7 @@ pub record Hits030 (g : Registers) (P : Memory → Type 0) (s code page base : �
 -- an entry that accesses under g can meet is good: each read or write that it permits has such a walk
 abbrev pub Good030 : Registers → (Memory → Type 0) → ℕ → Entry → Type 0
 Good030 g P s e =
-    eqb g.family 30 ≡ true → shift_of g.tc ≡ Bits s → e.valid ≡ true → is_access_code e.code ≡ true
+    eqb g.family 30 ≡ true → shift_of g.tc ≡ Some s → e.valid ≡ true → is_access_code e.code ≡ true
     → (write : Bool) → (write && e.wp) ≡ false → Hits030 g P s e.code e.page e.base write
 
 module _ (g : Registers) (P : Memory → Type 0) where
@@ -123,19 +120,19 @@ module _ (g : Registers) (P : Memory → Type 0) where
   pub good_new : (m : Memory) → P m → New030 (Good030 g P) g m
   good_new m p s n code page base wp w a b v d write f = record { over = m; seen = p; wp = wp; walked = w; may = f }
 
-  entry_hits : (e : Entry) (s code page base : ℕ) (write : Bool) → eqb g.family 30 ≡ true → shift_of g.tc ≡ Bits s → is_access_code code ≡ true
-      → Good030 g P s e → matches code page e ≡ true → permitted write e ≡ At base → Hits030 g P s code page base write
+  entry_hits : (e : Entry) (s code page base : ℕ) (write : Bool) → eqb g.family 30 ≡ true → shift_of g.tc ≡ Some s → is_access_code code ≡ true
+      → Good030 g P s e → matches code page e ≡ true → permitted write e ≡ Some base → Hits030 g P s code page base write
   entry_hits e s code page base write family sh a k t =
       let key = key_of code page e t in
-      if_by (λ (hit : Hit). hit ≡ At base → Hits030 g P s code page base write) (write && e.wp) _ _
+      if_by (λ (hit : Option ℕ). hit ≡ Some base → Hits030 g P s code page base write) (write && e.wp) _ _
       (λ t h. no_hit base h)
       (λ f h.
       let base_is : e.base ≡ base = cc in
       let hits = k family sh key.0 (rw key.1.0 a) write f in
       rw (key.1.0, key.1.1, base_is) at hits)
 
-  pub hit_030 : (c : Cache030) (code page s base : ℕ) (write : Bool) → eqb g.family 30 ≡ true → shift_of g.tc ≡ Bits s → is_access_code code ≡ true
-      → All (Good030 g P c.shift) c.entries → hit_of c code page s write ≡ At base → Hits030 g P s code page base write
+  pub hit_030 : (c : Cache030) (code page s base : ℕ) (write : Bool) → eqb g.family 30 ≡ true → shift_of g.tc ≡ Some s → is_access_code code ≡ true
+      → All (Good030 g P c.shift) c.entries → hit_of c code page s write ≡ Some base → Hits030 g P s code page base write
   hit_030 c code page s base write family sh a h e =
       let met = met_030 (Good030 g P) (λ s. good_entries.invalid s no_entry refl) c code page s base write h e in
       entry_hits met.entry s code page base write family sh a met.held met.key met.permits
@@ -163,36 +160,36 @@ module _ (g : Registers) (P : Memory → Type 0) where
         ∙ ap (λ (o : Outcome). (concluded030 g.tc c code address write o).answer) (sym same)
 
     -- the law: with good entries a translation answers as a search from the empty cache
-    pub with_answer : (c : Cache030) (recorded : Bool) (sh : Shift) → eqb g.family 30 ≡ true → shift_of g.tc ≡ sh → is_access_code code ≡ true
+    pub with_answer : (c : Cache030) (recorded : Bool) (sh : Option ℕ) → eqb g.family 30 ≡ true → shift_of g.tc ≡ sh → is_access_code code ≡ true
         → All (Good030 g P c.shift) c.entries
         → (with030 g m c recorded code address write sh).answer ≡ (search030 g m empty030 code address write).answer
-    with_answer c recorded NoPage family e a h = search_answer g m code address write c empty030
-    with_answer c recorded (Bits s) family e a h = go (hit_of c code (address / 2 ^ s) s write) refl
+    with_answer c recorded None family e a h = search_answer g m code address write c empty030
+    with_answer c recorded (Some s) family e a h = go (hit_of c code (address / 2 ^ s) s write) refl
       where
-        go : (hit : Hit) → hit_of c code (address / 2 ^ s) s write ≡ hit
+        go : (hit : Option ℕ) → hit_of c code (address / 2 ^ s) s write ≡ hit
             → (on_hit030 g m (after_hit c recorded code (address / 2 ^ s) s) code address write s hit).answer
             ≡ (search030 g m empty030 code address write).answer
-        go (At base) f = hit_answer empty030 s base (hit_030 c code (address / 2 ^ s) s base write family e a h f)
-        go Miss f = search_answer g m code address write _ empty030
+        go (Some base) f = hit_answer empty030 s base (hit_030 c code (address / 2 ^ s) s base write family e a h f)
+        go None f = search_answer g m code address write _ empty030
 
 -- ---- the cacheless walk: the empty cache has no entry to meet
-empty_misses : (code page s : ℕ) (write : Bool) → hit_of empty030 code page s write ≡ Miss
+empty_misses : (code page s : ℕ) (write : Bool) → hit_of empty030 code page s write ≡ None
 empty_misses code page s write = go (hit_of empty030 code page s write) refl
   where
-    go : (hit : Hit) → hit_of empty030 code page s write ≡ hit → hit ≡ Miss
-    go (At base) e =
+    go : (hit : Option ℕ) → hit_of empty030 code page s write ≡ hit → hit ≡ None
+    go (Some base) e =
         let met = met_030 (λ s e. e.valid ≡ false) (λ s. refl) empty030 code page s base write
         (all_replicate (λ (e : Entry). e.valid ≡ false) 22 no_entry refl) e in
         absurd (false≢true (sym met.held ∙ and_left met.entry.valid _ met.key))
-    go Miss e = refl
+    go None e = refl
 
 module _ (g : Registers) (m : Memory) (code address : ℕ) (write recorded : Bool) where
-  pub empty_answer : (sh : Shift)
+  pub empty_answer : (sh : Option ℕ)
       → (with030 g m empty030 recorded code address write sh).answer ≡ (search030 g m empty030 code address write).answer
-  empty_answer NoPage = refl
-  empty_answer (Bits s) = rw (empty_misses code (address / 2 ^ s) s write) (search_answer g m code address write _ empty030)
+  empty_answer None = refl
+  empty_answer (Some s) = rw (empty_misses code (address / 2 ^ s) s write) (search_answer g m code address write _ empty030)
 
-  pub empty_asked : (sh : Shift)
+  pub empty_asked : (sh : Option ℕ)
       → (with030 g m empty030 recorded code address write sh).asked ≡ (walk030 m g address code every_level).found.asked
-  empty_asked NoPage = search_asked g m code address write empty030
-  empty_asked (Bits s) = rw (empty_misses code (address / 2 ^ s) s write) (search_asked g m code address write _)
+  empty_asked None = search_asked g m code address write empty030
+  empty_asked (Some s) = rw (empty_misses code (address / 2 ^ s) s write) (search_asked g m code address write _)

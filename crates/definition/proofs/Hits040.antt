@@ -1,5 +1,6 @@
 -- A hit of the 68040 cache gives what the walk gives, where its slots are good: each has its walk, over a memory where the longs of the walk read the
 -- same as now. Assumes nothing.
+use Rattle.std.specs.Prelude.{Option, Some, None}
 use Prim.Native.Nat.{ℕ, ◌/◌, ◌%◌, ◌^◌}
 use mathlib.Core.Path.{◌≡◌, refl, ap, sym, ◌∙◌}
 use mathlib.Core.List.{List}
@@ -14,8 +15,6 @@ use Rattle.definition.specs.Translate.{Caches, empty_caches, Translated, on_end0
 use Rattle.definition.specs.declared.Access.{Access}
 use Rattle.definition.specs.declared.End040.{End040}
 use Rattle.definition.specs.declared.End040.TheVariants.{Resident, Absent, Lost}
-use Rattle.definition.specs.declared.Hit.{Hit}
-use Rattle.definition.specs.declared.Hit.TheVariants.{At, Miss}
 use Rattle.definition.specs.declared.Registers.{Registers}
 use Rattle.definition.specs.declared.Translation.TheVariants.{Address}
 use Rattle.definition.proofs.Choice.{if_by, if_both, if_alike, and_left, and_right, or_left, same_bool_lem}
@@ -83,10 +82,10 @@ pub record Met040 (s : Slot) (frame : ℕ) (supervisor : Bool) (base : ℕ) (wri
   pub base_is : s.base ≡ base
   pub permits : forbids supervisor write s ≡ false
 
-pub met_040 : (s : Slot) (frame : ℕ) (supervisor : Bool) (base : ℕ) (write : Bool) → slot_hit frame supervisor write s ≡ At base
+pub met_040 : (s : Slot) (frame : ℕ) (supervisor : Bool) (base : ℕ) (write : Bool) → slot_hit frame supervisor write s ≡ Some base
     → Met040 s frame supervisor base write
 met_040 s frame supervisor base write =
-    if_by (λ (hit : Hit). hit ≡ At base → Met040 s frame supervisor base write) (holds frame supervisor s && not (forbids supervisor write s)) _ _
+    if_by (λ (hit : Option ℕ). hit ≡ Some base → Met040 s frame supervisor base write) (holds frame supervisor s && not (forbids supervisor write s)) _ _
     (λ t h.
     let held = and_left (holds frame supervisor s) _ t in
     let key = and_right s.valid _ held in
@@ -101,7 +100,7 @@ met_040 s frame supervisor base write =
 
 module _ (g : Registers) (P : Memory → Type 0) where
   pub hit_040 : (c : Cache040) (frame : ℕ) (supervisor : Bool) (base : ℕ) (write : Bool) → eqb g.family 30 ≡ false → Sound040 (Good040 g P) c
-      → hit040 c frame supervisor write ≡ At base → Hits040 g P frame supervisor base write
+      → hit040 c frame supervisor write ≡ Some base → Hits040 g P frame supervisor base write
   unfolding hit040
   hit_040 c frame supervisor base write family h e =
       let met = met_040 (slot_at c frame) frame supervisor base write e in
@@ -133,14 +132,14 @@ module _ (g : Registers) (P : Memory → Type 0) where
     unfolding translate040
     with_answer c family h = go (hit040 c.c040 (a.address / 2 ^ page_bits g.tc) (as_supervisor a) a.write) refl
       where
-        go : (hit : Hit) → hit040 c.c040 (a.address / 2 ^ page_bits g.tc) (as_supervisor a) a.write ≡ hit
+        go : (hit : Option ℕ) → hit040 c.c040 (a.address / 2 ^ page_bits g.tc) (as_supervisor a) a.write ≡ hit
             → (on_hit040 g a m c hit).answer ≡ (concluded040 g a empty_caches (walked040 g a m)).answer
-        go (At base) e =
+        go (Some base) e =
             hit_answer empty_caches base (hit_040 c.c040 (a.address / 2 ^ page_bits g.tc) (as_supervisor a) base a.write family h e)
-        go Miss e = search_answer g m a c empty_caches
+        go None e = search_answer g m a c empty_caches
 
 -- ---- the cacheless walk: the empty cache has no slot to meet
-empty_misses : (frame : ℕ) (supervisor write : Bool) → hit040 empty040 frame supervisor write ≡ Miss
+empty_misses : (frame : ℕ) (supervisor write : Bool) → hit040 empty040 frame supervisor write ≡ None
 unfolding hit040
 empty_misses frame supervisor write =
     rw (empty_sound (λ i s. s.valid ≡ false) (record { invalid = λ i s f. f }) (frame % 64))

@@ -1,5 +1,6 @@
 -- What document 02's requests mend, of the definitions: one statement over one table for each, by one computed test. Every row is asked on the tree of
 -- document 01's examples, from empty caches. Assumes nothing.
+use Rattle.std.specs.Prelude.{Option, Some, None}
 use Prim.Native.Nat.{ℕ}
 use mathlib.Core.Path.{◌≡◌, refl}
 use mathlib.Core.List.{List, [], ◌∷◌, map}
@@ -16,7 +17,6 @@ use Rattle.definition.specs.Test.{test_in_order, test}
 use Rattle.definition.specs.Probe.{probe_in_order, probe}
 use Rattle.definition.specs.Calls.{Call, access, loading, testing, probing, Line, A, L, T, N, calling}
 use Rattle.definition.specs.declared.Registers.{Registers}
-use Rattle.definition.specs.declared.Override.{Override}
 use Rattle.definition.proofs.Examples.{longs_of, tree}
 
 -- registers, a call, and the line that it must give
@@ -32,7 +32,7 @@ abbrev pub musts : List Row → List Line
 musts rows = map (λ (r : Row). r.must) rows
 
 -- 'logical 02041ABC', of this direction and override, as the user's data or program
-abbrev pub accessing : Bool → Bool → Override → Call
+abbrev pub accessing : Bool → Bool → Option ℕ → Call
 accessing write instruction code =
     access
     (record {
@@ -46,10 +46,10 @@ accessing write instruction code =
     })
 
 abbrev pub reading : Call
-reading = accessing false false Override.Plain
+reading = accessing false false None
 
 abbrev pub writing : Call
-writing = accessing true false Override.Plain
+writing = accessing true false None
 
 -- ---- request 02
 -- the registers of document 01's examples, with this TT0 and TT1
@@ -93,11 +93,11 @@ rows02 =
     -- base 1, mask 0: code 1 in both directions, and no other
     ∷ by_tt 0x02008110 0 reading itself
     ∷ by_tt 0x02008110 0 writing itself
-    ∷ by_tt 0x02008110 0 (accessing false true Override.Plain) mapped
-    ∷ by_tt 0x02008110 0 (accessing false false (Override.Code 0)) mapped
+    ∷ by_tt 0x02008110 0 (accessing false true None) mapped
+    ∷ by_tt 0x02008110 0 (accessing false false (Some 0)) mapped
     -- base 0 as the manual has it is code 1 by document 01's 10:8
     ∷ by_tt 0x02008100 0 reading mapped
-    ∷ by_tt 0x02008100 0 (accessing false false (Override.Code 0)) itself
+    ∷ by_tt 0x02008100 0 (accessing false false (Some 0)) itself
     -- TT0 for reads and TT1 for writes; bits 14:10, 7 and 3 mean nothing; another address
     ∷ by_tt 0x02008207 0x02008007 reading itself
     ∷ by_tt 0x02008207 0x02008007 writing itself

@@ -1,5 +1,6 @@
 -- Two addresses of one page take the same 68030 walk, so they ask for the same longs and end alike; and the cached base gives each its own
 -- physical address. Assumes nothing.
+use Rattle.std.specs.Prelude.{Option, Some}
 use Prim.Native.Nat.{ℕ, ◌+◌, ◌-◌, ◌*◌, ◌/◌, ◌%◌, ◌^◌, ◌≤◌, ◌<◌}
 use mathlib.Core.Path.{◌≡◌, refl, ap, sym, ◌∙◌}
 use mathlib.Core.List.{List, [], ◌∷◌}
@@ -18,8 +19,6 @@ use Rattle.definition.specs.declared.End.{End}
 use Rattle.definition.specs.declared.End.TheVariants.{Page, Invalid, LevelStop, BusError, Config}
 use Rattle.definition.specs.declared.Registers.{Registers}
 use Rattle.definition.specs.declared.Root.{Root}
-use Rattle.definition.specs.declared.Shift.{Shift}
-use Rattle.definition.specs.declared.Shift.TheVariants.{Bits}
 use Rattle.definition.proofs.Choice.{if_by, if_both, and_left, and_right}
 
 -- ---- the page shift
@@ -29,9 +28,9 @@ pub record Cut (sum s : ℕ) : Type 0 where
   pub most : s ≤ 31
   pub whole : sum + s ≡ 32
 
-from_cut : (sum s : ℕ) → shift_from sum ≡ Bits s → Cut sum s
+from_cut : (sum s : ℕ) → shift_from sum ≡ Some s → Cut sum s
 from_cut sum s =
-    if_by (λ (sh : Shift). sh ≡ Bits s → Cut sum s) (leb 1 sum && leb sum 31) _ _
+    if_by (λ (sh : Option ℕ). sh ≡ Some s → Cut sum s) (leb 1 sum && leb sum 31) _ _
     (λ t e.
     let low = leb-true 1 sum (and_left (leb 1 sum) _ t) in
     let high = leb-true sum 31 (and_right (leb 1 sum) _ t) in
@@ -39,7 +38,7 @@ from_cut sum s =
     record { some = omega arith; most = omega arith; whole = omega arith })
     (λ f e. let z : ◌≡◌ {A = ℕ} 0 1 = cc in absurd (omega arith))
 
-pub shift_cut : (tc s : ℕ) → shift_of tc ≡ Bits s → Cut (is_of tc + sum_of (used (widths_of tc))) s
+pub shift_cut : (tc s : ℕ) → shift_of tc ≡ Some s → Cut (is_of tc + sum_of (used (widths_of tc))) s
 shift_cut tc s e = from_cut (is_of tc + sum_of (used (widths_of tc))) s e
 
 -- ---- an index is a part of the address
@@ -76,7 +75,7 @@ module _ (a a' s : ℕ) (page : a / 2 ^ s ≡ a' / 2 ^ s) where
   with_same one false code c ws h = steps_same one c ws h
 
   -- the law: one page under one code, one outcome, and so the same longs asked for
-  pub page_030 : (m : Memory) (g : Registers) (code limit : ℕ) → shift_of g.tc ≡ Bits s → walk030 m g a code limit ≡ walk030 m g a' code limit
+  pub page_030 : (m : Memory) (g : Registers) (code limit : ℕ) → shift_of g.tc ≡ Some s → walk030 m g a code limit ≡ walk030 m g a' code limit
   page_030 m g code limit e =
       let cut = shift_cut g.tc s e in
       ap (walk_steps m (root_of g code) limit)
@@ -154,7 +153,7 @@ module _ (m : Memory) (most : ℕ) where
       (walk_most limit (step ∷ rest) h (root.address / 16 * 16) (eqb (root.limit % 4) 3) (start root.address))
 
 -- the law: a page that is found leaves the page's bits
-pub consumed_030 : (m : Memory) (g : Registers) (a code limit s long c : ℕ) → shift_of g.tc ≡ Bits s
+pub consumed_030 : (m : Memory) (g : Registers) (a code limit s long c : ℕ) → shift_of g.tc ≡ Some s
     → (walk030 m g a code limit).end ≡ Page long c → c + s ≤ 32
 consumed_030 m g a code limit s long c e h =
     let cut = shift_cut g.tc s e in

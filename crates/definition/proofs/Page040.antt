@@ -1,5 +1,6 @@
 -- Two addresses of one page take the same 68040 walk, so they ask for the same longs and end alike; and the cached base gives each its own
 -- physical address. Assumes nothing.
+use Rattle.std.specs.Prelude.{Option, Some, None}
 use Prim.Native.Nat.{ℕ, ◌/◌, ◌%◌, ◌^◌, ◌≤◌}
 use mathlib.Core.Path.{◌≡◌, refl}
 use mathlib.Core.List.{List, []}
@@ -12,17 +13,15 @@ use Rattle.definition.specs.Words.{bit_of}
 use Rattle.definition.specs.Memory.{Memory, fetch_of}
 use Rattle.definition.specs.Walk040.{Outcome040, on_long, page_bits, root_at, pointer_at, page_at, on_pointer, on_root, walk040, frame_of, physical040}
 use Rattle.definition.specs.Translate.{joined}
-use Rattle.definition.specs.declared.Fetched.{Fetched}
-use Rattle.definition.specs.declared.Fetched.TheVariants.{Long, Failed}
 use Rattle.definition.specs.declared.Registers.{Registers}
 use Rattle.definition.proofs.Choice.{if_both, if_alike}
 use Rattle.definition.proofs.Page030.{above}
 
 -- a long that is asked for, before two continuations that do the same
 pub long_next : (at : ℕ) (before : List ℕ) (next next' : ℕ → List ℕ → Outcome040) → ((x : ℕ) (asked : List ℕ) → next x asked ≡ next' x asked)
-    → (r : Fetched) → on_long at before next r ≡ on_long at before next' r
-long_next at before next next' h (Long x) = h x _
-long_next at before next next' h Failed = refl
+    → (r : Option ℕ) → on_long at before next r ≡ on_long at before next' r
+long_next at before next next' h (Some x) = h x _
+long_next at before next next' h None = refl
 
 few_bits : (tc : ℕ) → page_bits tc ≤ 13
 few_bits tc = if_both (λ (n : ℕ). n ≤ 13) (bit_of tc 14) _ _ (omega arith) (omega arith)

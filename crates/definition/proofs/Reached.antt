@@ -12,7 +12,7 @@ use borrow.Author.Tests.{lt-ltb, eq-eqb}
 use lib.Dec.{eqb, ltb}
 use lib.Pow.{split}
 use lib.ListN.{length, get_or, set, replicate}
-use Rattle.std.specs.Prelude.{if◌then◌else◌}
+use Rattle.std.specs.Prelude.{if◌then◌else◌, Option, Some, None}
 use Rattle.definition.specs.Words.{bit_of, first_of}
 use Rattle.definition.specs.Registers.{on}
 use Rattle.definition.specs.Memory.{Memory, in_ranges, inside, fetch_of}
@@ -24,8 +24,6 @@ use Rattle.definition.specs.Audit.{first_of_page, audit_from}
 use Rattle.definition.proofs.Replay.{Reached, start, then_call, Longs32}
 use Rattle.definition.specs.declared.Audit.{Audit}
 use Rattle.definition.specs.declared.Registers.{Registers}
-use Rattle.definition.specs.declared.Fetched.{Fetched}
-use Rattle.definition.specs.declared.Fetched.TheVariants.{Long, Failed}
 use Rattle.definition.specs.declared.End040.{End040}
 use Rattle.definition.specs.declared.End040.TheVariants.{Resident, Absent, Lost}
 use Rattle.definition.specs.declared.FaultCause.{FaultCause}
@@ -218,9 +216,9 @@ Fits (Resident field wp sup) = field < 2 ^ 32
 Fits (Absent missing) = Unit {0}
 Fits (Lost at) = Unit {0}
 
-abbrev FitsIn : Fetched → Type 0
-FitsIn (Long x) = x < 2 ^ 32
-FitsIn Failed = Unit {0}
+abbrev FitsIn : Option ℕ → Type 0
+FitsIn (Some x) = x < 2 ^ 32
+FitsIn None = Unit {0}
 
 abbrev Ends : Outcome040 → Type 0
 Ends o = Fits o.end
@@ -229,10 +227,10 @@ module _ (m : Memory) (l : Longs32 m) where
   fetch_fits : (at : ℕ) → FitsIn (fetch_of m at)
   fetch_fits at = if_both FitsIn (inside m.longs m.base at && not (in_ranges m.ranges at)) _ _ (l.each ((at - m.base) / 4)) tt
 
-  long_fits : (at : ℕ) (before : List ℕ) (next : ℕ → List ℕ → Outcome040) → ((x : ℕ) (asked : List ℕ) → x < 2 ^ 32 → Ends (next x asked)) → (r : Fetched) → FitsIn r
+  long_fits : (at : ℕ) (before : List ℕ) (next : ℕ → List ℕ → Outcome040) → ((x : ℕ) (asked : List ℕ) → x < 2 ^ 32 → Ends (next x asked)) → (r : Option ℕ) → FitsIn r
       → Ends (on_long at before next r)
-  long_fits at before next h (Long x) f = h x _ f
-  long_fits at before next h Failed f = tt
+  long_fits at before next h (Some x) f = h x _ f
+  long_fits at before next h None f = tt
 
   page_fits : (tables : Bool) (missing : FaultCause) (page : ℕ) (asked : List ℕ) → page < 2 ^ 32 → Ends (on_page tables missing page asked)
   page_fits tables missing page asked f = if_both Fits (eqb (page % 4) 0) (Absent missing) (Resident page (tables || bit_of page 2) (bit_of page 7)) tt f

@@ -7,7 +7,7 @@ use mathlib.Core.Logic.{◌⊎◌, inl, inr, ⊎_elim}
 use native.Mathlib.Omega.{arith}
 use lib.Dec.{eqb, ltb}
 use lib.ListN.{length}
-use Rattle.std.specs.Prelude.{if◌then◌else◌}
+use Rattle.std.specs.Prelude.{if◌then◌else◌, Option, Some, None}
 use Rattle.definition.specs.Words.{bit_of}
 use Rattle.definition.specs.Registers.{on, as_supervisor, as_instruction, walk_code, compared_code, code_of}
 use Rattle.definition.specs.Memory.{Memory}
@@ -28,10 +28,6 @@ use Rattle.definition.specs.Trace.{Record, Loads, Calls, Stores, Adds, Malformed
 use Rattle.definition.proofs.Replay.{In}
 use Rattle.definition.specs.declared.Registers.{Registers}
 use Rattle.definition.specs.declared.Access.{Access}
-use Rattle.definition.specs.declared.Shift.{Shift}
-use Rattle.definition.specs.declared.Shift.TheVariants.{Bits, NoPage}
-use Rattle.definition.specs.declared.Hit.{Hit}
-use Rattle.definition.specs.declared.Hit.TheVariants.{At, Miss}
 use Rattle.definition.specs.declared.End.{End}
 use Rattle.definition.specs.declared.End.TheVariants as end
 use Rattle.definition.specs.declared.End040.{End040}
@@ -62,16 +58,16 @@ pub data First : List Check → ℕ → Type 0 where
   later : {k : Check} {ks : List Check} {n : ℕ} → k.applies ≡ false → First ks n → First (k ∷ ks) n
 
 -- no check applies
-pub data None : List Check → Type 0 where
-  none : None []
-  passed : {k : Check} {ks : List Check} → k.applies ≡ false → None ks → None (k ∷ ks)
+pub data NoneApplies : List Check → Type 0 where
+  none : NoneApplies []
+  passed : {k : Check} {ks : List Check} → k.applies ≡ false → NoneApplies ks → NoneApplies (k ∷ ks)
 
-first_or_none : (ks : List Check) → First ks (first_that ks) ⊎ (None ks × (first_that ks ≡ 0))
+first_or_none : (ks : List Check) → First ks (first_that ks) ⊎ (NoneApplies ks × (first_that ks ≡ 0))
 first_or_none [] = inr (none, refl)
 first_or_none (k ∷ ks) = go k.applies refl (first_or_none ks)
   where
-    go : (b : Bool) → k.applies ≡ b → First ks (first_that ks) ⊎ (None ks × (first_that ks ≡ 0))
-        → First (k ∷ ks) (if b then k.number else first_that ks) ⊎ (None (k ∷ ks) × ((if b then k.number else first_that ks) ≡ 0))
+    go : (b : Bool) → k.applies ≡ b → First ks (first_that ks) ⊎ (NoneApplies ks × (first_that ks ≡ 0))
+        → First (k ∷ ks) (if b then k.number else first_that ks) ⊎ (NoneApplies (k ∷ ks) × ((if b then k.number else first_that ks) ≡ 0))
     go true e rest = inl (here e)
     go false e rest = ⊎_elim (λ f. inl (later e f)) (λ n. inr (passed e n.0, n.1)) rest
 
@@ -80,7 +76,7 @@ first_is [] n x' = elim x' [ ]
 first_is (k ∷ ks) _ (here e) = rw e
 first_is (k ∷ ks) n (later e f) = rw e (first_is ks n f)
 
-none_is : (ks : List Check) → None ks → first_that ks ≡ 0
+none_is : (ks : List Check) → NoneApplies ks → first_that ks ≡ 0
 none_is [] none = refl
 none_is (k ∷ ks) (passed e f) = rw e (none_is ks f)
 
@@ -90,7 +86,7 @@ first_in (k ∷ ks) _ (here e) = inl refl
 first_in (k ∷ ks) n (later e f) = inr (first_in ks n f)
 
 -- the number given is the first's that applies, or none applies and none is given
-pub given : (k : Checks) → First (ordered k) (refusal_of k) ⊎ (None (ordered k) × (refusal_of k ≡ 0))
+pub given : (k : Checks) → First (ordered k) (refusal_of k) ⊎ (NoneApplies (ordered k) × (refusal_of k ≡ 0))
 unfolding refusal_of
 given k = first_or_none (ordered k)
 
@@ -99,12 +95,12 @@ pub first_given : (k : Checks) (n : ℕ) → First (ordered k) n → refusal_of 
 unfolding refusal_of
 first_given k n f = first_is (ordered k) n f
 
-pub none_given : (k : Checks) → None (ordered k) → refusal_of k ≡ 0
+pub none_given : (k : Checks) → NoneApplies (ordered k) → refusal_of k ≡ 0
 unfolding refusal_of
 none_given k f = none_is (ordered k) f
 
 -- no number is given, so none applies
-pub none_applies : (k : Checks) → refusal_of k ≡ 0 → None (ordered k)
+pub none_applies : (k : Checks) → refusal_of k ≡ 0 → NoneApplies (ordered k)
 none_applies k e =
     ⊎_elim
     (λ f.
@@ -119,7 +115,7 @@ none_applies k e =
 pub none_four : (k : Checks) → refusal_of k ≡ 0 → k.four ≡ false
 none_four k e = go (none_applies k e)
   where
-    go : None (ordered k) → k.four ≡ false
+    go : NoneApplies (ordered k) → k.four ≡ false
     go (passed one (passed six (passed five (passed two (passed three (passed four rest)))))) = four
 
 -- no number is given but these: 7 is the program's own, for a malformed trace
@@ -187,13 +183,13 @@ module _ (g : Registers) (m : Memory) where
       let o = walk030 m g address code every_level in
       end030_never c code address write o.found.wp o.found.sup o.found.asked o.end
 
-  hit030_never : (c : Cache030) (code address : ℕ) (write : Bool) (shift : ℕ) (h : Hit) → in_searched (on_hit030 g m c code address write shift h) ≡ []
-  hit030_never c code address write shift (At base) = refl
-  hit030_never c code address write shift Miss = search_never c code address write
+  hit030_never : (c : Cache030) (code address : ℕ) (write : Bool) (shift : ℕ) (h : Option ℕ) → in_searched (on_hit030 g m c code address write shift h) ≡ []
+  hit030_never c code address write shift (Some base) = refl
+  hit030_never c code address write shift None = search_never c code address write
 
-  with030_never : (c : Cache030) (recorded : Bool) (code address : ℕ) (write : Bool) (s : Shift) → in_searched (with030 g m c recorded code address write s) ≡ []
-  with030_never c recorded code address write NoPage = search_never c code address write
-  with030_never c recorded code address write (Bits shift) =
+  with030_never : (c : Cache030) (recorded : Bool) (code address : ℕ) (write : Bool) (s : Option ℕ) → in_searched (with030 g m c recorded code address write s) ≡ []
+  with030_never c recorded code address write None = search_never c code address write
+  with030_never c recorded code address write (Some shift) =
       hit030_never (after_hit c recorded code (address / 2 ^ shift) shift) code address write shift
       (hit_of c code (address / 2 ^ shift) shift write)
 
@@ -208,9 +204,9 @@ module _ (g : Registers) (m : Memory) where
     end040_never asked (end040.Absent missing) = refl
     end040_never asked (end040.Lost at) = refl
 
-    hit040_never : (h : Hit) → in_translated (on_hit040 g a m c h) ≡ []
-    hit040_never (At base) = refl
-    hit040_never Miss = let o = walk040 m g a.address (as_supervisor a) in end040_never o.asked o.end
+    hit040_never : (h : Option ℕ) → in_translated (on_hit040 g a m c h) ≡ []
+    hit040_never (Some base) = refl
+    hit040_never None = let o = walk040 m g a.address (as_supervisor a) in end040_never o.asked o.end
 
     translate040_never : in_translated (translate040 g a m c) ≡ []
     unfolding translate040
@@ -288,13 +284,13 @@ in_probe (probe'.Address address) = []
 in_probe probe'.Nothing = []
 in_probe (probe'.Refused n) = n ∷ []
 
-probed_never : (f : ℕ → ℕ) (h : Hit) → in_probe (probed f h) ≡ []
-probed_never f (At base) = refl
-probed_never f Miss = refl
+probed_never : (f : ℕ → ℕ) (h : Option ℕ) → in_probe (probed f h) ≡ []
+probed_never f (Some base) = refl
+probed_never f None = refl
 
-probe030_never : (c : Cache030) (code : ℕ) (write : Bool) (address : ℕ) (s : Shift) → in_probe (probe030 c code write address s) ≡ []
-probe030_never c code write address NoPage = refl
-probe030_never c code write address (Bits shift) =
+probe030_never : (c : Cache030) (code : ℕ) (write : Bool) (address : ℕ) (s : Option ℕ) → in_probe (probe030 c code write address s) ≡ []
+probe030_never c code write address None = refl
+probe030_never c code write address (Some shift) =
     probed_never (λ (base : ℕ). hit_address base address shift) (hit_of c code (address / 2 ^ shift) shift write)
 
 module _ (g : Registers) (own instruction write : Bool) (address : ℕ) (c : Caches) where

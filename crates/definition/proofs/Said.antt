@@ -10,7 +10,7 @@ use borrow.Author.Tests.{ltb-true, ltb-false, eqb-true, eqb-false, eq-eqb}
 use lib.Dec.{eqb, ltb}
 use lib.ListN.{length, get_or, drop, length-drop}
 use lib.Seq.{get_or-drop}
-use Rattle.std.specs.Prelude.{if◌then◌else◌}
+use Rattle.std.specs.Prelude.{if◌then◌else◌, Option, Some, None}
 use Rattle.definition.specs.Words.{first_of}
 use Rattle.definition.specs.Memory.{Memory}
 use Rattle.definition.specs.Walk030.{shift_of}
@@ -23,8 +23,6 @@ use Rattle.definition.proofs.Replay.{In}
 use Rattle.definition.specs.declared.Audit.{Audit}
 use Rattle.definition.specs.declared.Audit.TheVariants as audit'
 use Rattle.definition.specs.declared.Registers.{Registers}
-use Rattle.definition.specs.declared.Shift.{Shift}
-use Rattle.definition.specs.declared.Shift.TheVariants.{Bits, NoPage}
 use Rattle.definition.proofs.Choice.{if_by, and_left}
 use Rattle.definition.proofs.Lists.{first_passes, first_least, none_passes}
 
@@ -64,9 +62,9 @@ all_fail p f from size =
 
 -- ---- the entries of the family's cache
 -- entry i of the 68030 cache is stale, under TC's shift
-abbrev stale_in : Registers → Memory → Cache030 → ℕ → Shift → Bool
-stale_in g m c i NoPage = false
-stale_in g m c i (Bits s) = eqb c.shift s && stale030 g m s (get_or c.entries i no_entry)
+abbrev stale_in : Registers → Memory → Cache030 → ℕ → Option ℕ → Bool
+stale_in g m c i None = false
+stale_in g m c i (Some s) = eqb c.shift s && stale030 g m s (get_or c.entries i no_entry)
 
 -- entry i of the family's cache is stale
 abbrev stale_by : Bool → Registers → Memory → Caches → ℕ → Bool
@@ -120,9 +118,9 @@ module _ (g : Registers) (m : Memory) (c : Caches) (from : ℕ) (accepted : refu
       say n (record { accepted = accepted; above = k.above l; within = l; stale = k.passes l; least = k.least }))
       (λ f. (accepted, k.none (ltb-false n (size_of g c) f))))
 
-  next_030 : (sh : Shift) → Next (λ (i : ℕ). stale_in g m c.c030 i sh) from (length c.c030.entries) (first_stale030 g m c.c030 from sh)
-  next_030 NoPage = all_fail _ (λ j. refl) from (length c.c030.entries)
-  next_030 (Bits s) = go (eqb c.c030.shift s)
+  next_030 : (sh : Option ℕ) → Next (λ (i : ℕ). stale_in g m c.c030 i sh) from (length c.c030.entries) (first_stale030 g m c.c030 from sh)
+  next_030 None = all_fail _ (λ j. refl) from (length c.c030.entries)
+  next_030 (Some s) = go (eqb c.c030.shift s)
     where
       go : (b : Bool) → Next (λ (i : ℕ). b && stale030 g m s (get_or c.c030.entries i no_entry)) from (length c.c030.entries)
           (if b then first_from (stale030 g m s) from c.c030.entries else length c.c030.entries)
@@ -150,7 +148,7 @@ pub says_by : (g : Registers) (m : Memory) (c : Caches) (from : ℕ) (a : Audit)
 says_by g m c from a e = subst (Says g m c from) e (audit_says g m c from)
 
 -- of the one cache and of the other
-pub stale_at_030 : (g : Registers) (m : Memory) (c : Caches) (i : ℕ) → eqb g.family 30 ≡ true → shift_of g.tc ≡ Bits c.c030.shift
+pub stale_at_030 : (g : Registers) (m : Memory) (c : Caches) (i : ℕ) → eqb g.family 30 ≡ true → shift_of g.tc ≡ Some c.c030.shift
     → stale_at g m c i ≡ stale030 g m c.c030.shift (get_or c.c030.entries i no_entry)
 stale_at_030 g m c i f e =
     ap (λ (b : Bool). stale_by b g m c i) f ∙ ap (stale_in g m c.c030 i) e ∙ rw (eq-eqb c.c030.shift c.c030.shift refl)
@@ -159,12 +157,12 @@ pub stale_at_040 : (g : Registers) (m : Memory) (c : Caches) (i : ℕ) → eqb g
 stale_at_040 g m c i f = ap (λ (b : Bool). stale_by b g m c i) f
 
 -- an entry of the 68030 cache is stale under TC's shift
-pub stale_shift : (g : Registers) (m : Memory) (c : Caches) (i : ℕ) → eqb g.family 30 ≡ true → stale_at g m c i ≡ true → shift_of g.tc ≡ Bits c.c030.shift
+pub stale_shift : (g : Registers) (m : Memory) (c : Caches) (i : ℕ) → eqb g.family 30 ≡ true → stale_at g m c i ≡ true → shift_of g.tc ≡ Some c.c030.shift
 stale_shift g m c i f t = go (shift_of g.tc) refl (sym (ap (λ (b : Bool). stale_by b g m c i) f) ∙ t)
   where
-    go : (sh : Shift) → shift_of g.tc ≡ sh → stale_in g m c.c030 i sh ≡ true → shift_of g.tc ≡ Bits c.c030.shift
-    go NoPage e t = absurd (false≢true t)
-    go (Bits s) e t = e ∙ ap (λ (n : ℕ). Bits n) (sym (eqb-true c.c030.shift s (and_left (eqb c.c030.shift s) _ t)))
+    go : (sh : Option ℕ) → shift_of g.tc ≡ sh → stale_in g m c.c030 i sh ≡ true → shift_of g.tc ≡ Some c.c030.shift
+    go None e t = absurd (false≢true t)
+    go (Some s) e t = e ∙ ap (λ (n : ℕ). Some n) (sym (eqb-true c.c030.shift s (and_left (eqb c.c030.shift s) _ t)))
 
 -- ---- going on
 -- entry i is named

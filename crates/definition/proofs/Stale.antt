@@ -1,5 +1,6 @@
 -- An entry that the audit names is wrong: where its own key finds it, a read or a write of its page gets another answer than the cacheless walk's, with the
 -- PMMU on and no transparent match. Assumes nothing but what the statements say.
+use Rattle.std.specs.Prelude.{Option, Some}
 use Prim.Native.Nat.{ℕ, ◌%◌, ◌^◌, ◌<◌}
 use mathlib.Core.Path.{◌≡◌, refl, ap, sym, ◌∙◌}
 use mathlib.Core.List.{List}
@@ -29,10 +30,7 @@ use Rattle.definition.specs.declared.End.{End}
 use Rattle.definition.specs.declared.End.TheVariants.{Page, Invalid, LevelStop, BusError, Config}
 use Rattle.definition.specs.declared.End040.{End040}
 use Rattle.definition.specs.declared.End040.TheVariants.{Resident, Absent, Lost}
-use Rattle.definition.specs.declared.Hit.TheVariants.{At}
 use Rattle.definition.specs.declared.Registers.{Registers}
-use Rattle.definition.specs.declared.Shift.{Shift}
-use Rattle.definition.specs.declared.Shift.TheVariants.{Bits}
 use Rattle.definition.specs.declared.Translation.{Translation}
 use Rattle.definition.specs.declared.Translation.TheVariants as translation
 use Rattle.definition.proofs.Choice.{if_both, and_left, and_right}
@@ -140,25 +138,25 @@ stale_is_030 g m s e t =
 
 -- what an access of a code gets from the caches, and from the tables
 module _ (g : Registers) (m : Memory) (c : Caches) (accepted : refusal_of (audit_checks g m c) ≡ 0) (on_is : on g ≡ true) (family : eqb g.family 30 ≡ true)
-    (s : ℕ) (sh : shift_of g.tc ≡ Bits s) (code : ℕ) (is : is_access_code code ≡ true) (write : Bool) (address : ℕ)
+    (s : ℕ) (sh : shift_of g.tc ≡ Some s) (code : ℕ) (is : is_access_code code ≡ true) (write : Bool) (address : ℕ)
     (seen : transparent g address (code_of (bit_of code 2) (eqb (code % 4) 2)) (eqb (code % 4) 2) write ≡ false) where
   abbrev its_access : Access
   its_access = plain_access (bit_of code 2) (eqb (code % 4) 2) write address
 
   with_caches : (d : Caches) → refusal_of (translate_checks g its_access m d) ≡ 0
-      → (translate g its_access m d).answer ≡ (with030 g m d.c030 false code address write (Bits s)).answer
+      → (translate g its_access m d).answer ≡ (with030 g m d.c030 false code address write (Some s)).answer
   unfolding translate030
   with_caches d r =
       by_030 g m its_access on_is seen family d r
       ∙ ap (λ (n : ℕ). (with030 g m d.c030 false n address write (shift_of g.tc)).answer) (code_again code is)
-      ∙ ap (λ (x : Shift). (with030 g m d.c030 false code address write x).answer) sh
+      ∙ ap (λ (x : Option ℕ). (with030 g m d.c030 false code address write x).answer) sh
 
-  from_caches : (translate g its_access m c).answer ≡ (with030 g m c.c030 false code address write (Bits s)).answer
+  from_caches : (translate g its_access m c).answer ≡ (with030 g m c.c030 false code address write (Some s)).answer
   from_caches = with_caches c accepted
 
   from_tables : (cacheless g its_access m).answer ≡ (concluded030 g.tc empty030 code address write (walk030 m g address code every_level)).answer
   unfolding search030
-  from_tables = with_caches empty_caches (same_refusal g m c its_access refl accepted) ∙ hits030.empty_answer g m code address write false (Bits s)
+  from_tables = with_caches empty_caches (same_refusal g m c its_access refl accepted) ∙ hits030.empty_answer g m code address write false (Some s)
 
 hit_first : (base page s : ℕ) → base < 2 ^ 32 → hit_address base (first_of_page page s) s ≡ base
 hit_first base page s l = rw (mul-mod_left page (2 ^ s)) (omega arith)
@@ -166,7 +164,7 @@ hit_first base page s l = rw (mul-mod_left page (2 ^ s)) (omega arith)
 -- where the entry's own key finds it, the entry answers what it permits
 entry_answers : (g : Registers) (m : Memory) (c : Cache030) (i : ℕ) (e : Entry) (write : Bool) → get_or c.entries i no_entry ≡ e → i < length c.entries
     → matching c e.code e.page ≡ i → (write && e.wp) ≡ false → e.base < 2 ^ 32
-    → (with030 g m c false e.code (first_of_page e.page c.shift) write (Bits c.shift)).answer ≡ Translation.Address e.base
+    → (with030 g m c false e.code (first_of_page e.page c.shift) write (Some c.shift)).answer ≡ Translation.Address e.base
 unfolding hit_of
 entry_answers g m c i e write is l k f low =
     rw (shl-shr e.page c.shift, k, is, eq-eqb c.shift c.shift refl, lt-ltb i (length c.entries) l, f)
@@ -179,7 +177,7 @@ entry_at c i = get_or c.c030.entries i no_entry
 pub record Shown (g : Registers) (m : Memory) (c : Caches) (i address code base : ℕ) : Type 0 where
   pub write : Bool
   pub tables : Translation
-  pub is : finding g m c i write ≡ Finding.Says address code (At base) tables
+  pub is : finding g m c i write ≡ Finding.Says address code (Some base) tables
   pub differs : Translation.Address base ≡ tables → ⊥
 
 module _ (g : Registers) (m : Memory) (c : Caches) (from i : ℕ) (h : audit_from g m c from ≡ Audit.Stale030 i) where
@@ -192,7 +190,7 @@ module _ (g : Registers) (m : Memory) (c : Caches) (from i : ℕ) (h : audit_fro
   its_names : Names g m c from i
   its_names = (says_by g m c from (Audit.Stale030 i) h).1
 
-  its_shift : shift_of g.tc ≡ Bits c.c030.shift
+  its_shift : shift_of g.tc ≡ Some c.c030.shift
   its_shift = stale_shift g m c i its_family its_names.stale
 
   pub named_030 : Stale030 g m c.c030.shift (entry_at c i)
@@ -290,7 +288,7 @@ same_self : (b : Bool) → same_bool b b ≡ true
 same_self true = refl
 same_self false = refl
 
-slot_hits : (s : Slot) (write : Bool) → s.valid ≡ true → forbids s.supervisor write s ≡ false → slot_hit s.frame s.supervisor write s ≡ At s.base
+slot_hits : (s : Slot) (write : Bool) → s.valid ≡ true → forbids s.supervisor write s ≡ false → slot_hit s.frame s.supervisor write s ≡ Some s.base
 slot_hits s write v f = rw (f, v, eq-eqb s.frame s.frame refl, same_self s.supervisor)
 
 -- a slot that stands in its own place answers what it permits

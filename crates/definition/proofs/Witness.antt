@@ -1,6 +1,7 @@
 -- The premises of demand 3 can be met by replays that differ in all else, and hits are what it speaks of: a pair of replays, one of traces and one of files, by computation;
 -- and so can those of a run from a clean snapshot.
 -- Assumes nothing.
+use Rattle.std.specs.Prelude.{None}
 use Prim.Native.Nat.{ℕ}
 use mathlib.Core.Path.{◌≡◌, refl}
 use mathlib.Core.List.{List, [], ◌∷◌, ◌++◌, map}
@@ -25,7 +26,6 @@ use Rattle.definition.proofs.Replay.{Moment, watched, other, memory_at, after_al
 use Rattle.definition.proofs.Marked.{kept_after, warmed, Marked, watching, plainly, record_in, moments_of, Under, watched_lines, prints}
 use Rattle.definition.specs.declared.Registers.{Registers}
 use Rattle.definition.specs.declared.Access.{Access}
-use Rattle.definition.specs.declared.Override.{Override}
 use Rattle.definition.specs.declared.Translation.TheVariants.{Address}
 use Rattle.definition.proofs.Lists.{All, all_at}
 use Rattle.definition.proofs.Independence.{independence}
@@ -108,7 +108,7 @@ registers =
 -- a read of user data
 abbrev pub reading : ℕ → Access
 reading address =
-    record { address = address; write = false; supervisor = false; instruction = false; own = false; code = Override.Plain; recorded = true }
+    record { address = address; write = false; supervisor = false; instruction = false; own = false; code = None; recorded = true }
 
 -- four memories that agree on the long at 4 alone: the third has no long at 0, and the fourth is refused
 abbrev one : Memory

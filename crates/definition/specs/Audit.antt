@@ -1,6 +1,6 @@
 -- The audit of a snapshot, added by the port: the first cached entry that is not what the walk of its key finds now, and what the two say.
 -- It reads the family, TC, CRP and SRP alone: neither the transparent registers nor whether the PMMU is on change what it says.
-use Rattle.std.specs.Prelude.{ℕ, ◌+◌, ◌*◌, ◌%◌, ◌^◌, Bool, true, false, not, ◌&&◌, ◌||◌, List, eqb, ltb, length, get_or, drop, if◌then◌else◌}
+use Rattle.std.specs.Prelude.{ℕ, ◌+◌, ◌*◌, ◌%◌, ◌^◌, Bool, true, false, not, ◌&&◌, ◌||◌, List, eqb, ltb, length, get_or, drop, if◌then◌else◌, Option, Some, None}
 use Rattle.definition.specs.Words.{bit_of, first_of}
 use Rattle.definition.specs.Registers.{all_registers, code_of}
 use Rattle.definition.specs.Memory.{Memory}
@@ -10,7 +10,7 @@ use Rattle.definition.specs.Cache030.{Entry, Cache030, no_entry, permitted}
 use Rattle.definition.specs.Cache040.{Slot, Cache040, no_slot, slot_hit}
 use Rattle.definition.specs.Refusal.{Checks, checks, no_family, bad_base, bad_range, bad_cache, unless}
 use Rattle.definition.specs.Translate.{Caches, cacheless}
-use Rattle.definition.specs.Types.{Registers, Access, Override, Hit, Miss, Shift, Bits, NoPage, End, End040, Audit, Finding}
+use Rattle.definition.specs.Types.{Registers, Access, End, End040, Audit, Finding}
 
 -- the address of a page's first byte
 abbrev pub first_of_page : ℕ → ℕ → ℕ
@@ -48,9 +48,9 @@ stale030 g m shift e =
     e.valid && is_access_code e.code && not (is_outcome030 e (first_of_page e.page shift) (found_for030 g m shift e))
 
 -- the first stale entry's index at `from` or above, and the number of entries or more where none is. 'A different shift misses'
-abbrev pub first_stale030 : Registers → Memory → Cache030 → ℕ → Shift → ℕ
-first_stale030 g m c from NoPage = length c.entries
-first_stale030 g m c from (Bits shift) =
+abbrev pub first_stale030 : Registers → Memory → Cache030 → ℕ → Option ℕ → ℕ
+first_stale030 g m c from None = length c.entries
+first_stale030 g m c from (Some shift) =
     if eqb c.shift shift then first_from (stale030 g m shift) from c.entries else length c.entries
 
 -- ---- the 68040
@@ -113,12 +113,12 @@ plain_access supervisor instruction write address =
       supervisor = supervisor;
       instruction = instruction;
       own = supervisor;
-      code = Override.Plain;
+      code = None;
       recorded = false;
     }
 
 -- a read or a write of the byte at an address under a code: what the cache gives it, against the cacheless walk's answer
-abbrev pub says : Registers → Memory → ℕ → ℕ → Bool → Hit → Finding
+abbrev pub says : Registers → Memory → ℕ → ℕ → Bool → Option ℕ → Finding
 says g m address code write cached =
     Finding.Says address code cached
     (cacheless (bare g) (plain_access (bit_of code 2) (eqb (code % 4) 2) write address) m).answer
@@ -126,7 +126,7 @@ says g m address code write cached =
 -- of its page's first byte
 abbrev pub finding030 : Registers → Memory → ℕ → Entry → Bool → Finding
 finding030 g m shift e write =
-    says g m (first_of_page e.page shift % 2 ^ 32) e.code write (if e.valid then permitted write e else Miss)
+    says g m (first_of_page e.page shift % 2 ^ 32) e.code write (if e.valid then permitted write e else None)
 
 -- the walk of the 68040 is the same for data and for instructions
 abbrev pub finding040 : Registers → Memory → Slot → Bool → Finding

@@ -1,7 +1,6 @@
 -- Document 01, 'The caches': the 68030's 22 entries, their matching, insert and flushes.
-use Rattle.std.specs.Prelude.{ℕ, ◌+◌, ◌-◌, ◌/◌, ◌^◌, Bool, true, false, ◌&&◌, not, List, map, eqb, ltb, leb, length, get_or, set, replicate, if◌then◌else◌}
+use Rattle.std.specs.Prelude.{ℕ, ◌+◌, ◌-◌, ◌/◌, ◌^◌, Bool, true, false, ◌&&◌, not, List, map, eqb, ltb, leb, length, get_or, set, replicate, if◌then◌else◌, Option, Some, None}
 use Rattle.definition.specs.Words.{agrees, first_of, count_of, all_of}
-use Rattle.definition.specs.Types.{Hit, At, Miss}
 
 -- 'keyed by the walk's code .. and page', with the page's base, WP and a stamp
 pub record Entry : Type 0 where
@@ -81,12 +80,12 @@ abbrev pub entry_for : Cache030 → ℕ → ℕ → Entry
 entry_for c code page = get_or c.entries (matching c code page) no_entry
 
 -- 'WP .. makes a write miss'
-abbrev pub permitted : Bool → Entry → Hit
-permitted write e = if write && e.wp then Miss else At e.base
+abbrev pub permitted : Bool → Entry → Option ℕ
+permitted write e = if write && e.wp then None else Some e.base
 
 -- the base of the page's entry, unless 'WP .. makes a write miss'
-unfoldable pub hit_of : Cache030 → ℕ → ℕ → ℕ → Bool → Hit
-hit_of c code page shift write = if found c code page shift then permitted write (entry_for c code page) else Miss
+unfoldable pub hit_of : Cache030 → ℕ → ℕ → ℕ → Bool → Option ℕ
+hit_of c code page shift write = if found c code page shift then permitted write (entry_for c code page) else None
 
 -- the cache after it: a recorded hit is a use, 'even if WP then makes a write miss'
 unfoldable pub after_hit : Cache030 → Bool → ℕ → ℕ → ℕ → Cache030

@@ -1,6 +1,5 @@
 -- Document 01, 'The caches': the 68040's 64 slots.
-use Rattle.std.specs.Prelude.{ℕ, ◌%◌, Bool, true, false, ◌&&◌, ◌||◌, not, List, map, eqb, get_or, set, replicate, if◌then◌else◌}
-use Rattle.definition.specs.Types.{Hit, At, Miss}
+use Rattle.std.specs.Prelude.{ℕ, ◌%◌, Bool, true, false, ◌&&◌, ◌||◌, not, List, map, eqb, get_or, set, replicate, if◌then◌else◌, Option, Some, None}
 
 -- 'key frame .. and supervisor', with the page's base, W and S
 pub record Slot : Type 0 where
@@ -41,12 +40,12 @@ abbrev pub forbids : Bool → Bool → Slot → Bool
 forbids supervisor write s = write && s.wp || not supervisor && s.sup
 
 -- 'A hit that protection forbids is a miss.'
-abbrev pub slot_hit : ℕ → Bool → Bool → Slot → Hit
+abbrev pub slot_hit : ℕ → Bool → Bool → Slot → Option ℕ
 slot_hit frame supervisor write s =
-    if holds frame supervisor s && not (forbids supervisor write s) then At s.base else Miss
+    if holds frame supervisor s && not (forbids supervisor write s) then Some s.base else None
 
 -- the base of the frame's slot
-unfoldable pub hit040 : Cache040 → ℕ → Bool → Bool → Hit
+unfoldable pub hit040 : Cache040 → ℕ → Bool → Bool → Option ℕ
 hit040 c frame supervisor write = slot_hit frame supervisor write (slot_at c frame)
 
 -- a page takes its slot, whatever was there

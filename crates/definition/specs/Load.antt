@@ -1,5 +1,5 @@
 -- Document 01, 'The 68030 walk': PLOAD.
-use Rattle.std.specs.Prelude.{ℕ, List, [], Bool, true, false, not, if◌then◌else◌}
+use Rattle.std.specs.Prelude.{ℕ, List, [], Bool, true, false, not, if◌then◌else◌, Option, Some, None}
 use Rattle.definition.specs.Registers.{on}
 use Rattle.definition.specs.Memory.{Memory}
 use Rattle.definition.specs.Transparent.{transparent030}
@@ -7,7 +7,7 @@ use Rattle.definition.specs.Walk030.{shift_of}
 use Rattle.definition.specs.Cache030.{Cache030, flushed_page}
 use Rattle.definition.specs.Refusal.{Checks, checks, no_family, bad_base, bad_range, bad_cache, above_seven, not030, unless}
 use Rattle.definition.specs.Translate.{Caches, Searched, search030}
-use Rattle.definition.specs.Types.{Registers, Shift, Bits, NoPage, Load}
+use Rattle.definition.specs.Types.{Registers, Load}
 
 -- an answer, the longs asked for, and the next caches
 pub record Loaded : Type 0 where
@@ -20,9 +20,9 @@ abbrev pub loaded : Load → List ℕ → Cache030 → Caches → Loaded
 loaded answer asked cache c = record { answer = answer; asked = asked; caches = record { c030 = cache; c040 = c.c040 } }
 
 -- 'stops if there is no page shift or TT0 or TT1 matches'
-abbrev pub stopped : Shift → Bool → Bool
-stopped NoPage tt = true
-stopped (Bits shift) tt = tt
+abbrev pub stopped : Option ℕ → Bool → Bool
+stopped None tt = true
+stopped (Some shift) tt = tt
 
 -- 'searches and caches as above with the raw code': the search's address or fault is left out; the longs asked for and the cache are its own
 abbrev pub searched_for : Searched → Caches → Loaded

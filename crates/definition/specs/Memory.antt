@@ -1,7 +1,7 @@
 -- Document 01, 'What a call is given': table memory, and what asking for one long gives.
-use Rattle.std.specs.Prelude.{ℕ, ◌+◌, ◌-◌, ◌/◌, ◌%◌, List, Bool, not, ◌&&◌, ◌||◌, length, get_or, ltb, leb, eqb, if◌then◌else◌}
+use Rattle.std.specs.Prelude.{ℕ, ◌+◌, ◌-◌, ◌/◌, ◌%◌, List, Bool, not, ◌&&◌, ◌||◌, length, get_or, ltb, leb, eqb, if◌then◌else◌, Option, Some, None}
 use Rattle.definition.specs.Words.{any_of}
-use Rattle.definition.specs.Types.{Range, Fetched, Long, Failed}
+use Rattle.definition.specs.Types.{Range}
 
 -- 'lent longs from a base address, and bus-error ranges'
 pub record Memory : Type 0 where
@@ -31,10 +31,10 @@ abbrev pub inside : List ℕ → ℕ → ℕ → Bool
 inside longs base at = leb base at && eqb ((at - base) % 4) 0 && ltb ((at - base) / 4) (length longs)
 
 -- 'A long fails if it lies outside the longs or any of its four bytes lies in a range.'
-abbrev pub fetch_with : List ℕ → ℕ → ℕ → Bool → Fetched
+abbrev pub fetch_with : List ℕ → ℕ → ℕ → Bool → Option ℕ
 fetch_with longs base at hit =
-    if inside longs base at && not hit then Long (get_or longs ((at - base) / 4) 0) else Failed
+    if inside longs base at && not hit then Some (get_or longs ((at - base) / 4) 0) else None
 
 -- what asking for the long at `at` gives
-abbrev pub fetch_of : Memory → ℕ → Fetched
+abbrev pub fetch_of : Memory → ℕ → Option ℕ
 fetch_of m at = fetch_with m.longs m.base at (in_ranges m.ranges at)

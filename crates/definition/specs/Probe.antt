@@ -1,5 +1,5 @@
 -- Document 01, 'The caches': the probe.
-use Rattle.std.specs.Prelude.{ℕ, ◌/◌, ◌^◌, Bool, false, not, eqb, if◌then◌else◌}
+use Rattle.std.specs.Prelude.{ℕ, ◌/◌, ◌^◌, Bool, false, not, eqb, if◌then◌else◌, Option, Some, None}
 use Rattle.definition.specs.Registers.{on, code_of}
 use Rattle.definition.specs.Transparent.{transparent}
 use Rattle.definition.specs.Walk030.{shift_of}
@@ -8,17 +8,17 @@ use Rattle.definition.specs.Cache030.{Cache030, hit_of}
 use Rattle.definition.specs.Cache040.{Cache040, hit040}
 use Rattle.definition.specs.Refusal.{Checks, checks, no_family, bad_cache, unless}
 use Rattle.definition.specs.Translate.{Caches, hit_address, joined}
-use Rattle.definition.specs.Types.{Registers, Shift, Bits, NoPage, Hit, At, Miss, Probe}
+use Rattle.definition.specs.Types.{Registers, Probe}
 
 -- a hit's address, 'else nothing'
-abbrev pub probed : (ℕ → ℕ) → Hit → Probe
-probed address (At base) = Probe.Address (address base)
-probed address Miss = Probe.Nothing
+abbrev pub probed : (ℕ → ℕ) → Option ℕ → Probe
+probed address (Some base) = Probe.Address (address base)
+probed address None = Probe.Nothing
 
 -- 'an unrecorded hit, else nothing'
-abbrev pub probe030 : Cache030 → ℕ → Bool → ℕ → Shift → Probe
-probe030 c code write address NoPage = Probe.Nothing
-probe030 c code write address (Bits shift) =
+abbrev pub probe030 : Cache030 → ℕ → Bool → ℕ → Option ℕ → Probe
+probe030 c code write address None = Probe.Nothing
+probe030 c code write address (Some shift) =
     probed (λ (base : ℕ). hit_address base address shift) (hit_of c code (address / 2 ^ shift) shift write)
 
 -- of the 68040, by 'the CPU's own state'

@@ -1,9 +1,9 @@
 -- Document 01, 'Numbers of refusal': what each number says, and the order in which they are given.
-use Rattle.std.specs.Prelude.{ℕ, ◌+◌, ◌*◌, ◌%◌, ◌^◌, List, [], ◌∷◌, Bool, false, not, ◌&&◌, ◌||◌, ltb, leb, eqb, length, if◌then◌else◌}
+use Rattle.std.specs.Prelude.{ℕ, ◌+◌, ◌*◌, ◌%◌, ◌^◌, List, [], ◌∷◌, Bool, false, not, ◌&&◌, ◌||◌, ltb, leb, eqb, length, if◌then◌else◌, Option, Some, None}
 use Rattle.definition.specs.Words.{any_of}
 use Rattle.definition.specs.Memory.{Memory}
 use Rattle.definition.specs.Cache030.{Cache030}
-use Rattle.definition.specs.Types.{Range, Override}
+use Rattle.definition.specs.Types.{Range}
 
 -- 1: 'family not 30, 40, 60'
 abbrev pub no_family : ℕ → Bool
@@ -34,9 +34,9 @@ abbrev pub above_seven : ℕ → Bool
 above_seven n = ltb 7 n
 
 -- of an override
-abbrev pub bad_override : Override → Bool
-bad_override Override.Plain = false
-bad_override (Override.Code code) = above_seven code
+abbrev pub bad_override : Option ℕ → Bool
+bad_override None = false
+bad_override (Some code) = above_seven code
 
 -- 5: '040 page frame of 2^20 or more'
 abbrev pub bad_frame : ℕ → Bool

@@ -1,7 +1,7 @@
 -- Document 01, 'What a call is given': what follows from the registers and the access alone.
-use Rattle.std.specs.Prelude.{ℕ, ◌%◌, Bool, true, false, ◌&&◌, eqb, if◌then◌else◌}
+use Rattle.std.specs.Prelude.{ℕ, ◌%◌, Bool, true, false, ◌&&◌, eqb, if◌then◌else◌, Option, Some, None}
 use Rattle.definition.specs.Words.{bit_of}
-use Rattle.definition.specs.Types.{Registers, Root, Access, Override}
+use Rattle.definition.specs.Types.{Registers, Root, Access}
 
 -- 'Registers', in the order of document 01: the family, the two flags, and 11 longs
 abbrev pub all_registers : ℕ → Bool → Bool → ℕ → ℕ → ℕ → ℕ → ℕ → ℕ → ℕ → ℕ → ℕ → ℕ → ℕ → Registers
@@ -33,14 +33,14 @@ code_of true false = 5
 code_of true true = 6
 
 -- 'An override replaces supervisor by bit 2 ..'
-abbrev pub supervisor_by : Override → Bool → Bool
-supervisor_by Override.Plain supervisor = supervisor
-supervisor_by (Override.Code code) supervisor = bit_of code 2
+abbrev pub supervisor_by : Option ℕ → Bool → Bool
+supervisor_by None supervisor = supervisor
+supervisor_by (Some code) supervisor = bit_of code 2
 
 -- '.. and instruction by "low two bits are 2".'
-abbrev pub instruction_by : Override → Bool → Bool
-instruction_by Override.Plain instruction = instruction
-instruction_by (Override.Code code) instruction = eqb (code % 4) 2
+abbrev pub instruction_by : Option ℕ → Bool → Bool
+instruction_by None instruction = instruction
+instruction_by (Some code) instruction = eqb (code % 4) 2
 
 -- an access's privilege, its override taken in
 abbrev pub as_supervisor : Access → Bool
@@ -55,9 +55,9 @@ abbrev pub walk_code : Access → ℕ
 walk_code a = code_of (as_supervisor a) (as_instruction a)
 
 -- 'The code compared .. is the override, else from the CPU's own state and instruction'
-abbrev pub compared_by : Override → Bool → Bool → ℕ
-compared_by Override.Plain own instruction = code_of own instruction
-compared_by (Override.Code code) own instruction = code
+abbrev pub compared_by : Option ℕ → Bool → Bool → ℕ
+compared_by None own instruction = code_of own instruction
+compared_by (Some code) own instruction = code
 
 -- of an access
 abbrev pub compared_code : Access → ℕ

@@ -1,12 +1,12 @@
 -- Document 01, 'The trace and the program': what each record means, what is malformed, which line it prints, and how a whole file plays.
-use Rattle.std.specs.Prelude.{ℕ, zero, suc, ◌+◌, ◌*◌, ◌/◌, ◌%◌, ◌^◌, List, [], ◌∷◌, ◌++◌, Bool, true, false, not, ◌&&◌, ltb, leb, eqb, length, get_or, set, take, drop, replicate, if◌then◌else◌}
+use Rattle.std.specs.Prelude.{ℕ, zero, suc, ◌+◌, ◌*◌, ◌/◌, ◌%◌, ◌^◌, List, [], ◌∷◌, ◌++◌, Bool, true, false, not, ◌&&◌, ltb, leb, eqb, length, get_or, set, take, drop, replicate, if◌then◌else◌, Option, Some, None}
 use Rattle.definition.specs.Words.{bit_of}
 use Rattle.definition.specs.Registers.{all_registers}
 use Rattle.definition.specs.Memory.{Memory, memory}
 use Rattle.definition.specs.Refusal.{Checks, checks, no_family, bad_store, crossed, no_room, unless}
 use Rattle.definition.specs.Translate.{Caches, empty_caches}
 use Rattle.definition.specs.Calls.{Call, access, loading, testing, probing, flushing_all, flushing_code, flushing_page, flushing_frame, Line, A, F, L, T, K, N, R, Called, calling}
-use Rattle.definition.specs.Types.{Registers, Range, Override}
+use Rattle.definition.specs.Types.{Registers, Range}
 
 -- ---- records
 -- what a record's body says; or nothing that document 01 has
@@ -38,8 +38,8 @@ kind01 b =
     (be b 38) (be b 42)))
 
 -- 'override or FF'
-abbrev pub override_of : ℕ → Override
-override_of n = if eqb n 255 then Override.Plain else Override.Code n
+abbrev pub override_of : ℕ → Option ℕ
+override_of n = if eqb n 255 then None else Some n
 
 -- '02: flags (0 write, 1 supervisor, 2 instruction, 3 CPU state, 4 record), override or FF, address'
 abbrev pub kind02 : List ℕ → Record

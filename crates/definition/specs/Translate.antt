@@ -1,5 +1,5 @@
 -- Document 01, 'Translation order', and what the walks' ends give.
-use Rattle.std.specs.Prelude.{ℕ, ◌+◌, ◌-◌, ◌/◌, ◌%◌, ◌^◌, List, [], Bool, false, not, ◌&&◌, eqb, if◌then◌else◌}
+use Rattle.std.specs.Prelude.{ℕ, ◌+◌, ◌-◌, ◌/◌, ◌%◌, ◌^◌, List, [], Bool, false, not, ◌&&◌, eqb, if◌then◌else◌, Option, Some, None}
 use Rattle.std.specs.Int.Bits.{bit_or}
 use Rattle.definition.specs.Words.{bit_of}
 use Rattle.definition.specs.Registers.{on, as_supervisor, as_instruction, walk_code, compared_code}
@@ -10,7 +10,7 @@ use Rattle.definition.specs.Walk040.{Outcome040, walk040, page_bits, frame_of, p
 use Rattle.definition.specs.Cache030.{Cache030, empty030, hit_of, after_hit, inserted}
 use Rattle.definition.specs.Cache040.{Cache040, empty040, hit040, inserted040}
 use Rattle.definition.specs.Refusal.{Checks, checks, no_family, bad_base, bad_range, bad_cache, bad_override, unless}
-use Rattle.definition.specs.Types.{Registers, Access, Shift, Bits, NoPage, Hit, At, Miss, End, End040, FaultCause, Translation, FaultKind}
+use Rattle.definition.specs.Types.{Registers, Access, End, End040, FaultCause, Translation, FaultKind}
 
 -- 'Two caches'
 pub record Caches : Type 0 where
@@ -57,9 +57,9 @@ abbrev pub hit_address : ℕ → ℕ → ℕ → ℕ
 hit_address base address shift = (base + address % 2 ^ shift) % 2 ^ 32
 
 -- 'the page's base is cached', where there is a page shift
-abbrev pub cached : Shift → Cache030 → ℕ → ℕ → ℕ → Bool → Cache030
-cached NoPage c code address physical wp = c
-cached (Bits shift) c code address physical wp =
+abbrev pub cached : Option ℕ → Cache030 → ℕ → ℕ → ℕ → Bool → Cache030
+cached None c code address physical wp = c
+cached (Some shift) c code address physical wp =
     inserted c code (address / 2 ^ shift) shift (base_of physical address shift) wp
 
 -- what a search gives: the answer, the longs asked for, and the next 68030 cache
@@ -101,14 +101,14 @@ search030 g m c code address write =
     concluded030 g.tc c code address write (walk030 m g address code every_level)
 
 -- 'A hit has 0.'
-abbrev pub on_hit030 : Registers → Memory → Cache030 → ℕ → ℕ → Bool → ℕ → Hit → Searched
-on_hit030 g m c code address write shift (At base) = searched (Translation.Address (hit_address base address shift)) [] c
-on_hit030 g m c code address write shift Miss = search030 g m c code address write
+abbrev pub on_hit030 : Registers → Memory → Cache030 → ℕ → ℕ → Bool → ℕ → Option ℕ → Searched
+on_hit030 g m c code address write shift (Some base) = searched (Translation.Address (hit_address base address shift)) [] c
+on_hit030 g m c code address write shift None = search030 g m c code address write
 
 -- 'cache, walk'
-abbrev pub with030 : Registers → Memory → Cache030 → Bool → ℕ → ℕ → Bool → Shift → Searched
-with030 g m c recorded code address write NoPage = search030 g m c code address write
-with030 g m c recorded code address write (Bits shift) =
+abbrev pub with030 : Registers → Memory → Cache030 → Bool → ℕ → ℕ → Bool → Option ℕ → Searched
+with030 g m c recorded code address write None = search030 g m c code address write
+with030 g m c recorded code address write (Some shift) =
     on_hit030 g m (after_hit c recorded code (address / 2 ^ shift) shift) code address write shift
     (hit_of c code (address / 2 ^ shift) shift write)
 
@@ -146,9 +146,9 @@ abbrev pub joined : ℕ → ℕ → ℕ → ℕ
 joined tc base address = bit_or base (address % 2 ^ page_bits tc) % 2 ^ 32
 
 -- 'cache, walk'
-abbrev pub on_hit040 : Registers → Access → Memory → Caches → Hit → Translated
-on_hit040 g a m c (At base) = at_once (Translation.Address (joined g.tc base a.address)) c
-on_hit040 g a m c Miss = concluded040 g a c (walk040 m g a.address (as_supervisor a))
+abbrev pub on_hit040 : Registers → Access → Memory → Caches → Option ℕ → Translated
+on_hit040 g a m c (Some base) = at_once (Translation.Address (joined g.tc base a.address)) c
+on_hit040 g a m c None = concluded040 g a c (walk040 m g a.address (as_supervisor a))
 
 -- 'key frame (address shifted right by 12 or 13) and supervisor'
 unfoldable pub translate040 : Registers → Access → Memory → Caches → Translated

@@ -1,19 +1,12 @@
 -- What a call is given and what it answers: the structs and enums of src/lib.rt, which every crate shares.
 pub use Rattle.definition.specs.declared.Root.{Root}
 pub use Rattle.definition.specs.declared.Registers.{Registers}
-pub use Rattle.definition.specs.declared.Override.{Override}
 pub use Rattle.definition.specs.declared.Access.{Access}
 pub use Rattle.definition.specs.declared.Range.{Range}
-pub use Rattle.definition.specs.declared.Fetched.{Fetched}
-pub use Rattle.definition.specs.declared.Fetched.TheVariants.{Long, Failed}
 pub use Rattle.definition.specs.declared.End.{End}
 pub use Rattle.definition.specs.declared.End.TheVariants.{Page, Invalid, LevelStop, BusError, Config}
 pub use Rattle.definition.specs.declared.End040.{End040}
 pub use Rattle.definition.specs.declared.End040.TheVariants.{Resident, Absent, Lost}
-pub use Rattle.definition.specs.declared.Shift.{Shift}
-pub use Rattle.definition.specs.declared.Shift.TheVariants.{Bits, NoPage}
-pub use Rattle.definition.specs.declared.Hit.{Hit}
-pub use Rattle.definition.specs.declared.Hit.TheVariants.{At, Miss}
 pub use Rattle.definition.specs.declared.FaultKind.{FaultKind}
 pub use Rattle.definition.specs.declared.FaultCause.{FaultCause}
 pub use Rattle.definition.specs.declared.Translation.{Translation}

@@ -1,9 +1,9 @@
 -- Document 01, 'The 68030 walk': the levels that TC, the address and the code settle, and what walking them finds.
-use Rattle.std.specs.Prelude.{ℕ, ◌+◌, ◌-◌, ◌*◌, ◌/◌, ◌%◌, ◌^◌, List, [], ◌∷◌, ◌++◌, Bool, true, false, ◌&&◌, ◌||◌, ltb, leb, eqb, if◌then◌else◌}
+use Rattle.std.specs.Prelude.{ℕ, ◌+◌, ◌-◌, ◌*◌, ◌/◌, ◌%◌, ◌^◌, List, [], ◌∷◌, ◌++◌, Bool, true, false, ◌&&◌, ◌||◌, ltb, leb, eqb, if◌then◌else◌, Option, Some, None}
 use Rattle.definition.specs.Words.{bit_of}
 use Rattle.definition.specs.Memory.{Memory, fetch_of}
 use Rattle.definition.specs.Registers.{root_of}
-use Rattle.definition.specs.Types.{Fetched, Long, Failed, End, Page, Invalid, LevelStop, BusError, Config, Registers, Root, Shift, Bits, NoPage}
+use Rattle.definition.specs.Types.{End, Page, Invalid, LevelStop, BusError, Config, Registers, Root}
 
 -- ---- descriptors
 -- 'entry i is 4i or 8i after it, wrapping'
@@ -21,19 +21,19 @@ pub data Descriptor : Type 0 where
   Lost : ℕ → List ℕ → Descriptor
 
 -- 'Short descriptors are one long ..; type in 1:0 and WP in bit 2 of the first'
-abbrev pub short_of : ℕ → Fetched → Descriptor
-short_of at (Long first) = Whole (first % 4) first (bit_of first 2) false (at ∷ [])
-short_of at Failed = Lost at (at ∷ [])
+abbrev pub short_of : ℕ → Option ℕ → Descriptor
+short_of at (Some first) = Whole (first % 4) first (bit_of first 2) false (at ∷ [])
+short_of at None = Lost at (at ∷ [])
 
 -- '.. long ones two; .. S in bit 8 of the first long of a long one; the address field is the last long', the one at `next`
-abbrev pub on_second : ℕ → ℕ → ℕ → Fetched → Descriptor
-on_second first at next (Long second) = Whole (first % 4) second (bit_of first 2) (bit_of first 8) (at ∷ next ∷ [])
-on_second first at next Failed = Lost next (at ∷ next ∷ [])
+abbrev pub on_second : ℕ → ℕ → ℕ → Option ℕ → Descriptor
+on_second first at next (Some second) = Whole (first % 4) second (bit_of first 2) (bit_of first 8) (at ∷ next ∷ [])
+on_second first at next None = Lost next (at ∷ next ∷ [])
 
 -- by its first long: the second is asked for where the first was given
-abbrev pub long_of : Memory → ℕ → Fetched → Descriptor
-long_of m at (Long first) = on_second first at (entry_of at 1 false) (fetch_of m (entry_of at 1 false))
-long_of m at Failed = Lost at (at ∷ [])
+abbrev pub long_of : Memory → ℕ → Option ℕ → Descriptor
+long_of m at (Some first) = on_second first at (entry_of at 1 false) (fetch_of m (entry_of at 1 false))
+long_of m at None = Lost at (at ∷ [])
 
 -- the descriptor at `at`, short or long
 unfoldable pub read_of : Memory → ℕ → Bool → Descriptor
@@ -181,9 +181,9 @@ sum_of [] = 0
 sum_of (w ∷ ws) = w + sum_of ws
 
 -- 'The page shift is 32 - (IS + levels up to the first zero) if that sum is 1 to 31; else nothing is cached.'
-abbrev pub shift_from : ℕ → Shift
-shift_from sum = if leb 1 sum && leb sum 31 then Bits (32 - sum) else NoPage
+abbrev pub shift_from : ℕ → Option ℕ
+shift_from sum = if leb 1 sum && leb sum 31 then Some (32 - sum) else None
 
 -- the page shift that TC gives
-abbrev pub shift_of : ℕ → Shift
+abbrev pub shift_of : ℕ → Option ℕ
 shift_of tc = shift_from (is_of tc + sum_of (used (widths_of tc)))

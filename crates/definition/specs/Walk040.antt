@@ -1,9 +1,9 @@
 -- Document 01, 'The 68040 walk, also for family 60'.
-use Rattle.std.specs.Prelude.{ℕ, ◌+◌, ◌*◌, ◌/◌, ◌%◌, ◌^◌, List, [], ◌∷◌, ◌++◌, Bool, false, ◌||◌, ltb, eqb, if◌then◌else◌}
+use Rattle.std.specs.Prelude.{ℕ, ◌+◌, ◌*◌, ◌/◌, ◌%◌, ◌^◌, List, [], ◌∷◌, ◌++◌, Bool, false, ◌||◌, ltb, eqb, if◌then◌else◌, Option, Some, None}
 use Rattle.definition.specs.Words.{bit_of}
 use Rattle.definition.specs.Memory.{Memory, fetch_of}
 use Rattle.definition.specs.Walk030.{entry_of}
-use Rattle.definition.specs.Types.{Fetched, Long, Failed, End040, Resident, Absent, Lost, FaultCause, Registers}
+use Rattle.definition.specs.Types.{End040, Resident, Absent, Lost, FaultCause, Registers}
 
 -- how a walk ended, with the address of each long that it asked for
 pub record Outcome040 : Type 0 where
@@ -15,9 +15,9 @@ abbrev pub ended040 : End040 → List ℕ → Outcome040
 ended040 e asked = record { end = e; asked = asked }
 
 -- the long at `at` is asked for, after those before it: what it gives decides, or it fails
-abbrev pub on_long : ℕ → List ℕ → (ℕ → List ℕ → Outcome040) → Fetched → Outcome040
-on_long at before next Failed = ended040 (Lost at) (before ++ (at ∷ []))
-on_long at before next (Long x) = next x (before ++ (at ∷ []))
+abbrev pub on_long : ℕ → List ℕ → (ℕ → List ℕ → Outcome040) → Option ℕ → Outcome040
+on_long at before next None = ended040 (Lost at) (before ++ (at ∷ []))
+on_long at before next (Some x) = next x (before ++ (at ∷ []))
 
 -- and so by what the memory gives
 abbrev pub asks : Memory → ℕ → List ℕ → (ℕ → List ℕ → Outcome040) → Outcome040

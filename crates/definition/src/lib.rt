@@ -28,14 +28,7 @@ pub struct Registers {
     pub dtt1: u32,
 }
 
-// A function-code override: none, or the code.
-#[derive(Clone, Copy)]
-pub enum Override {
-    Plain,
-    Code(u32),
-}
-
-// An access. `own` is the CPU's own supervisor state, `recorded` whether hits record a use.
+// An access. `own` is the CPU's own supervisor state, `code` a function-code override where there is one, `recorded` whether hits record a use.
 #[derive(Clone, Copy)]
 pub struct Access {
     pub address: u32,
@@ -43,7 +36,7 @@ pub struct Access {
     pub supervisor: bool,
     pub instruction: bool,
     pub own: bool,
-    pub code: Override,
+    pub code: Option<u32>,
     pub recorded: bool,
 }
 
@@ -53,13 +46,6 @@ pub struct Access {
 pub struct Range {
     pub first: u32,
     pub last: u32,
-}
-
-// What asking for one long gives.
-#[derive(Clone, Copy)]
-pub enum Fetched {
-    Long(u32),
-    Failed,
 }
 
 // How a 68030 walk ends.
@@ -78,20 +64,6 @@ pub enum End040 {
     Resident { field: u32, wp: bool, sup: bool },
     Absent(FaultCause),
     Lost { at: u32 },
-}
-
-// The page shift that TC gives, where it gives one.
-#[derive(Clone, Copy)]
-pub enum Shift {
-    Bits(u32),
-    NoPage,
-}
-
-// What a look into a cache gives: the page's base, or nothing.
-#[derive(Clone, Copy)]
-pub enum Hit {
-    At(u64),
-    Miss,
 }
 
 // Fault kinds and causes, in the order of `mod.rs`.
@@ -167,7 +139,7 @@ pub enum Finding {
     Says {
         address: u32,
         code: u32,
-        cached: Hit,
+        cached: Option<u64>,
         tables: Translation,
     },
     Refused(u32),

@@ -18,7 +18,6 @@ use definition::Flush;
 pub fn flush_all_in(c030: &mut Atc030, c040: &mut Atc040) -> Flush
     ensures { FlushedIn (flush_all (caches_of c030.old c040.old)) result c030.new c040.new }
 {
-    checks::lengths(c030, c040);
     let four = atc030::bad_cache(c030);
     let n = checks::first_refusal(false, false, false, false, false, four);
     if n != 0 {
@@ -33,7 +32,6 @@ pub fn flush_all_in(c030: &mut Atc030, c040: &mut Atc040) -> Flush
 pub fn flush_code_in(c030: &mut Atc030, code: u32, mask: u32) -> Flush
     ensures { (k : Cache040) → FlushedIn030 (flush_code code mask (pair_with (cache_of c030.old) k)) k result c030.new }
 {
-    checks::sized(c030);
     let four = atc030::bad_cache(c030);
     let n = checks::first_refusal(false, false, (7 < code) | (7 < mask), false, false, four);
     if n != 0 {
@@ -47,7 +45,6 @@ pub fn flush_code_in(c030: &mut Atc030, code: u32, mask: u32) -> Flush
 pub fn flush_page_in(c030: &mut Atc030, code: u32, mask: u32, address: u32) -> Flush
     ensures { (k : Cache040) → FlushedIn030 (flush_page code mask address (pair_with (cache_of c030.old) k)) k result c030.new }
 {
-    checks::sized(c030);
     let four = atc030::bad_cache(c030);
     let n = checks::first_refusal(false, false, (7 < code) | (7 < mask), false, false, four);
     if n != 0 {
@@ -61,7 +58,6 @@ pub fn flush_page_in(c030: &mut Atc030, code: u32, mask: u32, address: u32) -> F
 pub fn flush_frame_in(c040: &mut Atc040, frame: u32) -> Flush
     ensures { (c : Cache030) → FlushedIn040 (flush_frame frame (pair_with c (cache040_of c040.old))) c result c040.new }
 {
-    checks::sized(c040);
     let n = checks::first_refusal(false, false, checks::bad_frame(frame), false, false, false);
     if n != 0 {
         return Flush::Refused(n);

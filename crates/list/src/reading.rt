@@ -7,7 +7,6 @@ ghost use Rattle.definition.specs.Walk030.{read_of};
 ghost use Rattle.memory.specs.Descriptors.{shown_read};
 ghost use Rattle.list.specs.Numbers.{pairs_of};
 
-use definition::Fetched;
 use memory::descriptor::{Descriptor, is_alone, of_one, of_two, second_at};
 use memory::longs::long_unless;
 use memory::ranges::{crossed_or, hit_or};
@@ -45,7 +44,7 @@ pub fn any_crossed(ranges: &[u32]) -> bool
 }
 
 // A long fails if it lies outside the longs or any of its four bytes lies in a range.
-fn fetch(longs: &[u32], base: u32, ranges: &[u32], at: u32) -> Fetched
+fn fetch(longs: &[u32], base: u32, ranges: &[u32], at: u32) -> Option<u32>
     ensures { result ≡ fetch_of (memory longs.now base (pairs_of ranges.now)) at }
 {
     let hit = hits(ranges, at);

@@ -16,7 +16,6 @@ pub fn concluded(
 ) -> LoadOutcome
     ensures { LoadedIn (concluded_load g.tc write address (cache_of c030.old) found) result.answer result.count c030.new }
 {
-    checks::sized(c030);
     match found {
         Found::Settled(answer) => LoadOutcome { answer, count: 0 },
         Found::By030 { code, walk } => {

@@ -8,15 +8,15 @@ ghost use Rattle.load.specs.Loaded.{load_plan, plan_load, PlannedIn};
 
 use crate::Plan;
 use cache::atc030::{Atc030, bad_cache, flush_page};
-use definition::{Load, Registers, Shift};
+use definition::{Load, Registers};
 
 // Whether it stops: there is no page shift, or TT0 or TT1 matches its form, of reads or of writes.
 fn stops(g: Registers, address: u32, code: u32, write: bool) -> bool
     ensures { result ≡ stopped (shift_of g.tc) (transparent030 g address code write) }
 {
     match memory::page030::page_shift(g.tc) {
-        Shift::NoPage => true,
-        Shift::Bits(_) => transparent::transparent_030(g, address, code, write),
+        None => true,
+        Some(_) => transparent::transparent_030(g, address, code, write),
     }
 }
 
@@ -42,7 +42,6 @@ pub fn plan_load(
 ) -> Plan
     ensures { PlannedIn (plan_load g code write address two crossed (cache_of c030.old)) result c030.new }
 {
-    checks::sized(c030);
     let one = checks::no_family(g.family);
     let six = checks::not_030(g.family);
     let five = checks::above_seven(code);

@@ -1,10 +1,8 @@
 -- One 68030 descriptor as the code reads it. This serves the code alone; the meaning is `Walk030` of `definition`.
-use Rattle.std.specs.Prelude.{ℕ, ◌%◌, Bool, true, false, not, ◌&&◌, length}
+use Rattle.std.specs.Prelude.{ℕ, ◌%◌, Bool, true, false, not, ◌&&◌, length, Option, Some, None}
 use Rattle.definition.specs.Words.{bit_of}
 use Rattle.definition.specs.Walk030.{entry_of, on_second}
 use Rattle.definition.specs.Walk030 as walk030
-use Rattle.definition.specs.declared.Fetched.{Fetched}
-use Rattle.definition.specs.declared.Fetched.TheVariants.{Long, Failed}
 use Rattle.memory.specs.declared.descriptor.Descriptor.{Descriptor}
 use Rattle.memory.specs.declared.descriptor.Descriptor.TheVariants.{Whole, Lost}
 
@@ -14,15 +12,15 @@ shown_read (walk030.Whole kind field wp sup asked) = Whole kind field wp sup (le
 shown_read (walk030.Lost at asked) = Lost at (length asked)
 
 -- the first long settles it: it failed, or the descriptor is short
-abbrev pub alone : Bool → Fetched → Bool
-alone long Failed = true
-alone long (Long first) = not long
+abbrev pub alone : Bool → Option ℕ → Bool
+alone long None = true
+alone long (Some first) = not long
 
 -- a descriptor by its first long and its address field, for which n longs were asked
 abbrev pub described_of : ℕ → ℕ → Bool → ℕ → Descriptor
 described_of first field long n = Whole (first % 4) field (bit_of first 2) (long && bit_of first 8) n
 
 -- with both longs
-abbrev pub of_two : ℕ → Fetched → Fetched → Descriptor
-of_two at (Long first) second = shown_read (on_second first at (entry_of at 1 false) second)
-of_two at Failed second = Lost at 1
+abbrev pub of_two : ℕ → Option ℕ → Option ℕ → Descriptor
+of_two at (Some first) second = shown_read (on_second first at (entry_of at 1 false) second)
+of_two at None second = Lost at 1

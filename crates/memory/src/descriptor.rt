@@ -6,7 +6,7 @@ ghost use Rattle.memory.specs.Descriptors.{alone, described_of, of_two, shown_re
 
 use crate::bits::bit;
 use crate::longs::fetch;
-use definition::{Fetched, Range};
+use definition::Range;
 
 // What reading one 68030 descriptor gives, with the number of longs asked for. Lost: the long at `at` failed.
 #[derive(Clone, Copy)]
@@ -73,22 +73,22 @@ fn described(first: u32, field: u32, long: bool, asked: u32) -> Descriptor
 }
 
 // Whether the first long settles it: it failed, or the descriptor is short.
-pub fn is_alone(long: bool, first: Fetched) -> bool
+pub fn is_alone(long: bool, first: Option<u32>) -> bool
     ensures { result ≡ alone long first }
 {
     match first {
-        Fetched::Long(_) => !long,
-        Fetched::Failed => true,
+        Some(_) => !long,
+        None => true,
     }
 }
 
 // A short descriptor is one long, which is its address field too.
-pub fn of_one(at: u32, first: Fetched) -> Descriptor
+pub fn of_one(at: u32, first: Option<u32>) -> Descriptor
     ensures { result ≡ shown_read (short_of at first) }
 {
     match first {
-        Fetched::Long(x) => described(x, x, false, 1),
-        Fetched::Failed => Descriptor::Lost { at, asked: 1 },
+        Some(x) => described(x, x, false, 1),
+        None => Descriptor::Lost { at, asked: 1 },
     }
 }
 
@@ -100,18 +100,18 @@ pub fn second_at(at: u32) -> u32
 }
 
 // A long descriptor is two longs; the address field is the last.
-pub fn of_two(at: u32, first: Fetched, second: Fetched) -> Descriptor
+pub fn of_two(at: u32, first: Option<u32>, second: Option<u32>) -> Descriptor
     ensures { result ≡ of_two at first second }
 {
     match first {
-        Fetched::Long(x) => match second {
-            Fetched::Long(y) => described(x, y, true, 2),
-            Fetched::Failed => Descriptor::Lost {
+        Some(x) => match second {
+            Some(y) => described(x, y, true, 2),
+            None => Descriptor::Lost {
                 at: second_at(at),
                 asked: 2,
             },
         },
-        Fetched::Failed => Descriptor::Lost { at, asked: 1 },
+        None => Descriptor::Lost { at, asked: 1 },
     }
 }
 

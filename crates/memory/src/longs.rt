@@ -3,7 +3,7 @@ ghost use Rattle.std.specs.Prelude.{◌≡◌, ◌&&◌, not, ◌%◌, ◌*◌, 
 ghost use Rattle.definition.specs.Memory.{fetch_of, fetch_with, memory};
 
 use crate::ranges::hits;
-use definition::{Fetched, Range};
+use definition::Range;
 
 // Refusal 2: base not a multiple of 4, or base + 4 x longs above 2^32. It is `bad_base` of any memory of `count` longs at `base`.
 pub fn bad_base(count: usize, base: u32) -> bool
@@ -16,28 +16,28 @@ pub fn bad_base(count: usize, base: u32) -> bool
 }
 
 // The long at `at`, unless it lies outside the longs or the search hit a range.
-pub fn long_unless(longs: &[u32], base: u32, at: u32, hit: bool) -> Fetched
+pub fn long_unless(longs: &[u32], base: u32, at: u32, hit: bool) -> Option<u32>
     ensures { result ≡ fetch_with longs.now base at hit }
 {
     if at < base {
-        return Fetched::Failed;
+        return None;
     }
     let off = at - base;
     if off % 4 != 0 {
-        return Fetched::Failed;
+        return None;
     }
     let i = (off / 4) as usize;
     if longs.len() <= i {
-        return Fetched::Failed;
+        return None;
     }
     if hit {
-        return Fetched::Failed;
+        return None;
     }
-    Fetched::Long(longs[i])
+    Some(longs[i])
 }
 
 // A long fails if it lies outside the longs or any of its four bytes lies in a range.
-pub fn fetch(longs: &[u32], base: u32, ranges: &[Range], at: u32) -> Fetched
+pub fn fetch(longs: &[u32], base: u32, ranges: &[Range], at: u32) -> Option<u32>
     ensures { result ≡ fetch_of (memory longs.now base ranges.now) at }
 {
     let hit = hits(ranges, at);

@@ -4,7 +4,6 @@ ghost use Rattle.definition.specs.Translate.{base_of, hit_address};
 ghost use Rattle.definition.specs.Walk030.{widths_of, used, sum_of, is_of, physical_of, shift_of};
 
 use crate::bits::{in_page, low_bits};
-use definition::Shift;
 
 // The four index widths TIA, TIB, TIC and TID: TC nibbles 15:12 to 3:0.
 pub fn widths(tc: u32) -> [u32; 4]
@@ -39,13 +38,13 @@ pub fn consumed(tc: u32) -> u32
 }
 
 // The page shift is 32 - (IS + levels up to the first zero) if that sum is 1 to 31; else nothing is cached.
-pub fn page_shift(tc: u32) -> Shift
+pub fn page_shift(tc: u32) -> Option<u32>
     ensures { result ≡ shift_of tc }
 {
     let sum = consumed(tc);
     match sum {
-        1..=31 => Shift::Bits(32 - sum),
-        _ => Shift::NoPage,
+        1..=31 => Some(32 - sum),
+        _ => None,
     }
 }
 

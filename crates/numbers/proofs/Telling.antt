@@ -1,4 +1,5 @@
 -- An answer's numbers, by what the answer is; an override, by its number. Assumes nothing.
+use Rattle.std.specs.Prelude.{Option, Some, None}
 use Prim.Native.Nat.{ℕ, ◌/◌, ◌%◌}
 use mathlib.Core.Path.{◌≡◌}
 use mathlib.Core.List.{List, [], ◌∷◌}
@@ -7,12 +8,9 @@ use lib.ListN.{get_or}
 use Rattle.definition.specs.Words.{bit_of}
 use Rattle.definition.specs.declared.Finding.{Finding}
 use Rattle.definition.specs.declared.Finding.TheVariants as finding
-use Rattle.definition.specs.declared.Hit.{Hit}
-use Rattle.definition.specs.declared.Hit.TheVariants as hit
 use borrow.Author.Tests.{eq-eqb, ne_eqb}
 use Rattle.definition.specs.Answers.{kind_number, cause_number}
 use Rattle.definition.specs.Trace.{override_of}
-use Rattle.definition.specs.declared.Override.{Override}
 use Rattle.definition.specs.declared.FaultKind.{FaultKind}
 use Rattle.definition.specs.declared.FaultCause.{FaultCause}
 use Rattle.definition.specs.declared.Translation.{Translation}
@@ -26,10 +24,10 @@ use Rattle.numbers.specs.declared.Walked.{Walked}
 use Rattle.numbers.specs.Numbers.{held_of, walked_of, finding_of_parts, finding_numbers, registers_with, registers_of, access_with, access_of, translation_numbers, load_numbers, test_numbers}
 
 module _ (code : ℕ) where
-  pub none : code ≡ 255 → Override.Plain ≡ override_of code
+  pub none : code ≡ 255 → None ≡ override_of code
   none e = rw (eq-eqb code 255 e)
 
-  pub some : (code ≡ 255 → ⊥) → Override.Code code ≡ override_of code
+  pub some : (code ≡ 255 → ⊥) → Some code ≡ override_of code
   some h = rw (ne_eqb code 255 h)
 
 module _ {out : List ℕ} {count : ℕ} where
@@ -56,7 +54,7 @@ module _ {out : List ℕ} {count : ℕ} where
   test_refused e f = rw e f
 
 -- ---- the host's numbers
-pub accessed : (flags code address : ℕ) {w s i o r : Bool} {c : Override} → w ≡ bit_of flags 0 → s ≡ bit_of flags 1 → i ≡ bit_of flags 2 → o ≡ bit_of flags 3
+pub accessed : (flags code address : ℕ) {w s i o r : Bool} {c : Option ℕ} → w ≡ bit_of flags 0 → s ≡ bit_of flags 1 → i ≡ bit_of flags 2 → o ≡ bit_of flags 3
     → r ≡ bit_of flags 4 → c ≡ override_of code
     → access_with address w s i o c r ≡ access_of flags code address
 accessed flags code address w s i o r c = rw (w, s, i, o, r, c)
@@ -65,10 +63,10 @@ pub registered : (ns : List ℕ) {p e : Bool} → p ≡ bit_of (get_or ns 1 0) 0
 registered ns p e = rw (p, e)
 
 -- ---- what is said of one entry
-pub held_at : {h : Hit} {base : ℕ} → h ≡ hit.At base → record { what = 0; low = base % 4294967296; high = base / 4294967296 } ≡ held_of h
+pub held_at : {h : Option ℕ} {base : ℕ} → h ≡ Some base → record { what = 0; low = base % 4294967296; high = base / 4294967296 } ≡ held_of h
 held_at e = rw e
 
-pub held_none : {h : Hit} → h ≡ hit.Miss → record { what = 3; low = 0; high = 0 } ≡ held_of h
+pub held_none : {h : Option ℕ} → h ≡ None → record { what = 3; low = 0; high = 0 } ≡ held_of h
 held_none e = rw e
 
 pub walked_address : {t : Translation} {x : ℕ} → t ≡ translation.Address x → record { what = 0; number = x; kind = 0; cause = 0 } ≡ walked_of t
@@ -81,7 +79,7 @@ walked_fault e a b = rw (e, a, b)
 pub walked_refused : {t : Translation} {n : ℕ} → t ≡ translation.Refused n → record { what = 2; number = n; kind = 0; cause = 0 } ≡ walked_of t
 walked_refused e = rw e
 
-pub says : {f : Finding} {x code : ℕ} {cached : Hit} {tables : Translation} {h : Held} {t : Walked} → f ≡ finding.Says x code cached tables
+pub says : {f : Finding} {x code : ℕ} {cached : Option ℕ} {tables : Translation} {h : Held} {t : Walked} → f ≡ finding.Says x code cached tables
     → h ≡ held_of cached → t ≡ walked_of tables → finding_of_parts x code h t ≡ finding_numbers f
 says e a b = rw (e, a, b)
 

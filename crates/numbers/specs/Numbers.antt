@@ -1,5 +1,5 @@
 -- What the host's numbers are: registers, an access, and the five numbers of an answer.
-use Rattle.std.specs.Prelude.{ℕ, ◌/◌, ◌%◌, ◌≡◌, List, [], ◌∷◌, Bool, length, get_or}
+use Rattle.std.specs.Prelude.{ℕ, ◌/◌, ◌%◌, ◌≡◌, List, [], ◌∷◌, Bool, length, get_or, Option, Some, None}
 use Rattle.definition.specs.Words.{bit_of}
 use Rattle.definition.specs.Answers.{kind_number, cause_number}
 use Rattle.definition.specs.Trace.{override_of}
@@ -10,7 +10,6 @@ use Rattle.definition.specs.Test.{Tested}
 use Rattle.definition.specs.Flush.{Flushed}
 use Rattle.definition.specs.declared.Registers.{Registers}
 use Rattle.definition.specs.declared.Access.{Access}
-use Rattle.definition.specs.declared.Override.{Override}
 use Rattle.definition.specs.declared.Translation.{Translation}
 use Rattle.definition.specs.declared.Translation.TheVariants as translation
 use Rattle.definition.specs.declared.Load.{Load}
@@ -23,8 +22,6 @@ use Rattle.definition.specs.declared.Audit.{Audit}
 use Rattle.definition.specs.declared.Audit.TheVariants as audit
 use Rattle.definition.specs.declared.Finding.{Finding}
 use Rattle.definition.specs.declared.Finding.TheVariants as finding
-use Rattle.definition.specs.declared.Hit.{Hit}
-use Rattle.definition.specs.declared.Hit.TheVariants as hit
 use Rattle.definition.specs.declared.Flush.{Flush}
 use Rattle.definition.specs.declared.Flush.TheVariants as flush
 use Rattle.numbers.specs.declared.Held.{Held}
@@ -52,7 +49,7 @@ abbrev pub registers_of : List ℕ → Registers
 registers_of ns = registers_with ns (bit_of (get_or ns 1 0) 0) (bit_of (get_or ns 1 0) 1)
 
 -- 'flags (0 write, 1 supervisor, 2 instruction, 3 CPU state, 4 record)'
-abbrev pub access_with : ℕ → Bool → Bool → Bool → Bool → Override → Bool → Access
+abbrev pub access_with : ℕ → Bool → Bool → Bool → Bool → Option ℕ → Bool → Access
 access_with address write supervisor instruction own code recorded =
     record {
       address = address;
@@ -95,9 +92,9 @@ audit_numbers (audit.Stale040 i) = 1 ∷ i ∷ 40 ∷ 0 ∷ 0 ∷ []
 audit_numbers (audit.Refused n) = 2 ∷ n ∷ 0 ∷ 0 ∷ 0 ∷ []
 
 -- what a cache gives: 0 with a base in two halves, 3 nothing
-abbrev pub held_of : Hit → Held
-held_of (hit.At base) = record { what = 0; low = base % 4294967296; high = base / 4294967296 }
-held_of hit.Miss = record { what = 3; low = 0; high = 0 }
+abbrev pub held_of : Option ℕ → Held
+held_of (Some base) = record { what = 0; low = base % 4294967296; high = base / 4294967296 }
+held_of None = record { what = 3; low = 0; high = 0 }
 
 -- what the tables give: the first four numbers of a translation
 abbrev pub walked_of : Translation → Walked

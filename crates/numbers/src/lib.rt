@@ -5,9 +5,7 @@ ghost use Rattle.std.specs.Prelude.{◌≡◌, [], ◌∷◌};
 ghost use Rattle.definition.specs.Trace.{override_of};
 ghost use Rattle.numbers.specs.Numbers.{registers_of, access_of, translation_numbers, load_numbers, test_numbers, probe_numbers, audit_numbers, held_of, walked_of, finding_numbers, flush_number};
 
-use definition::{
-    Access, Audit, Finding, Flush, Hit, Load, Override, Probe, Registers, Root, Test, Translation,
-};
+use definition::{Access, Audit, Finding, Flush, Load, Probe, Registers, Root, Test, Translation};
 use load::LoadOutcome;
 use test::TestOutcome;
 use translate::Outcome;
@@ -46,13 +44,13 @@ pub fn registers_of(numbers: &[u32; 13]) -> Registers
 }
 
 // An override, or FF for none.
-fn override_of(code: u32) -> Override
+fn override_of(code: u32) -> Option<u32>
     ensures { result ≡ override_of code }
 {
     if code == 255 {
-        return Override::Plain;
+        return None;
     }
-    Override::Code(code)
+    Some(code)
 }
 
 // Flags: 0 write, 1 supervisor, 2 instruction, 3 CPU state, 4 record.
@@ -168,16 +166,16 @@ struct Held {
     high: u32,
 }
 
-fn held_of(h: Hit) -> Held
+fn held_of(h: Option<u64>) -> Held
     ensures { result ≡ held_of h }
 {
     match h {
-        Hit::At(base) => Held {
+        Some(base) => Held {
             what: 0,
             low: (base % 4294967296) as u32,
             high: (base / 4294967296) as u32,
         },
-        Hit::Miss => Held {
+        None => Held {
             what: 3,
             low: 0,
             high: 0,

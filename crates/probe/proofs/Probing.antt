@@ -1,4 +1,5 @@
 -- What the parts of a probe give together. Assumes nothing.
+use Rattle.std.specs.Prelude.{Option, Some, None}
 use Prim.Native.Nat.{ℕ, ◌/◌, ◌%◌, ◌^◌, ◌<◌}
 use mathlib.Core.Path.{◌≡◌, ap, sym, ◌∙◌}
 use mathlib.Core.Bool.{Bool, true, false, not}
@@ -13,39 +14,35 @@ use Rattle.definition.specs.Refusal.{no_family, bad_cache, refusal_of}
 use Rattle.definition.specs.Translate.{Caches, hit_address, joined}
 use Rattle.definition.specs.Probe.{probe030, probe040, probe_in_order, probe}
 use Rattle.definition.specs.declared.Registers.{Registers}
-use Rattle.definition.specs.declared.Shift.{Shift}
-use Rattle.definition.specs.declared.Shift.TheVariants.{Bits, NoPage}
-use Rattle.definition.specs.declared.Hit.{Hit}
-use Rattle.definition.specs.declared.Hit.TheVariants.{At, Miss}
 use Rattle.definition.specs.declared.Probe.{Probe}
 use Rattle.checks.specs.Given.{checks_of}
 use Rattle.checks.proofs.Bounds.{in_three_bits, code_small}
 
 -- ---- the 68030 cache
-module _ (c : Cache030) (code : ℕ) (write : Bool) (address : ℕ) {r s : Shift} (is : r ≡ s) where
-  pub none_030 : r ≡ NoPage → Probe.Nothing ≡ probe030 c code write address s
+module _ (c : Cache030) (code : ℕ) (write : Bool) (address : ℕ) {r s : Option ℕ} (is : r ≡ s) where
+  pub none_030 : r ≡ None → Probe.Nothing ≡ probe030 c code write address s
   none_030 e = rw (sym is ∙ e)
 
-  module _ {shift : ℕ} {h : Hit} (small : code < 8) (e : r ≡ Bits shift) (look : h ≡ hit_of c (code % 8) (address / 2 ^ shift) shift write) where
-    held : {x : Hit} → h ≡ x → hit_of c code (address / 2 ^ shift) shift write ≡ x
+  module _ {shift : ℕ} {h : Option ℕ} (small : code < 8) (e : r ≡ Some shift) (look : h ≡ hit_of c (code % 8) (address / 2 ^ shift) shift write) where
+    held : {x : Option ℕ} → h ≡ x → hit_of c code (address / 2 ^ shift) shift write ≡ x
     held f = rw (← in_three_bits small) (sym look ∙ f)
 
-    pub at_030 : {base to : ℕ} → h ≡ At base → to ≡ hit_address base address shift → Probe.Address to ≡ probe030 c code write address s
+    pub at_030 : {base to : ℕ} → h ≡ Some base → to ≡ hit_address base address shift → Probe.Address to ≡ probe030 c code write address s
     at_030 f t = rw (sym is ∙ e, held f, t)
 
-    pub miss_030 : h ≡ Miss → Probe.Nothing ≡ probe030 c code write address s
+    pub miss_030 : h ≡ None → Probe.Nothing ≡ probe030 c code write address s
     miss_030 f = rw (sym is ∙ e, held f)
 
 -- ---- the 68040 cache
-module _ (g : Registers) (c : Cache040) (own write : Bool) (address : ℕ) {bits : ℕ} {h : Hit} (is : bits ≡ page_bits g.tc)
+module _ (g : Registers) (c : Cache040) (own write : Bool) (address : ℕ) {bits : ℕ} {h : Option ℕ} (is : bits ≡ page_bits g.tc)
     (look : h ≡ hit040 c (address / 2 ^ bits) own write) where
-  found : {x : Hit} → h ≡ x → hit040 c (address / 2 ^ page_bits g.tc) own write ≡ x
+  found : {x : Option ℕ} → h ≡ x → hit040 c (address / 2 ^ page_bits g.tc) own write ≡ x
   found e = rw (← is) (sym look ∙ e)
 
-  pub at_040 : {base to : ℕ} → h ≡ At base → to ≡ joined g.tc base address → Probe.Address to ≡ probe040 g c own write address
+  pub at_040 : {base to : ℕ} → h ≡ Some base → to ≡ joined g.tc base address → Probe.Address to ≡ probe040 g c own write address
   at_040 f t = rw (found f, t)
 
-  pub miss_040 : h ≡ Miss → Probe.Nothing ≡ probe040 g c own write address
+  pub miss_040 : h ≡ None → Probe.Nothing ≡ probe040 g c own write address
   miss_040 f = rw (found f)
 
 -- ---- the order

@@ -12,7 +12,7 @@ ghost use Rattle.cache.specs.Pair.{caches_of};
 use cache::atc030::Atc030;
 use cache::atc040::Atc040;
 use cache::{atc030, atc040};
-use definition::{Hit, Probe, Registers, Shift};
+use definition::{Probe, Registers};
 
 // The 68030 cache, where there is a page shift.
 fn probe_030(c030: &Atc030, tc: u32, code: u32, write: bool, address: u32) -> Probe
@@ -20,12 +20,12 @@ fn probe_030(c030: &Atc030, tc: u32, code: u32, write: bool, address: u32) -> Pr
     ensures { result ≡ probe030 (cache_of c030.now) code write address (shift_of tc) }
 {
     match memory::page030::page_shift(tc) {
-        Shift::NoPage => Probe::Nothing,
-        Shift::Bits(shift) => {
+        None => Probe::Nothing,
+        Some(shift) => {
             let page = address >> shift;
             match atc030::probe(c030, code, page, shift, write) {
-                Hit::At(base) => Probe::Address(memory::page030::hit_address(base, address, shift)),
-                Hit::Miss => Probe::Nothing,
+                Some(base) => Probe::Address(memory::page030::hit_address(base, address, shift)),
+                None => Probe::Nothing,
             }
         }
     }
@@ -39,8 +39,8 @@ fn probe_040(c040: &Atc040, g: Registers, own: bool, write: bool, address: u32) 
     let bits = memory::page040::page_bits(tc);
     let frame = address >> bits;
     match atc040::look_040(c040, frame, own, write) {
-        Hit::At(base) => Probe::Address(memory::page040::joined_040(tc, base, address)),
-        Hit::Miss => Probe::Nothing,
+        Some(base) => Probe::Address(memory::page040::joined_040(tc, base, address)),
+        None => Probe::Nothing,
     }
 }
 

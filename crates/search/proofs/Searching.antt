@@ -4,13 +4,11 @@ use mathlib.Core.Path.{◌≡◌, refl, ap, sym, ◌∙◌}
 use mathlib.Core.List.{List, []}
 use mathlib.Core.Bool.{Bool, true, false, not, ◌&&◌}
 use lib.ListN.{length}
-use Rattle.std.specs.Prelude.{if◌then◌else◌}
+use Rattle.std.specs.Prelude.{if◌then◌else◌, Option, Some, None}
 use Rattle.definition.specs.Words.{bit_of}
 use Rattle.definition.specs.Walk030.{shift_of, physical_of}
 use Rattle.definition.specs.Cache030.{Cache030, inserted}
 use Rattle.definition.specs.Translate.{base_of, violation, bus_error, configuration, cached, on_end030, searched}
-use Rattle.definition.specs.declared.Shift.{Shift}
-use Rattle.definition.specs.declared.Shift.TheVariants.{Bits, NoPage}
 use Rattle.definition.specs.declared.End.{End}
 use Rattle.definition.specs.declared.End.TheVariants as end
 use Rattle.definition.specs.declared.FaultCause.{FaultCause}
@@ -20,13 +18,13 @@ use Rattle.cache.specs.Atc030.{cache_of, Stepped}
 use Rattle.checks.proofs.Bounds.{in_three_bits}
 use Rattle.search.specs.Searched.{missing_cause, permitted_of, page030, end030, Ended}
 
-module _ {a : List ℕ} (code address : ℕ) {r s : Shift} (is : r ≡ s) where
+module _ {a : List ℕ} (code address : ℕ) {r s : Option ℕ} (is : r ≡ s) where
   -- ---- what is cached
   module _ (physical : ℕ) (wp : Bool) where
-    pub cache_none : r ≡ NoPage → length a ≡ 69 → Stepped (λ (c : Cache030). cached s c code address physical wp) a a
+    pub cache_none : r ≡ None → length a ≡ 69 → Stepped (λ (c : Cache030). cached s c code address physical wp) a a
     cache_none none z = rw (sym is ∙ none) (record { leaves = refl; sized = z })
 
-    pub cache_put : {shift base : ℕ} {a' : List ℕ} → code < 8 → r ≡ Bits shift → base ≡ base_of physical address shift
+    pub cache_put : {shift base : ℕ} {a' : List ℕ} → code < 8 → r ≡ Some shift → base ≡ base_of physical address shift
         → Stepped (λ (c : Cache030). inserted c (code % 8) (address / 2 ^ shift) shift base wp) a a'
         → Stepped (λ (c : Cache030). cached s c code address physical wp) a a'
     cache_put {shift} small some b k =

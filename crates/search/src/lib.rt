@@ -10,7 +10,7 @@ ghost use Rattle.cache.specs.Atc030.{cache_of, Stepped};
 ghost use Rattle.search.specs.Searched.{missing_cause, permitted_of, page030, end030, Ended};
 
 use cache::atc030::{Atc030, insert};
-use definition::{End, FaultCause, FaultKind, Shift, Translation};
+use definition::{End, FaultCause, FaultKind, Translation};
 use walk030::Walked;
 
 // A fault of an access: AccessLevelViolation, which reports the logical address.
@@ -62,8 +62,8 @@ fn cache_page(c030: &mut Atc030, tc: u32, code: u32, address: u32, physical: u32
     ensures { Stepped (λ (c : Cache030). cached (shift_of tc) c code address physical wp) c030.old c030.new }
 {
     match memory::page030::page_shift(tc) {
-        Shift::NoPage => {}
-        Shift::Bits(shift) => {
+        None => {}
+        Some(shift) => {
             let page = address >> shift;
             let base = memory::page030::page_base(physical, address, shift);
             insert(c030, code, page, shift, base, wp);
@@ -133,7 +133,6 @@ pub fn end_030(
 ) -> Translation
     ensures { Ended (end030 tc (cache_of c030.old) (code % 8) address write w) result c030.new }
 {
-    checks::sized(c030);
     let end = w.end;
     match end {
         End::Page { field, consumed } => {

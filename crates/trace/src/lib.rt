@@ -7,7 +7,7 @@ ghost use Rattle.definition.specs.Trace.{be, override_of, kind01, kind02, kind03
 ghost use Rattle.trace.specs.Records.{seen_of, other_of, record_in};
 ghost use Rattle.trace.specs.Lines.{line_in, Wrote, RoomFor, Put};
 
-use definition::{Access, Override, Range, Registers, Root};
+use definition::{Access, Range, Registers, Root};
 
 // An access, or another record.
 #[derive(Clone, Copy)]
@@ -153,13 +153,13 @@ fn registers_of(b: &[u8]) -> Record
 }
 
 // An override or FF.
-fn override_of(n: u32) -> Override
+fn override_of(n: u32) -> Option<u32>
     ensures { result ≡ override_of n }
 {
     if n == 255 {
-        return Override::Plain;
+        return None;
     }
-    Override::Code(n)
+    Some(n)
 }
 
 // 02: flags (0 write, 1 supervisor, 2 instruction, 3 CPU state, 4 record), override or FF, address.

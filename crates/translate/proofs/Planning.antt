@@ -1,4 +1,5 @@
 -- What the parts of a translation's plan give together. Assumes nothing.
+use Rattle.std.specs.Prelude.{Option, Some, None}
 use Prim.Native.Nat.{ℕ, ◌/◌, ◌%◌, ◌^◌, ◌<◌}
 use mathlib.Core.Path.{◌≡◌, refl, ap, sym, ◌∙◌}
 use mathlib.Core.List.{List}
@@ -14,9 +15,6 @@ use Rattle.definition.specs.Refusal.{no_family, bad_override, bad_cache, refusal
 use Rattle.definition.specs.Translate.{Caches}
 use Rattle.definition.specs.declared.Registers.{Registers}
 use Rattle.definition.specs.declared.Access.{Access}
-use Rattle.definition.specs.declared.Shift.{Shift}
-use Rattle.definition.specs.declared.Shift.TheVariants.{Bits, NoPage}
-use Rattle.definition.specs.declared.Hit.{Hit}
 use Rattle.definition.specs.declared.Translation.{Translation}
 use Rattle.cache.specs.Atc030.{cache_of, Looked}
 use Rattle.cache.specs.Atc040.{cache040_of}
@@ -28,11 +26,11 @@ use Rattle.checks.proofs.Bounds.{code_small, in_three_bits}
 use Rattle.translate.specs.InPlace.{PlannedIn030, PlannedIn}
 
 -- ---- the 68030 cache
-module _ {a : List ℕ} (code address : ℕ) {r s : Shift} (is : r ≡ s) (write recorded : Bool) where
-  pub plan_none : r ≡ NoPage → length a ≡ 69 → PlannedIn030 (plan030 (cache_of a) recorded code address write s) (Plan.Walk030 code) a
+module _ {a : List ℕ} (code address : ℕ) {r s : Option ℕ} (is : r ≡ s) (write recorded : Bool) where
+  pub plan_none : r ≡ None → length a ≡ 69 → PlannedIn030 (plan030 (cache_of a) recorded code address write s) (Plan.Walk030 code) a
   plan_none none z = rw (sym is ∙ none) (record { plans = refl; leaves = refl; sized = z })
 
-  pub plan_look : {shift : ℕ} {hit : Hit} {p : Plan} {a' : List ℕ} → code < 8 → r ≡ Bits shift
+  pub plan_look : {shift : ℕ} {hit : Option ℕ} {p : Plan} {a' : List ℕ} → code < 8 → r ≡ Some shift
       → Looked a (code % 8) (address / 2 ^ shift) shift write recorded hit a' → p ≡ look_plan code address shift hit
       → PlannedIn030 (plan030 (cache_of a) recorded code address write s) p a'
   plan_look {shift} {hit} {p} {a'} small some k q =

@@ -4,7 +4,7 @@ use mathlib.Core.Path.{◌≡◌, refl}
 use mathlib.Core.List.{List}
 use mathlib.Core.Bool.{Bool, true, false, not, ◌&&◌}
 use lib.Dec.{eqb}
-use Rattle.std.specs.Prelude.{if◌then◌else◌}
+use Rattle.std.specs.Prelude.{if◌then◌else◌, Option, Some, None}
 use Rattle.definition.specs.Registers.{on, as_supervisor, as_instruction, walk_code, compared_code}
 use Rattle.definition.specs.Memory.{Memory}
 use Rattle.definition.specs.Transparent.{transparent}
@@ -16,10 +16,6 @@ use Rattle.definition.specs.Refusal.{bad_base, bad_range, refusal_of}
 use Rattle.definition.specs.Translate.{Caches, Translated, translated, search030, on_hit030, with030, beside, translate030, on_end040, on_hit040, translate040, in_order, translate_checks, translate}
 use Rattle.definition.specs.declared.Registers.{Registers}
 use Rattle.definition.specs.declared.Access.{Access}
-use Rattle.definition.specs.declared.Shift.{Shift}
-use Rattle.definition.specs.declared.Shift.TheVariants.{Bits, NoPage}
-use Rattle.definition.specs.declared.Hit.{Hit}
-use Rattle.definition.specs.declared.Hit.TheVariants.{At, Miss}
 use Rattle.definition.specs.declared.End040.{End040}
 use Rattle.definition.specs.declared.End040.TheVariants as end040'
 use Rattle.definition.specs.declared.Translation.{Translation}
@@ -68,14 +64,14 @@ module _ (g : Registers) (a : Access) (m : Memory) where
       let o = walk030 m g a.address (walk_code a) every_level in
       rw (in_three_bits (walk_small a refl), end030_asked g.tc c.c030 (walk_code a) a.address a.write o.found.wp o.found.sup o.found.asked o.end)
 
-  hit030_staged : (c : Caches) (shift : ℕ) (h : Hit) → finish (planned (look_plan (walk_code a) a.address shift h) c) ≡ shown_translated (beside c (on_hit030 g m c.c030 (walk_code a) a.address a.write shift h))
+  hit030_staged : (c : Caches) (shift : ℕ) (h : Option ℕ) → finish (planned (look_plan (walk_code a) a.address shift h) c) ≡ shown_translated (beside c (on_hit030 g m c.c030 (walk_code a) a.address a.write shift h))
   unfolding concluded_of
-  hit030_staged c shift (At base) = refl
-  hit030_staged c shift Miss = search_staged c
+  hit030_staged c shift (Some base) = refl
+  hit030_staged c shift None = search_staged c
 
-  with030_staged : (c : Caches) (s : Shift) → finish (beside_plan c (plan030 c.c030 a.recorded (walk_code a) a.address a.write s)) ≡ shown_translated (beside c (with030 g m c.c030 a.recorded (walk_code a) a.address a.write s))
-  with030_staged c NoPage = search_staged c
-  with030_staged c (Bits shift) =
+  with030_staged : (c : Caches) (s : Option ℕ) → finish (beside_plan c (plan030 c.c030 a.recorded (walk_code a) a.address a.write s)) ≡ shown_translated (beside c (with030 g m c.c030 a.recorded (walk_code a) a.address a.write s))
+  with030_staged c None = search_staged c
+  with030_staged c (Some shift) =
       hit030_staged (with030_of c (after_hit c.c030 a.recorded (walk_code a) (a.address / 2 ^ shift) shift)) shift
       (hit_of c.c030 (walk_code a) (a.address / 2 ^ shift) shift a.write)
 
@@ -83,10 +79,10 @@ module _ (g : Registers) (a : Access) (m : Memory) where
   unfolding translate030
   translate030_staged c = with030_staged c (shift_of g.tc)
 
-  hit040_staged : (c : Caches) (h : Hit) → finish (planned (look_plan040 g.tc a.address (as_supervisor a) h) c) ≡ shown_translated (on_hit040 g a m c h)
+  hit040_staged : (c : Caches) (h : Option ℕ) → finish (planned (look_plan040 g.tc a.address (as_supervisor a) h) c) ≡ shown_translated (on_hit040 g a m c h)
   unfolding after040 concluded_of
-  hit040_staged c (At base) = refl
-  hit040_staged c Miss =
+  hit040_staged c (Some base) = refl
+  hit040_staged c None =
       let o = walk040 m g a.address (as_supervisor a) in rw (end040_asked g a c o.asked o.end)
 
   translate040_staged : (c : Caches) → finish (planned (plan040 g.tc c.c040 a.address (as_supervisor a) a.write) c) ≡ shown_translated (translate040 g a m c)

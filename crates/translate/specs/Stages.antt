@@ -1,6 +1,6 @@
 -- Translate in three stages: what is planned without the tables, the walk, and what is concluded from it.
 -- It serves the code alone: the meaning is the definition's, and proofs/Staged.antt ties the two.
-use Rattle.std.specs.Prelude.{ℕ, ◌/◌, ◌%◌, ◌^◌, Bool, false, not, ◌&&◌, eqb, length}
+use Rattle.std.specs.Prelude.{ℕ, ◌/◌, ◌%◌, ◌^◌, Bool, false, not, ◌&&◌, eqb, length, Option, Some, None}
 use Rattle.std.specs.Prelude.{if◌then◌else◌}
 use Rattle.definition.specs.Registers.{on, as_supervisor, as_instruction, walk_code, compared_code}
 use Rattle.definition.specs.Memory.{Memory}
@@ -13,10 +13,6 @@ use Rattle.definition.specs.Refusal.{no_family, bad_cache, bad_override, refusal
 use Rattle.definition.specs.Translate.{Caches, Translated, hit_address, joined, violation, bus_error, at_once, in_order, translate_checks}
 use Rattle.definition.specs.declared.Registers.{Registers}
 use Rattle.definition.specs.declared.Access.{Access}
-use Rattle.definition.specs.declared.Shift.{Shift}
-use Rattle.definition.specs.declared.Shift.TheVariants.{Bits, NoPage}
-use Rattle.definition.specs.declared.Hit.{Hit}
-use Rattle.definition.specs.declared.Hit.TheVariants.{At, Miss}
 use Rattle.definition.specs.declared.End040.{End040}
 use Rattle.definition.specs.declared.End040.TheVariants as ends
 use Rattle.definition.specs.declared.FaultCause.TheVariants as cause
@@ -69,19 +65,19 @@ beside_plan c p = planned p.plan (with030_of c p.cache)
 abbrev pub settled_at : ℕ → Plan
 settled_at address = Plan.Settled (Translation.Address address)
 
-abbrev pub look_plan : ℕ → ℕ → ℕ → Hit → Plan
-look_plan code address shift (At base) = settled_at (hit_address base address shift)
-look_plan code address shift Miss = Plan.Walk030 code
+abbrev pub look_plan : ℕ → ℕ → ℕ → Option ℕ → Plan
+look_plan code address shift (Some base) = settled_at (hit_address base address shift)
+look_plan code address shift None = Plan.Walk030 code
 
-abbrev pub plan030 : Cache030 → Bool → ℕ → ℕ → Bool → Shift → Planned030
-plan030 c recorded code address write NoPage = planned030 (Plan.Walk030 code) c
-plan030 c recorded code address write (Bits shift) =
+abbrev pub plan030 : Cache030 → Bool → ℕ → ℕ → Bool → Option ℕ → Planned030
+plan030 c recorded code address write None = planned030 (Plan.Walk030 code) c
+plan030 c recorded code address write (Some shift) =
     planned030 (look_plan code address shift (hit_of c code (address / 2 ^ shift) shift write))
     (after_hit c recorded code (address / 2 ^ shift) shift)
 
-abbrev pub look_plan040 : ℕ → ℕ → Bool → Hit → Plan
-look_plan040 tc address supervisor (At base) = settled_at (joined tc base address)
-look_plan040 tc address supervisor Miss = Plan.Walk040 supervisor
+abbrev pub look_plan040 : ℕ → ℕ → Bool → Option ℕ → Plan
+look_plan040 tc address supervisor (Some base) = settled_at (joined tc base address)
+look_plan040 tc address supervisor None = Plan.Walk040 supervisor
 
 abbrev pub plan040 : ℕ → Cache040 → ℕ → Bool → Bool → Plan
 plan040 tc c address supervisor write =

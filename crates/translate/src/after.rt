@@ -95,7 +95,6 @@ pub fn concluded(
 ) -> Outcome
     ensures { AnsweredIn (concluded_of g a (caches_of c030.old c040.old) found) result.answer result.count c030.new c040.new }
 {
-    checks::lengths(c030, c040);
     match found {
         Found::Settled(answer) => Outcome { answer, count: 0 },
         Found::By030 { code, walk } => by_030(c030, g, code, a, walk),

@@ -12,7 +12,7 @@ ghost use Rattle.translate.specs.InPlace.{PlannedIn030, PlannedIn};
 use crate::Plan;
 use cache::atc030::{Atc030, bad_cache, look};
 use cache::atc040::{Atc040, look_040};
-use definition::{Access, Hit, Registers, Shift, Translation};
+use definition::{Access, Registers, Translation};
 
 // The answer is an address, and no table is asked.
 fn at_address(address: u32) -> Plan
@@ -22,12 +22,12 @@ fn at_address(address: u32) -> Plan
 }
 
 // By what the look gave: a hit adds the address's low page-shift bits.
-fn looked(hit: Hit, code: u32, address: u32, shift: u32) -> Plan
+fn looked(hit: Option<u64>, code: u32, address: u32, shift: u32) -> Plan
     ensures { result ≡ look_plan code address shift hit }
 {
     match hit {
-        Hit::At(base) => at_address(memory::page030::hit_address(base, address, shift)),
-        Hit::Miss => Plan::Walk030 { code },
+        Some(base) => at_address(memory::page030::hit_address(base, address, shift)),
+        None => Plan::Walk030 { code },
     }
 }
 
@@ -42,11 +42,10 @@ fn plan_030(
 ) -> Plan
     ensures { PlannedIn030 (plan030 (cache_of c030.old) recorded (code % 8) address write (shift_of tc)) result c030.new }
 {
-    checks::sized(c030);
     let code = code % 8;
     match memory::page030::page_shift(tc) {
-        Shift::NoPage => Plan::Walk030 { code },
-        Shift::Bits(shift) => {
+        None => Plan::Walk030 { code },
+        Some(shift) => {
             let page = address >> shift;
             let hit = look(c030, code, page, shift, write, recorded);
             looked(hit, code, address, shift)
@@ -55,12 +54,12 @@ fn plan_030(
 }
 
 // By what the look into the 68040 cache gave: a hit joins base and low bits.
-fn looked_040(hit: Hit, tc: u32, address: u32, supervisor: bool) -> Plan
+fn looked_040(hit: Option<u64>, tc: u32, address: u32, supervisor: bool) -> Plan
     ensures { result ≡ look_plan040 tc address supervisor hit }
 {
     match hit {
-        Hit::At(base) => at_address(memory::page040::joined_040(tc, base, address)),
-        Hit::Miss => Plan::Walk040 { supervisor },
+        Some(base) => at_address(memory::page040::joined_040(tc, base, address)),
+        None => Plan::Walk040 { supervisor },
     }
 }
 
@@ -103,7 +102,6 @@ pub fn plan_access(
 ) -> Plan
     ensures { PlannedIn (plan_access g a two crossed (caches_of c030.old c040.old)) result c030.new c040.new }
 {
-    checks::lengths(c030, c040);
     let code = a.code;
     let five = checks::bad_override(code);
     let four = bad_cache(c030);

@@ -11,15 +11,13 @@ use borrow.Author.Tests.{eqb-true, eqb-false, ne_eqb, le-leb, lt-leb, lt-ltb}
 use lib.Dec.{eqb, ltb}
 use lib.ListN.{length, get_or, drop, length-append, length-drop, drop_of_length-le}
 use lib.Seq.{drop-cons}
-use Rattle.std.specs.Prelude.{if◌then◌else◌}
+use Rattle.std.specs.Prelude.{if◌then◌else◌, Option, Some, None}
 use Rattle.definition.specs.Words.{bit_of}
 use Rattle.definition.specs.Memory.{Memory, fetch_of}
 use Rattle.definition.specs.Walk030.{entry_of, Descriptor, Whole, Lost, short_of, long_of, on_second, read_of, is_of, used, widths_of, top_index, Step, steps, steps_with, Found, Outcome, ended, asking, deeper, guarded, by_kind, on_target, on_table, on_descriptor, walk_from, start, walk_steps, outcome_of, walk030}
 use Rattle.definition.specs.Registers.{root_of}
 use Rattle.definition.specs.declared.Registers.{Registers}
 use Rattle.definition.specs.declared.Root.{Root}
-use Rattle.definition.specs.declared.Fetched.{Fetched}
-use Rattle.definition.specs.declared.Fetched.TheVariants.{Long, Failed}
 use Rattle.definition.proofs.Asked030.{asked_for}
 use Rattle.memory.specs.Descriptors.{shown_read}
 use Rattle.memory.specs.declared.descriptor.Descriptor.{Descriptor as Read}
@@ -36,17 +34,17 @@ use Rattle.memory.proofs.Widths.{used_at, width_small, widths_few}
 use Rattle.walk030.proofs.Aiming as aim
 
 -- ---- what a descriptor asks for
-second_few : (first at next : ℕ) (r : Fetched) → length (asked_for (on_second first at next r)) ≤ 2
-second_few first at next (Long second) = omega arith
-second_few first at next Failed = omega arith
+second_few : (first at next : ℕ) (r : Option ℕ) → length (asked_for (on_second first at next r)) ≤ 2
+second_few first at next (Some second) = omega arith
+second_few first at next None = omega arith
 
-long_few : (m : Memory) (at : ℕ) (r : Fetched) → length (asked_for (long_of m at r)) ≤ 2
-long_few m at (Long first) = second_few first at (entry_of at 1 false) (fetch_of m (entry_of at 1 false))
-long_few m at Failed = omega arith
+long_few : (m : Memory) (at : ℕ) (r : Option ℕ) → length (asked_for (long_of m at r)) ≤ 2
+long_few m at (Some first) = second_few first at (entry_of at 1 false) (fetch_of m (entry_of at 1 false))
+long_few m at None = omega arith
 
-short_few : (at : ℕ) (r : Fetched) → length (asked_for (short_of at r)) ≤ 2
-short_few at (Long first) = omega arith
-short_few at Failed = omega arith
+short_few : (at : ℕ) (r : Option ℕ) → length (asked_for (short_of at r)) ≤ 2
+short_few at (Some first) = omega arith
+short_few at None = omega arith
 
 read_few : (m : Memory) (at : ℕ) (long : Bool) → length (asked_for (read_of m at long)) ≤ 2
 unfolding read_of

@@ -7,12 +7,10 @@ use native.Mathlib.Omega.{arith}
 use borrow.Author.Tests.{eqb-true}
 use lib.Dec.{ltb, eqb}
 use lib.ListN.{length, length-append}
-use Rattle.std.specs.Prelude.{if◌then◌else◌}
+use Rattle.std.specs.Prelude.{if◌then◌else◌, Option, Some, None}
 use Rattle.definition.specs.Words.{bit_of}
 use Rattle.definition.specs.Memory.{Memory, fetch_of}
 use Rattle.definition.specs.Walk040.{Outcome040, ended040, asks, pointer_at, page_at, on_page, on_entry, walk040_from}
-use Rattle.definition.specs.declared.Fetched.{Fetched}
-use Rattle.definition.specs.declared.Fetched.TheVariants.{Long, Failed}
 use Rattle.definition.specs.declared.End040.{End040}
 use Rattle.definition.specs.declared.End040.TheVariants.{Resident, Absent, Lost}
 use Rattle.definition.specs.declared.FaultCause.{FaultCause}
@@ -137,15 +135,15 @@ module _ (m : Memory) (tc first address : ℕ) where
     ended_so : (e : End040) → whole ≡ ended040 e after → {x : End040} → x ≡ e → {a : Walked040} → a ≡ answered040 s x → a ≡ shown040 whole
     ended_so e ew ex ea = ea ∙ rw (ex, ew, after_length)
 
-    module _ {w : ℕ} (ew : w ≡ s.at) {f : Fetched} (ef : f ≡ fetch_of m w) where
+    module _ {w : ℕ} (ew : w ≡ s.at) {f : Option ℕ} (ef : f ≡ fetch_of m w) where
       gave : fetch_of m s.at ≡ f
       gave = ap (fetch_of m) (sym ew) ∙ sym ef
 
       -- the way out at a bus error
-      pub ends_lost : f ≡ Failed → {e : End040} → e ≡ Lost w → {a : Walked040} → a ≡ answered040 s e → a ≡ shown040 whole
+      pub ends_lost : f ≡ None → {e : End040} → e ≡ Lost w → {a : Walked040} → a ≡ answered040 s e → a ≡ shown040 whole
       ends_lost h ee ea = ended_so (Lost s.at) (t.same ∙ rw (gave ∙ h)) (ee ∙ ap Lost ew) ea
 
-      module _ {x : ℕ} (ex : f ≡ Long x) {i : Bool} (ei : i ≡ invalid040 s.level x) where
+      module _ {x : ℕ} (ex : f ≡ Some x) {i : Bool} (ei : i ≡ invalid040 s.level x) where
         decided : whole
             ≡ (if i
             then ended040 (Absent (missing040 s.level)) after

@@ -8,7 +8,7 @@ ghost use Rattle.definition.specs.Memory.{memory};
 ghost use Rattle.definition.specs.Walk040.{root_at, walk040, walk040_from};
 ghost use Rattle.walk040.specs.Walked.{shown040};
 
-use definition::{End040, Fetched, Range, Registers};
+use definition::{End040, Range, Registers};
 use memory::descriptor::entry;
 use memory::longs::fetch;
 use memory::registers::tc_of;
@@ -46,8 +46,8 @@ fn walk_040(
     let end = loop {
         let at = machine::wanted(s);
         match fetch(longs, base, ranges, at) {
-            Fetched::Failed => break End040::Lost { at },
-            Fetched::Long(x) => {
+            None => break End040::Lost { at },
+            Some(x) => {
                 if machine::is_invalid(s, x) {
                     let cause = machine::missing(s);
                     break End040::Absent(cause);
