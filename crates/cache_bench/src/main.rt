@@ -11,7 +11,7 @@ use cache::atc040::Atc040;
 use cache::{CachePair, atc030, atc040};
 use std::io;
 use std::rt::Env;
-use vectors::{Cursor, Number};
+use vectors::Cursor;
 
 // The numbers that the pages come from: x = (x * 1103515245 + 12345) mod 2^31.
 fn next_x(x: u32) -> u32 {
@@ -165,13 +165,8 @@ fn argument<E: Env>(rt: &E, i: usize) -> u32 {
     let mut text = [10u8; 16];
     let _ = rt.arg(i, &mut text);
     match vectors::read_number(&text, Cursor { at: 0 }) {
-        Number::Is {
-            value,
-            last: _,
-            next: _,
-        } => value,
-        Number::End => 0,
-        Number::Malformed => 0,
+        Ok(Some(number)) => number.value,
+        Ok(None) | Err(_) => 0,
     }
 }
 

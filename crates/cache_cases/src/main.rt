@@ -8,11 +8,9 @@ mod sums;
 use cache::atc030::Atc030;
 use cache::atc040::Atc040;
 use cache::{CachePair, atc030, atc040};
-use std::io::Read;
-use vectors::Progress;
 
 // Operations 1 to 6, on the 68030 cache: what they answer.
-fn on_030(row: &[u32; 128], c030: &mut Atc030) -> Option<u64> {
+fn on_030(row: &[u32; 9], c030: &mut Atc030) -> Option<u64> {
     let code = row[1] % 8;
     let operation = row[0];
     match operation {
@@ -38,7 +36,7 @@ fn on_030(row: &[u32; 128], c030: &mut Atc030) -> Option<u64> {
 }
 
 // Operations 11 to 14, on the 68040 cache.
-fn on_040(row: &[u32; 128], c040: &mut Atc040) -> Option<u64> {
+fn on_040(row: &[u32; 9], c040: &mut Atc040) -> Option<u64> {
     let operation = row[0];
     match operation {
         11 => atc040::look_040(c040, row[1], row[2] == 1, row[3] == 1),
@@ -63,7 +61,7 @@ fn wide(x: u32) -> u64 {
 }
 
 // Whether the row has this answer and this sum.
-fn has(row: &[u32; 128], answer: Option<u64>, sum: u32) -> bool {
+fn has(row: &[u32; 9], answer: Option<u64>, sum: u32) -> bool {
     match answer {
         Some(base) => (row[6] == 1) & (wide(row[7]) == base) & (row[8] == sum),
         None => (row[6] == 0) & (row[7] == 0) & (row[8] == sum),
@@ -71,58 +69,26 @@ fn has(row: &[u32; 128], answer: Option<u64>, sum: u32) -> bool {
 }
 
 // Whether an operation gives what its row says. A row of another length, or with another number for the operation, differs.
-fn is_same(row: &[u32; 128], count: usize, c030: &mut Atc030, c040: &mut Atc040) -> bool {
-    if count != 9 {
+fn is_same(row: &[u32], caches: &mut CachePair) -> bool {
+    let Ok(row) = <&[u32; 9]>::try_from(row) else {
         return false;
-    }
+    };
     let operation = row[0];
     match operation {
         1..=6 => {
-            let answer = on_030(row, c030);
-            has(row, answer, sums::sum_030(c030))
+            let answer = on_030(row, &mut caches.c030);
+            has(row, answer, sums::sum_030(&caches.c030))
         }
         11..=14 => {
-            let answer = on_040(row, c040);
-            has(row, answer, sums::sum_040(c040))
+            let answer = on_040(row, &mut caches.c040);
+            has(row, answer, sums::sum_040(&caches.c040))
         }
         _ => false,
     }
 }
 
-// One row more.
-fn one_row<P: Print, R: Read>(
-    rt: &P,
-    input: &mut R,
-    p: Progress,
-    buf: &mut [u8; 65536],
-    row: &mut [u32; 128],
-    c030: &mut Atc030,
-    c040: &mut Atc040,
-) -> Progress {
-    let next = p.advance(rt, input, buf, row);
-    if !next.on {
-        return next;
-    }
-    let same = is_same(row, next.count, c030, c040);
-    next.judged(rt, same)
-}
-
-// Every row, from empty caches. The loop counts its turns down, since nothing says that a file ends.
-fn every_row<P: Print, R: Read>(rt: &P, input: &mut R) -> Progress {
-    let mut buf = [0u8; 65536];
-    let mut row = [0u32; 128];
-    let empty = CachePair::empty();
-    let mut c030 = empty.c030;
-    let mut c040 = empty.c040;
-    let mut p = Progress::start();
-    let mut turns = u64::MAX;
-    while turns > 0 && p.on {
-        turns -= 1;
-        p = one_row(rt, input, p, &mut buf, &mut row, &mut c030, &mut c040);
-    }
-    p
-}
-
+// Every row, from empty caches.
 fn main(rt: HostRuntime) {
-    every_row(&rt, &mut rt.stdin()).print(&rt, b"operations");
+    let mut caches = CachePair::empty();
+    vectors::every_row(&rt, rt.stdin(), |row| is_same(row, &mut caches)).print(&rt, "operations");
 }

@@ -55,41 +55,26 @@ fn plus(n: u64, so: bool) -> u64 {
 
 // A row: the record of the first and of the second replay, and where the walk's answer starts.
 #[derive(Clone, Copy)]
-enum Row {
-    Watched { one: u32, two: u32, from: usize },
-    Malformed,
+struct Row {
+    one: u32,
+    two: u32,
+    from: usize,
 }
 
-// The rest of a row, after its first number.
-fn row_after(rows: &[u8], one: u32, c: Cursor) -> Row {
-    match vectors::read_number(rows, c) {
-        Number::Is { value, last, next } => {
-            if last {
-                return Row::Malformed;
-            }
-            Row::Watched {
-                one,
-                two: value,
-                from: next.at,
-            }
-        }
-        Number::End => Row::Malformed,
-        Number::Malformed => Row::Malformed,
-    }
+// The number at a cursor, where another one comes after it.
+fn number_before(rows: &[u8], c: Cursor) -> Option<Number> {
+    vectors::read_number(rows, c).ok()?.filter(|n| !n.last)
 }
 
 // The row at a place.
-fn row_at(rows: &[u8], at: usize) -> Row {
-    match vectors::read_number(rows, Cursor { at }) {
-        Number::Is { value, last, next } => {
-            if last {
-                return Row::Malformed;
-            }
-            row_after(rows, value, next)
-        }
-        Number::End => Row::Malformed,
-        Number::Malformed => Row::Malformed,
-    }
+fn row_at(rows: &[u8], at: usize) -> Option<Row> {
+    let one = number_before(rows, Cursor { at })?;
+    let two = number_before(rows, one.next)?;
+    Some(Row {
+        one: one.value,
+        two: two.value,
+        from: two.next.at,
+    })
 }
 
 // Tells a watched access that is not answered alike, or not as the cacheless walk.
@@ -185,7 +170,7 @@ fn judge_row<S: Print + Eprint>(
     out: &mut [u8; 4096],
 ) -> Shown {
     match row_at(rows, at) {
-        Row::Watched { one, two, from } => {
+        Some(Row { one, two, from }) => {
             let same = sides::same_access(first_trace, one, second_trace, two);
             judge_access(
                 rt,
@@ -202,7 +187,7 @@ fn judge_row<S: Print + Eprint>(
                 out,
             )
         }
-        Row::Malformed => malformed_row(rt, s, name, out),
+        None => malformed_row(rt, s, name, out),
     }
 }
 

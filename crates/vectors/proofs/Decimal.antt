@@ -1,23 +1,19 @@
 -- The numbers that are read are what the digits mean: what the kit's `decimal` writes is read back.
-use Prim.Native.Nat.{ℕ, zero, suc, ◌+◌, ◌*◌, ◌/◌, ◌%◌, ◌^◌, ◌<◌}
-use mathlib.Core.Path.{◌≡◌, sym, ◌∙◌}
-use mathlib.Core.Bool.{false}
-use mathlib.Core.List.{List, ◌∷◌, ◌++◌, append_assoc}
-use native.Mathlib.Omega.{arith}
+use Rattle.std.proofs.Common.{ℕ, zero, suc, ◌≡◌, ◌+◌, ◌*◌, ◌/◌, ◌%◌, ◌^◌, ◌-◌, ◌<◌, false, Some, Ok, List, ◌∷◌, ◌++◌, sym, ◌∙◌, append_assoc, arith}
 use native.Mathlib.Nat.{pow-suc, mul_assoc}
 use borrow.Author.Tests.{lt-ltb, le-leb, lt-leb}
 use Rattle.io.specs.Digits.{last_digits, hex_digit_ascii}
 use Rattle.vectors.specs.Rows.{digit_of, number_from, number_at}
-use Rattle.vectors.specs.declared.Number.TheVariants as number
 
-digit_glyph : (d : ℕ) → d < 10 → digit_of (hex_digit_ascii d) ≡ d
+digit_glyph : (d : ℕ) → d < 10 → digit_of (hex_digit_ascii d) ≡ Some d
 digit_glyph d h =
-    rw (lt-ltb d 10 h, le-leb 48 (48 + d) (omega arith), le-leb (48 + d) 57 (omega arith)) (omega arith)
+    let e : 48 + d - 48 ≡ d = omega arith in
+    rw (lt-ltb d 10 h, le-leb 48 (48 + d) (omega arith), le-leb (48 + d) 57 (omega arith), e)
 
 -- one digit more
 one_digit : (start v i d : ℕ) (rest : List ℕ) → d < 10 → v * 10 + d < 2 ^ 32 → number_from start v i (hex_digit_ascii d ∷ rest) ≡ number_from start (v * 10 + d) (i + 1) rest
 unfolding number_from
-one_digit start v i d rest h k = rw (digit_glyph d h, lt-leb 10 d h, lt-leb (2 ^ 32) (v * 10 + d) k)
+one_digit start v i d rest h k = rw (digit_glyph d h, lt-leb (2 ^ 32) (v * 10 + d) k)
 
 -- the last k digits of n come after those that make v
 all_digits : (start k v i n : ℕ) (rest : List ℕ) → n < 10 ^ k → v * 10 ^ k + n < 2 ^ 32 → number_from start v i (last_digits 10 k n ++ rest) ≡ number_from start (v * 10 ^ k + n) (i + k) rest
@@ -36,7 +32,7 @@ all_digits start (suc k) v i n rest h b =
     ∙ one_digit start (v * 10 ^ k + n / 10) (i + k) (n % 10) rest (omega arith) (omega (arith, e)) ∙ rw (e, f))
 
 -- a number that is written with k digits, at the start of a text, and closed by a space
-pub read_back : (k n : ℕ) (rest : List ℕ) → 0 < k → n < 10 ^ k → n < 2 ^ 32 → number_at (last_digits 10 k n ++ (32 ∷ rest)) 0 ≡ number.Is n false (record { at = k + 1 })
+pub read_back : (k n : ℕ) (rest : List ℕ) → 0 < k → n < 10 ^ k → n < 2 ^ 32 → number_at (last_digits 10 k n ++ (32 ∷ rest)) 0 ≡ Ok (Some (record { value = n; last = false; next = record { at = k + 1 } }))
 unfolding number_from
 read_back k n rest p h b =
     let e : 0 * 10 ^ k + n ≡ n = omega arith in

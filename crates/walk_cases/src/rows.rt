@@ -1,148 +1,141 @@
 // A row's parts: 12 numbers, the last of them n; n pairs, the address and value of a long; m; m pairs, a range's first and last;
 // then the answers.
-ghost use Rattle.std.specs.Prelude.{◌+◌, ◌*◌, ◌^◌, ◌≤◌, ◌<◌};
-ghost use Rattle.walk_cases.specs.Rows.{Room};
+ghost use Rattle.std.specs.Prelude.{◌≤◌, length};
 
+use crate::answers;
 use definition::{Range, Registers, Root};
-use memory::kept::Ranges;
+use walk030::Walked;
+use walk040::Walked040;
 
-// How many pairs and ranges a row has, if it has a row's length.
+// A row, cut into these parts.
 #[derive(Clone, Copy)]
-pub enum Parts {
-    Are { pairs: usize, ranges: usize },
-    Malformed,
+pub struct Row<'a> {
+    head: &'a [u32; 12],
+    longs: &'a [u32],
+    ranges: &'a [u32],
+    pub answers: &'a [u32],
+    ghost few: { length ranges.now ≤ 32 },
 }
 
-// A case: what a walk is given, but for the longs.
-#[derive(Clone, Copy)]
+// What a walk is given: the longs from the base on, and of the list as many ranges.
+#[derive(Drop)]
 pub struct Case {
     pub registers: Registers,
     pub address: u32,
     pub code: u32,
     pub write: bool,
-    pub base: u32,
-    pub ranges: Ranges,
+    base: u32,
+    longs: [u32; 8192],
+    list: [Range; 16],
+    ranges: usize,
+    ghost room: { ranges ≤ 16 },
 }
 
-// How many numbers the answers are: a translation's five and, for family 30, three for each of seven levels.
-fn answers_of(family: u32) -> usize
-    ensures { result ≤ 26 }
-{
-    if family == 30 {
-        return 26;
+impl Case {
+    // The walk of a 68030, of at most `limit` levels.
+    pub fn walked_030(&self, limit: u32) -> Walked {
+        walk030::walk(
+            &self.longs,
+            self.base,
+            &self.list[..self.ranges],
+            self.registers,
+            self.address,
+            self.code,
+            limit,
+        )
     }
-    5
+
+    // The walk of a 68040.
+    pub fn walked_040(&self) -> Walked040 {
+        walk040::walk(
+            &self.longs,
+            self.base,
+            &self.list[..self.ranges],
+            self.registers,
+            self.address,
+            answers::is_supervisor(self.code),
+        )
+    }
 }
 
-// A number of the row that counts.
-fn count_of(x: u32) -> usize
-    ensures { result < 2 ^ 32 }
-{
-    x as usize
-}
-
-// The parts of a row of `count` numbers. One with more parts than 128 numbers have room for is malformed.
-pub fn parts_of(row: &[u32; 128], count: usize) -> Parts
-    ensures { Room result }
-{
-    let pairs = count_of(row[11]);
-    if 128 <= 12 + 2 * pairs {
-        return Parts::Malformed;
-    }
-    let ranges = count_of(row[12 + 2 * pairs]);
-    if 16 < ranges {
-        return Parts::Malformed;
-    }
-    let answers = 13 + 2 * pairs + 2 * ranges;
-    if 128 < answers + 26 {
-        return Parts::Malformed;
-    }
-    if count != answers + answers_of(row[0]) {
-        return Parts::Malformed;
-    }
-    Parts::Are { pairs, ranges }
-}
-
-// Stores a long, unless it is outside the longs from `base` on.
-fn store(longs: &mut [u32], base: u32, address: u32, value: u32) -> bool {
-    if address < base {
-        return false;
-    }
-    let offset = address - base;
-    if offset % 4 != 0 {
-        return false;
-    }
-    let k = (offset / 4) as usize;
-    if longs.len() <= k {
-        return false;
-    }
-    longs[k] = value;
-    true
-}
-
-// Stores the longs of a row's pairs. False: one is outside.
-pub fn store_pairs(row: &[u32; 128], pairs: usize, longs: &mut [u32]) -> bool
-    requires { 12 + 2 * pairs ≤ 128 }
-{
-    for k in 0..pairs {
-        if !store(longs, row[9], row[12 + 2 * k], row[13 + 2 * k]) {
-            return false;
+impl<'a> Row<'a> {
+    // The parts of a row, if it has a row's length. One with more parts than 128 numbers have room for beside 26 answers has none.
+    pub fn cut(row: &'a [u32]) -> Option<Row<'a>> {
+        let (head, rest) = row.split_first_chunk::<12>()?;
+        let (longs, rest) = rest.split_at_checked(2 * head[11] as usize)?;
+        let (n, rest) = rest.split_first()?;
+        let (ranges, answers) = rest.split_at_checked(2 * *n as usize)?;
+        if 16 < *n || 102 < 13 + longs.len() + ranges.len() {
+            return None;
         }
+        Some(Row {
+            head,
+            longs,
+            ranges,
+            answers,
+        })
     }
-    true
-}
 
-// A row's ranges.
-fn ranges_of(row: &[u32; 128], at: usize, n: usize) -> Ranges
-    requires { (at + 2 * n ≤ 128) × (n ≤ 16) }
-{
-    let mut ranges = Ranges::new();
-    ranges.n = n;
-    for k in 0..n {
-        ranges.list[k] = Range {
-            first: row[at + 2 * k],
-            last: row[at + 2 * k + 1],
-        };
+    // The longs from the base on, of which a row has those that are not 0. None: one is outside.
+    fn stored(self) -> Option<[u32; 8192]> {
+        let mut longs = [0; 8192];
+        for pair in self.longs.chunks_exact(2) {
+            let offset = pair[0].checked_sub(self.head[9])?;
+            if offset % 4 != 0 {
+                return None;
+            }
+            *longs.get_mut((offset / 4) as usize)? = pair[1];
+        }
+        Some(longs)
     }
-    ranges
-}
 
-// The PMMU is on, and no transparent register is enabled.
-fn registers_of(row: &[u32; 128]) -> Registers {
-    Registers {
-        family: row[0],
-        present: true,
-        enabled: true,
-        tc: row[1],
-        crp: Root {
-            limit: row[2],
-            address: row[3],
-        },
-        srp: Root {
-            limit: row[4],
-            address: row[5],
-        },
-        tt0: 0,
-        tt1: 0,
-        itt0: 0,
-        itt1: 0,
-        dtt0: 0,
-        dtt1: 0,
+    // The row's ranges, at the start.
+    fn list(self) -> [Range; 16] {
+        let none = Range { first: 0, last: 0 };
+        let mut list = [none; 16];
+        for (range, pair) in list.iter_mut().zip(self.ranges.chunks_exact(2)) {
+            *range = Range {
+                first: pair[0],
+                last: pair[1],
+            };
+        }
+        list
     }
-}
 
-// The case of a row.
-pub fn case_of(row: &[u32; 128], pairs: usize, ranges: usize) -> Case
-    requires { (13 + 2 * pairs + 2 * ranges ≤ 128) × (ranges ≤ 16) }
-{
-    let kept = ranges_of(row, 13 + 2 * pairs, ranges);
-    let registers = registers_of(row);
-    Case {
-        registers,
-        address: row[6],
-        code: row[7],
-        write: row[8] == 1,
-        base: row[9],
-        ranges: kept,
+    // The case, if its longs have room: the PMMU is on, and no transparent register is enabled.
+    pub fn case(self) -> Option<Case> {
+        let head = self.head;
+        if head[10] != 8192 {
+            return None;
+        }
+        Some(Case {
+            registers: Registers {
+                family: head[0],
+                present: true,
+                enabled: true,
+                tc: head[1],
+                crp: Root {
+                    limit: head[2],
+                    address: head[3],
+                },
+                srp: Root {
+                    limit: head[4],
+                    address: head[5],
+                },
+                tt0: 0,
+                tt1: 0,
+                itt0: 0,
+                itt1: 0,
+                dtt0: 0,
+                dtt1: 0,
+            },
+            address: head[6],
+            code: head[7],
+            write: head[8] == 1,
+            base: head[9],
+            longs: self.stored()?,
+            list: self.list(),
+            ranges: self.ranges.len() / 2,
+        })
     }
 }

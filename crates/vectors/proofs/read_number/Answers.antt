@@ -1,22 +1,21 @@
-use Rattle.std.proofs.Common.{◌∙◌}
-use Rattle.vectors.proofs.Laws.{closes, too_large, more, over, settled}
+use Rattle.std.proofs.Common.{◌∙◌, nat_lt, slice_index_or}
+use Rattle.vectors.proofs.Laws.{closes, too_large, more, over, closed_ahead}
 use Rattle.vectors.proofs.read_number.Goals as goal
 
-pub returns-then-d-ge10 : goal.returns-then-d-ge10
-returns-then-d-ge10 c =
-    let s = settled c.args.text.now c.args.c.at c.closed_by.result (c.closed_by.ensures ∙ closes c.loop-i.invariant c.loop-i-test.true c.digit_of-d.result c.digit_of-d.ensures c.if-d-ge10.true) in
-    record { value = s.0; ahead = s.1 }
+pub returns-in_default-clause-value : goal.returns-in_default-clause-value
+returns-in_default-clause-value c = c.closed_by.ensures ∙ closes c.loop-i.invariant c.loop-i-test.true c.in_default.ensures
 
-pub returns-then-value-ge4294967296 : goal.returns-then-value-ge4294967296
-returns-then-value-ge4294967296 c =
-    let s = settled c.args.text.now c.args.c.at _ (too_large c.loop-i.invariant c.loop-i-test.true c.digit_of-d.result c.digit_of-d.ensures c.if-d-ge10.false c.if-value-ge4294967296.true) in
-    record { value = s.0; ahead = s.1 }
+pub returns-in_default-clause-ahead : goal.returns-in_default-clause-ahead
+returns-in_default-clause-ahead c =
+    rw c.closed_by.ensures (closed_ahead (nat_lt c.args.c.at c.loop-i.i) c.loop-i.value (slice_index_or c.args.text.now c.loop-i.i 0) c.loop-i.i _ _ c.loop-i.auto.i c.loop-i-test.true)
+
+pub returns-then-value-ge4294967296-clause-value :
+    goal.returns-then-value-ge4294967296-clause-value
+returns-then-value-ge4294967296-clause-value c =
+    too_large c.loop-i.invariant c.loop-i-test.true c.in-Some.ensures c.if-value-ge4294967296.true
 
 pub loop-i-preserved : goal.loop-i-preserved
-loop-i-preserved c =
-    more c.loop-i.invariant c.loop-i-test.true c.digit_of-d.result c.digit_of-d.ensures c.if-d-ge10.false c.if-value-ge4294967296.false
+loop-i-preserved c = more c.loop-i.invariant c.loop-i-test.true c.in-Some.ensures c.if-value-ge4294967296.false
 
-pub returns : goal.returns
-returns c =
-    let s = settled c.args.text.now c.args.c.at _ (over c.loop-i.invariant c.loop-i-test.false) in
-    record { value = s.0; ahead = s.1 }
+pub returns-clause-value : goal.returns-clause-value
+returns-clause-value c = over c.loop-i.invariant c.loop-i-test.false

@@ -1,29 +1,22 @@
-use Rattle.std.proofs.Common.{◌∙◌, sym}
-use Rattle.vectors.proofs.Laws.{last_put, more_put, cut, bad, no_room, ended_within, bad_within}
+use Rattle.std.proofs.lemmas.Result.{err_from_is_err_and}
+use Rattle.vectors.proofs.Laws.{bad, cut, last_put, more_put, no_room}
 use Rattle.vectors.proofs.read_row.Goals as goal
 
-pub returns-then-last : goal.returns-then-last
-returns-then-last c =
-    let p = last_put c.loop-count.invariant c.loop-count-test.true c.read_number.ensures.value c.read_number.ensures.ahead c.in-Is.is c.if-last.true in
-    record { numbers_after = p.0; within = p.1 }
+pub returns-in_err-number-clause-numbers_after : goal.returns-in_err-number-clause-numbers_after
+returns-in_err-number-clause-numbers_after c =
+    let p = err_from_is_err_and c.from_residual.result c.from_residual.ensures.1 in
+    rw p.1 (bad c.loop-i.invariant c.loop-i-test.true c.in_err-number.ensures.value)
 
-pub loop-count-preserved : goal.loop-count-preserved
-loop-count-preserved c =
-    more_put c.loop-count.invariant c.loop-count-test.true c.read_number.ensures.value c.read_number.ensures.ahead c.in-Is.is c.if-last.false
+pub returns-in_default-clause-numbers_after : goal.returns-in_default-clause-numbers_after
+returns-in_default-clause-numbers_after c = cut c.loop-i.invariant c.loop-i-test.true (rw c.in_default.is at c.in_ok-number.ensures.value)
 
-pub returns-in-End : goal.returns-in-End
-returns-in-End c =
-    record {
-      numbers_after = cut c.loop-count.invariant c.loop-count-test.true (sym c.read_number.ensures.value ∙ c.in-End.is);
-      within = ended_within _ _ _;
-    }
+pub returns-then-number-clause-numbers_after : goal.returns-then-number-clause-numbers_after
+returns-then-number-clause-numbers_after c =
+    last_put c.loop-i.invariant c.loop-i-test.true (rw c.in-Some.is at c.in_ok-number.ensures.value) c.if-number.true
 
-pub returns-in-Malformed : goal.returns-in-Malformed
-returns-in-Malformed c =
-    record {
-      numbers_after = bad c.loop-count.invariant c.loop-count-test.true (sym c.read_number.ensures.value ∙ c.in-Malformed.is);
-      within = bad_within _ _ _;
-    }
+pub loop-i-preserved : goal.loop-i-preserved
+loop-i-preserved c =
+    more_put c.loop-i.invariant c.loop-i-test.true (rw c.in-Some.is at c.in_ok-number.ensures.value) (rw c.in-Some.is at c.in_ok-number.ensures.ahead).0 c.if-number.false
 
-pub returns : goal.returns
-returns c = record { numbers_after = no_room c.loop-count.invariant c.loop-count-test.false; within = bad_within _ _ _ }
+pub returns-clause-numbers_after : goal.returns-clause-numbers_after
+returns-clause-numbers_after c = no_room c.loop-i.invariant c.loop-i-test.false
