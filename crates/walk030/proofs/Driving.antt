@@ -431,17 +431,6 @@ module _ (m : Memory) (tc : ℕ) (root : Root) (address code limit : ℕ) where
       begin_lem : o ≡ (if no_walk (root.limit % 4) (length us) (bit_of tc 24) then None else Some (begun_of tc root (eqb (root.limit % 4) 3)))
       begin_lem = eo ∙ ap (begin_of tc root) n_is ∙ begin_is tc root (length us)
 
-      -- the way out at a configuration fault
-      pub ends_config : o ≡ None → {w : Walked} → w ≡ misconfigured_of root → w ≡ shown whole
-      ends_config h e =
-          let c : whole ≡ ended Config (start root.address) = begins (bit_of tc 24) (is_of tc) us ∙ go (no_walk (root.limit % 4) (length us) (bit_of tc 24)) (sym begin_lem ∙ h) _ in
-          e ∙ rw c
-        where
-          go : (b : Bool) → ◌≡◌ {A = Option Walking030} (if b then None else Some (begun_of tc root (eqb (root.limit % 4) 3))) None → (o : Outcome)
-              → (if b then ended Config (start root.address) else o) ≡ ended Config (start root.address)
-          go true e o = refl
-          go false e o = absurd (none-some _ (sym e))
-
       pub begin : {s : Walking030} → o ≡ Some s → Standing s
       begin {s} h = go (no_walk (root.limit % 4) (length us) (bit_of tc 24)) refl (sym begin_lem ∙ h)
         where
