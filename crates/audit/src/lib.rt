@@ -3,7 +3,6 @@
 
 pub mod by_value;
 pub mod finding;
-pub mod sixteen;
 mod telling;
 mod walking;
 

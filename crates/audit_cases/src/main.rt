@@ -2,7 +2,8 @@
 // What must be written stands in the file stdout, from document 01 by hand: `e` an entry of the 68030, `d` a slot of the 68040.
 #![tactic(auto)]
 
-use audit::sixteen::{audit_kept, finding_kept};
+use audit::audit_lent;
+use audit::finding::finding_lent;
 use cache::atc030::{Atc030, PAGES, RECENT, SHIFT};
 use cache::atc040::Atc040;
 use definition::{Access, Audit, Finding, Range, Registers, Root, Translation};
@@ -57,9 +58,9 @@ fn reading(supervisor: bool) -> Access {
     }
 }
 
-// Sixteen times the same range; how many of them hold is said at each call.
-fn ranges(first: u32, last: u32) -> [Range; 16] {
-    [Range { first, last }; 16]
+// A bus-error range.
+fn range(first: u32, last: u32) -> Range {
+    Range { first, last }
 }
 
 fn store(longs: &mut [u32; 8192], address: u32, value: u32) {
@@ -77,8 +78,7 @@ fn tables(longs: &mut [u32; 8192]) {
 
 // The page of 02041ABC is cached.
 fn warm(c030: &mut Atc030, c040: &mut Atc040, longs: &[u32; 8192], g: Registers, supervisor: bool) {
-    let list = ranges(0, 0);
-    kept::translate(c030, c040, longs, 0, list, 0, false, g, reading(supervisor));
+    translate::translate(c030, c040, longs, 0, &[], false, g, reading(supervisor));
 }
 
 // ---- What is written.
@@ -109,24 +109,20 @@ fn show_from<P: Print>(
     g: Registers,
     from: u32,
 ) -> io::Result<()> {
-    let list = ranges(0, 0);
-    tell(rt, audit_kept(c030, c040, longs, 0, list, 0, g, from))
+    tell(rt, audit_lent(c030, c040, longs, 0, &[], g, from))
 }
 
-// What it says over a base and `n` such ranges.
+// What it says over a base and ranges.
 fn show_with<P: Print>(
     rt: &P,
     c030: &Atc030,
     c040: &Atc040,
     longs: &[u32; 8192],
     base: u32,
-    first: u32,
-    last: u32,
-    n: usize,
+    ranges: &[Range],
     g: Registers,
 ) -> io::Result<()> {
-    let list = ranges(first, last);
-    tell(rt, audit_kept(c030, c040, longs, base, list, n, g, 0))
+    tell(rt, audit_lent(c030, c040, longs, base, ranges, g, 0))
 }
 
 fn show<P: Print>(
@@ -175,7 +171,7 @@ fn damage_030<P: Print>(rt: &P) -> io::Result<()> {
     changed(rt, &c030, &c040, &mut longs, g, 0x2004, 0x3006)?;
     changed(rt, &c030, &c040, &mut longs, g, 0x2004, 0x4003)?;
     changed(rt, &c030, &c040, &mut longs, g, 0x1004, 0)?;
-    show_with(rt, &c030, &c040, &longs, 0, 0x3004, 0x3004, 1, g)?;
+    show_with(rt, &c030, &c040, &longs, 0, &[range(0x3004, 0x3004)], g)?;
     show(
         rt,
         &c030,
@@ -303,10 +299,18 @@ fn refusals<P: Print>(rt: &P) -> io::Result<()> {
     let c040 = [0u64; 128];
     c030[RECENT] = 22;
     print!(rt; "refusals")?;
-    show_with(rt, &c030, &c040, &longs, 2, 1, 0, 1, registers(50, 0))?;
-    show_with(rt, &c030, &c040, &longs, 2, 1, 0, 1, of_030())?;
-    show_with(rt, &c030, &c040, &longs, 0, 1, 0, 1, of_030())?;
-    show_with(rt, &c030, &c040, &longs, 0, 1, 0, 0, of_030())?;
+    show_with(
+        rt,
+        &c030,
+        &c040,
+        &longs,
+        2,
+        &[range(1, 0)],
+        registers(50, 0),
+    )?;
+    show_with(rt, &c030, &c040, &longs, 2, &[range(1, 0)], of_030())?;
+    show_with(rt, &c030, &c040, &longs, 0, &[range(1, 0)], of_030())?;
+    show_with(rt, &c030, &c040, &longs, 0, &[], of_030())?;
     c030[RECENT] = 0;
     c030[SHIFT] = 32;
     show(rt, &c030, &c040, &longs, of_040())?;
@@ -368,9 +372,8 @@ fn said<P: Print>(
     g: Registers,
     i: u32,
 ) -> io::Result<()> {
-    let list = ranges(0, 0);
-    tell_finding(rt, finding_kept(c030, c040, longs, 0, list, 0, g, i, false))?;
-    tell_finding(rt, finding_kept(c030, c040, longs, 0, list, 0, g, i, true))
+    tell_finding(rt, finding_lent(c030, c040, longs, 0, &[], g, i, false))?;
+    tell_finding(rt, finding_lent(c030, c040, longs, 0, &[], g, i, true))
 }
 
 // Of the guard; of WP above; of an entry with WP; of an index past the end; of a supervisor's slot whose page has W; of what is refused.

@@ -1,5 +1,6 @@
 // What is said of the caches that a trace leaves: a line for each stale entry, and a last line from which a script tells.
-use audit::sixteen::{audit_kept, finding_kept};
+use audit::audit_lent;
+use audit::finding::finding_lent;
 use cache::atc030::Atc030;
 use cache::atc040::Atc040;
 use definition::{Audit, Finding, Translation};
@@ -96,10 +97,9 @@ fn put_stale(
     i: u32,
 ) -> usize {
     let g = kept.registers;
-    let list = kept.list;
-    let n = kept.n;
-    let read = finding_kept(c030, c040, longs, 0, list, n, g, i, false);
-    let write = finding_kept(c030, c040, longs, 0, list, n, g, i, true);
+    let ranges = kept.ranges.as_slice();
+    let read = finding_lent(c030, c040, longs, 0, ranges, g, i, false);
+    let write = finding_lent(c030, c040, longs, 0, ranges, g, i, true);
     let mut to = put_text(out, at, b"stale: ");
     to = put_text(out, to, cache);
     to = put_text(out, to, b" entry ");
@@ -113,8 +113,7 @@ fn put_stale(
 // The first stale entry at `from` or above.
 fn audited(c030: &Atc030, c040: &Atc040, longs: &[u32], kept: Kept, from: u32) -> Audit {
     let g = kept.registers;
-    let list = kept.list;
-    audit_kept(c030, c040, longs, 0, list, kept.n, g, from)
+    audit_lent(c030, c040, longs, 0, kept.ranges.as_slice(), g, from)
 }
 
 // Whether it names an entry.
@@ -188,8 +187,8 @@ fn put_stales(out: &mut [u8], c030: &Atc030, c040: &Atc040, longs: &[u32], kept:
 // Whether the family's cache has a valid entry at i: a read of its key is a hit.
 fn is_cached(c030: &Atc030, c040: &Atc040, longs: &[u32], kept: Kept, i: u32) -> bool {
     let g = kept.registers;
-    let list = kept.list;
-    match finding_kept(c030, c040, longs, 0, list, kept.n, g, i, false) {
+    let ranges = kept.ranges.as_slice();
+    match finding_lent(c030, c040, longs, 0, ranges, g, i, false) {
         Finding::Says {
             address: _,
             code: _,

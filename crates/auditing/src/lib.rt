@@ -67,8 +67,7 @@ fn malformed<H: Print + Eprint>(rt: &H) {
 // What the table tree of what is kept maps.
 fn mapped<H: Env + Print + Eprint>(rt: &H, line: &mut [u8], longs: &[u32], kept: Kept) -> bool {
     let g = kept.registers;
-    let list = kept.list;
-    listing::listed(rt, line, longs, g, list, kept.n)
+    listing::listed(rt, line, longs, g, kept.ranges.as_slice())
 }
 
 // At the end of the input: `end`, what the audit says or the list, or refusal 7 where a part of a record is left.

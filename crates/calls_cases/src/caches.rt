@@ -100,9 +100,8 @@ fn tried<P: Print>(rt: &P, then: Atc030, a: Access) -> io::Result<()> {
     let mut c030 = then;
     let mut c040 = [0u64; 128];
     let longs = setting::tree();
-    let list = setting::ranges(0, 0);
     let g = setting::registers(30, true);
-    let r = kept::translate(&mut c030, &mut c040, &longs, 0x1000, list, 0, false, g, a);
+    let r = translate::translate(&mut c030, &mut c040, &longs, 0x1000, &[], false, g, a);
     let answer = r.answer;
     let count = r.count;
     show_answer(rt, answer)?;

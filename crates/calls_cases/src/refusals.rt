@@ -42,14 +42,13 @@ fn load_number(answer: Load) -> u32 {
 fn load(t: Trial) -> Given {
     let mut c030 = threes_030(t.recent, t.shift);
     let longs = setting::tree();
-    let list = setting::ranges(t.first, t.last);
+    let ranges = setting::ranges(t.first, t.last);
     let g = setting::registers(t.family, t.enabled);
-    let r = kept::load(
+    let r = load::load(
         &mut c030,
         &longs,
         t.base,
-        list,
-        1,
+        &ranges,
         t.last < t.first,
         g,
         t.code,
@@ -80,16 +79,15 @@ fn translate(t: Trial) -> Given {
     let mut c030 = threes_030(t.recent, t.shift);
     let mut c040 = [3u64; 128];
     let longs = setting::tree();
-    let list = setting::ranges(t.first, t.last);
+    let ranges = setting::ranges(t.first, t.last);
     let g = setting::registers(t.family, t.enabled);
     let a = setting::access(Some(t.code), false, true);
-    let r = kept::translate(
+    let r = translate::translate(
         &mut c030,
         &mut c040,
         &longs,
         t.base,
-        list,
-        1,
+        &ranges,
         t.last < t.first,
         g,
         a,
@@ -116,13 +114,12 @@ fn test_number(answer: Test) -> u32 {
 // A test of logical 02041ABC at a level. It takes no cache.
 fn test(t: Trial, level: u32) -> Given {
     let longs = setting::tree();
-    let list = setting::ranges(t.first, t.last);
+    let ranges = setting::ranges(t.first, t.last);
     let g = setting::registers(t.family, t.enabled);
-    let r = kept::test(
+    let r = test::test(
         &longs,
         t.base,
-        list,
-        1,
+        &ranges,
         t.last < t.first,
         g,
         t.code,

@@ -69,9 +69,9 @@ pub fn tree() -> [u32; 32] {
     longs
 }
 
-// The ranges that a case keeps, of which the first counts.
-pub fn ranges(first: u32, last: u32) -> [Range; 16] {
-    [Range { first, last }; 16]
+// The one range of a case.
+pub fn ranges(first: u32, last: u32) -> [Range; 1] {
+    [Range { first, last }]
 }
 
 // Logical 02041ABC of user data, or under a function code.

@@ -1,4 +1,4 @@
--- Single answers and refusals of the calls in place, and of those over kept ranges, whose promises are the same of another list of ranges.
+-- Single answers and refusals of the calls in place, over any list of ranges.
 -- x and y are the 68030's and the 68040's array at entry, x' and y' at exit. Assumes nothing.
 use Prim.Native.Nat.{ℕ}
 use mathlib.Core.Path.{◌≡◌, refl, ap, sym, ◌∙◌}

@@ -2,6 +2,8 @@
 // The program's arguments are the function code, in decimal, and the address to start at, in hex.
 #![tactic(auto)]
 
+ghost use Rattle.std.specs.Prelude.{◌≤◌, length};
+
 use definition::{Listed, Range, Registers};
 use states::put_hex;
 use std::env::Env;
@@ -152,14 +154,13 @@ struct Listing {
 }
 
 // The ranges of what is kept as numbers, two for each.
-fn numbers_of(list: [Range; 16]) -> [u32; 32] {
+fn numbers_of(ranges: &[Range]) -> [u32; 32]
+    requires { length ranges.now ≤ 16 }
+{
     let mut numbers = [0u32; 32];
-    let mut i: usize = 0;
-    while i < 16 {
-        let r = list[i];
-        numbers[2 * i] = r.first;
-        numbers[2 * i + 1] = r.last;
-        i += 1;
+    for i in 0..ranges.len() {
+        numbers[2 * i] = ranges[i].first;
+        numbers[2 * i + 1] = ranges[i].last;
     }
     numbers
 }
@@ -272,39 +273,21 @@ fn all<H: Print + Eprint>(
     false
 }
 
-// The same over the first `n` of the ranges' numbers.
-fn all_of<H: Print + Eprint>(
-    rt: &H,
-    line: &mut [u8],
-    longs: &[u32],
-    numbers: &[u32],
-    n: usize,
-    g: Registers,
-    code: u32,
-    from: u32,
-    found: &mut [u64],
-) -> bool {
-    if n <= numbers.len() {
-        return all(rt, line, longs, &numbers[..n], g, code, from, found);
-    }
-    false
-}
-
-// Lists the tree of registers, longs at 0 and the first `n` of sixteen ranges, through `line`. Whether it came to its end.
+// Lists the tree of registers, longs at 0 and at most sixteen ranges, through `line`. Whether it came to its end.
 pub fn listed<H: Env + Print + Eprint>(
     rt: &H,
     line: &mut [u8],
     longs: &[u32],
     g: Registers,
-    list: [Range; 16],
-    n: usize,
+    ranges: &[Range],
 ) -> bool {
-    let numbers = numbers_of(list);
+    if ranges.len() > 16 {
+        return false;
+    }
+    let numbers = numbers_of(ranges);
     let code = argument(rt, 1, false);
     let from = argument(rt, 2, true);
     let mut found = [0u64; 256];
-    if n <= 16 {
-        return all_of(rt, line, longs, &numbers, 2 * n, g, code, from, &mut found);
-    }
-    false
+    let pairs = &numbers[..2 * ranges.len()];
+    all(rt, line, longs, pairs, g, code, from, &mut found)
 }

@@ -86,7 +86,7 @@ module _ (s : State) (b : List ℕ) (have : ℕ) where
     one_more s' p q = rw (← rest_after b at read have within k) (plays_then s s' (take have b) (take (have - at) (drop at b)) p q)
 
 -- ---- what a turn leaves
-pub none_kept : (k : Kept) → k.n ≡ 0 → any_of crossed (ranges_of k) ≡ false
+pub none_kept : (k : Kept) → k.ranges.n ≡ 0 → any_of crossed (ranges_of k) ≡ false
 unfolding any_of
 none_kept k e = rw e
 

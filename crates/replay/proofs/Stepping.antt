@@ -19,7 +19,7 @@ use Rattle.trace.specs.Records.{setting_in}
 use Rattle.trace.specs.declared.Line.{Line}
 use Rattle.trace.specs.declared.Setting.{Setting}
 use Rattle.replay.specs.declared.Kept.{Kept}
-use Rattle.replay.specs.Playing.{state_of, CalledIn, StoredIn, PlayedIn}
+use Rattle.replay.specs.Playing.{ranges_of, state_of, CalledIn, StoredIn, PlayedIn}
 
 -- ---- registers
 module _ (k : Kept) (g : Registers) {x : Bool} (is : x ≡ no_family g.family) {longs c030 c040 : List ℕ} where
@@ -28,7 +28,7 @@ module _ (k : Kept) (g : Registers) {x : Bool} (is : x ≡ no_family g.family) {
   set_none e = rw (sym is ∙ e) (record { prints = refl; leaves = refl })
 
   pub set_some : x ≡ false
-      → PlayedIn (step_of (state_of k longs c030 c040) (Loads g)) Line.K (record { registers = g; list = k.list; n = k.n }) longs c030 c040
+      → PlayedIn (step_of (state_of k longs c030 c040) (Loads g)) Line.K (record { registers = g; ranges = k.ranges }) longs c030 c040
   unfolding step_of refusal_of
   set_some e = rw (sym is ∙ e) (record { prints = refl; leaves = refl })
 
@@ -69,25 +69,21 @@ module _ (k : Kept) (range : Range) {longs c030 c040 : List ℕ} where
   unfolding step_of refusal_of
   add_crossed h = rw (lt-ltb range.last range.first h) (record { prints = refl; leaves = refl })
 
-  module _ (size : length k.list ≡ 16) (h : range.first ≤ range.last) where
-    pub add_full : 16 ≤ k.n → PlayedIn (step_of (state_of k longs c030 c040) (Adds range)) (Line.R 8) k longs c030 c040
+  module _ (h : range.first ≤ range.last) where
+    pub add_full : 16 ≤ length (ranges_of k) → PlayedIn (step_of (state_of k longs c030 c040) (Adds range)) (Line.R 8) k longs c030 c040
     unfolding step_of refusal_of
-    add_full f =
-        rw (le-ltb range.last range.first h, le-leb 16 (length (take k.n k.list)) (omega (arith, length-take k.n k.list)))
-        (record { prints = refl; leaves = refl })
+    add_full f = rw (le-ltb range.last range.first h, le-leb 16 (length (ranges_of k)) f) (record { prints = refl; leaves = refl })
 
-    pub add_in : k.n < 16
-        → PlayedIn (step_of (state_of k longs c030 c040) (Adds range)) Line.K
-        (record { registers = k.registers; list = set k.list k.n range; n = k.n + 1 }) longs c030 c040
+    pub add_in : (k' : Kept) → k'.registers ≡ k.registers → ranges_of k' ≡ ranges_of k ++ (range ∷ []) → length (ranges_of k) < 16
+        → PlayedIn (step_of (state_of k longs c030 c040) (Adds range)) Line.K k' longs c030 c040
     unfolding step_of refusal_of
-    add_in f =
-        rw (le-ltb range.last range.first h, lt-leb 16 (length (take k.n k.list)) (omega (arith, length-take-le k.n k.list (omega arith))))
-        (record { prints = refl; leaves = rw (add-one, take-suc-set k.list k.n range (omega arith)) refl })
+    add_in k' g e f =
+        rw (le-ltb range.last range.first h, lt-leb 16 (length (ranges_of k)) f)
+        (record { prints = refl; leaves = rw (g, e) refl })
 
-pub added_crossed : (k : Kept) (range : Range) → length k.list ≡ 16 → range.first ≤ range.last → k.n < 16
-    → any_of crossed (take (k.n + 1) (set k.list k.n range)) ≡ any_of crossed (take k.n k.list)
-added_crossed k range size h f =
-    rw (add-one, take-suc-set k.list k.n range (omega arith)) (any_more (take k.n k.list) range (le-ltb range.last range.first h))
+pub added_crossed : (l : List Range) (range : Range) {l' : List Range} → range.first ≤ range.last → l' ≡ l ++ (range ∷ [])
+    → any_of crossed l' ≡ any_of crossed l
+added_crossed l range h e = rw e (any_more l range (le-ltb range.last range.first h))
 
 -- ---- a call
 pub called : (k : Kept) (call : Call) (longs : List ℕ) (c030 c040 : List ℕ) {l : Line} {c030' c040' : List ℕ}

@@ -10,6 +10,7 @@ use Rattle.definition.specs.declared.Range.{Range}
 use Rattle.definition.specs.declared.Registers.{Registers}
 use Rattle.trace.specs.Lines.{line_in, Wrote}
 use Rattle.trace.specs.declared.Line.{Line}
+use Rattle.memory.specs.Kept.{ranges_in}
 use Rattle.cache.specs.Pair.{caches_of}
 use Rattle.translate.specs.Stages.{translate_given}
 use Rattle.load.specs.Loaded.{load_given}
@@ -20,9 +21,9 @@ use Rattle.replay.specs.declared.run.Whole.TheVariants as whole
 use Rattle.replay.specs.declared.run.Why.{Why}
 use Rattle.replay.specs.declared.run.Why.TheVariants as why
 
--- the ranges that are kept: the first n of the array
+-- the ranges that are kept
 abbrev pub ranges_of : Kept → List Range
-ranges_of k = take k.n k.list
+ranges_of k = ranges_in k.ranges
 
 abbrev pub state_of : Kept → List ℕ → List ℕ → List ℕ → State
 state_of k longs c030 c040 =

@@ -1,5 +1,5 @@
 // The calls that a record makes, each with the line that it prints.
-ghost use Rattle.std.specs.Prelude.{◌≡◌, take};
+ghost use Rattle.std.specs.Prelude.{◌≡◌};
 ghost use Rattle.definition.specs.Memory.{memory};
 ghost use Rattle.definition.specs.Calls.{access, loading, testing, probing, flushing_all, flushing_code, flushing_page, flushing_frame, translation_line, load_line, test_line, probe_line, flush_line};
 ghost use Rattle.trace.specs.Lines.{line_in};
@@ -10,7 +10,7 @@ ghost use Rattle.replay.specs.Playing.{ranges_of, calling_given, CalledIn, Tests
 use crate::Kept;
 use cache::atc030::Atc030;
 use cache::atc040::Atc040;
-use definition::{Access, Flush, Load, Probe, Range, Registers, Test, Translation};
+use definition::{Access, Flush, Load, Probe, Test, Translation};
 use trace::{Call, Line};
 
 // A address count, or F kind cause address count.
@@ -83,15 +83,15 @@ pub fn access_line(
     c030: &mut Atc030,
     c040: &mut Atc040,
     longs: &[u32],
-    list: [Range; 16],
-    n: usize,
+    kept: &Kept,
     crossed: bool,
-    g: Registers,
     a: Access,
 ) -> Line
-    ensures { CalledIn (calling_given crossed g (memory longs.now 0 (take n list)) (caches_of c030.old c040.old) (access a)) result c030.new c040.new }
+    ensures { CalledIn (calling_given crossed kept.now.registers (memory longs.now 0 (ranges_of kept.now)) (caches_of c030.old c040.old) (access a)) result c030.new c040.new }
 {
-    let o = kept::translate(c030, c040, longs, 0, list, n, crossed, g, a);
+    let g = kept.registers;
+    let ranges = kept.ranges.as_slice();
+    let o = translate::translate(c030, c040, longs, 0, ranges, crossed, g, a);
     let answer = o.answer;
     translation_line(answer, o.count)
 }
@@ -101,17 +101,17 @@ fn load_call(
     c030: &mut Atc030,
     c040: &Atc040,
     longs: &[u32],
-    list: [Range; 16],
-    n: usize,
+    kept: &Kept,
     crossed: bool,
-    g: Registers,
     code: u32,
     write: bool,
     address: u32,
 ) -> Line
-    ensures { CalledIn (calling_given crossed g (memory longs.now 0 (take n list)) (caches_of c030.old c040.now) (loading code write address)) result c030.new c040.now }
+    ensures { CalledIn (calling_given crossed kept.now.registers (memory longs.now 0 (ranges_of kept.now)) (caches_of c030.old c040.now) (loading code write address)) result c030.new c040.now }
 {
-    let o = kept::load(c030, longs, 0, list, n, crossed, g, code, write, address);
+    let g = kept.registers;
+    let ranges = kept.ranges.as_slice();
+    let o = load::load(c030, longs, 0, ranges, crossed, g, code, write, address);
     let answer = o.answer;
     load_line(answer, o.count)
 }
@@ -119,18 +119,18 @@ fn load_call(
 // A PTEST: no cache is touched.
 fn test_call(
     longs: &[u32],
-    list: [Range; 16],
-    n: usize,
+    kept: &Kept,
     crossed: bool,
-    g: Registers,
     code: u32,
     write: bool,
     level: u32,
     address: u32,
 ) -> Line
-    ensures { Tests crossed g (memory longs.now 0 (take n list)) code write level address result }
+    ensures { Tests crossed kept.now.registers (memory longs.now 0 (ranges_of kept.now)) code write level address result }
 {
-    let o = kept::test(longs, 0, list, n, crossed, g, code, write, level, address);
+    let g = kept.registers;
+    let ranges = kept.ranges.as_slice();
+    let o = test::test(longs, 0, ranges, crossed, g, code, write, level, address);
     let answer = o.answer;
     test_line(answer, o.count)
 }
@@ -140,27 +140,24 @@ pub fn make(
     c030: &mut Atc030,
     c040: &mut Atc040,
     longs: &[u32],
-    kept: Kept,
+    kept: &Kept,
     crossed: bool,
     call: Call,
 ) -> Line
-    ensures { CalledIn (calling_given crossed kept.registers (memory longs.now 0 (ranges_of kept)) (caches_of c030.old c040.old) (call_in call)) result c030.new c040.new }
+    ensures { CalledIn (calling_given crossed kept.now.registers (memory longs.now 0 (ranges_of kept.now)) (caches_of c030.old c040.old) (call_in call)) result c030.new c040.new }
 {
-    let g = kept.registers;
-    let list = kept.list;
-    let n = kept.n;
     match call {
         Call::Load {
             code,
             write,
             address,
-        } => load_call(c030, c040, longs, list, n, crossed, g, code, write, address),
+        } => load_call(c030, c040, longs, kept, crossed, code, write, address),
         Call::Test {
             code,
             write,
             level,
             address,
-        } => test_call(longs, list, n, crossed, g, code, write, level, address),
+        } => test_call(longs, kept, crossed, code, write, level, address),
         Call::FlushAll => {
             let answer = flush::flush_all_in(c030, c040);
             flush_line(answer)
@@ -187,7 +184,7 @@ pub fn make(
             write,
             address,
         } => {
-            let answer = probe::probe(c030, c040, g, own, instruction, write, address);
+            let answer = probe::probe(c030, c040, kept.registers, own, instruction, write, address);
             probe_line(answer)
         }
     }

@@ -8,25 +8,24 @@ mod settings;
 ghost use Rattle.std.specs.Prelude.{◌≡◌};
 ghost use Rattle.definition.specs.Trace.{first_registers};
 
-use definition::{Range, Registers, Root};
+use definition::{Registers, Root};
+use memory::kept::RangeList;
 
-// What the program keeps beside the caches and the longs: the registers, and the first `n` of sixteen ranges.
+// What the program keeps beside the caches and the longs: the registers and the ranges.
 #[derive(Clone, Copy)]
 pub struct Kept {
     pub registers: Registers,
-    pub list: [Range; 16],
-    pub n: usize,
+    pub ranges: RangeList,
 }
 
 // Registers start as family 30, all else 0; no range.
 pub fn first() -> Kept
-    ensures { (result.registers ≡ first_registers) × (result.n ≡ 0) }
+    ensures { (result.registers ≡ first_registers) × (result.ranges.n ≡ 0) }
 {
     let none = Root {
         limit: 0,
         address: 0,
     };
-    let nowhere = Range { first: 0, last: 0 };
     let registers = Registers {
         family: 30,
         present: false,
@@ -43,7 +42,6 @@ pub fn first() -> Kept
     };
     Kept {
         registers,
-        list: [nowhere; 16],
-        n: 0,
+        ranges: RangeList::new(),
     }
 }

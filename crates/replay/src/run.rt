@@ -7,6 +7,7 @@ ghost use Rattle.replay.specs.Playing.{ranges_of, state_of, Fronts, RanIn};
 use crate::{Kept, calls, settings};
 use cache::atc030::Atc030;
 use cache::atc040::Atc040;
+use memory::ranges::any_crossed;
 use trace::{Record, Seen};
 
 // A whole record at a place of the buffer: where its body starts and ends.
@@ -65,8 +66,7 @@ pub fn run(
 ) -> Ran
     ensures { (RanIn (state_of kept longs.old c030.old c040.old) input.now out.old (state_of result.kept longs.new c030.new c040.new) result.read out.new result.wrote result.why) × (any_of crossed (ranges_of result.kept) ≡ any_of crossed (ranges_of kept)) }
 {
-    let list = kept.list;
-    let crossed = kept::any_crossed(list, kept.n);
+    let crossed = any_crossed(kept.ranges.as_slice());
     let mut now = kept;
     let mut read: usize = 0;
     let mut wrote: usize = 0;
@@ -91,11 +91,7 @@ pub fn run(
             Whole::Body { start, end } => {
                 match trace::look(&input[start..end]) {
                     Seen::Access(a) => {
-                        let g = now.registers;
-                        let list = now.list;
-                        let line = calls::access_line(
-                            c030, c040, longs, list, now.n, crossed, g, a,
-                        );
+                        let line = calls::access_line(c030, c040, longs, &now, crossed, a);
                         wrote = trace::put_line(out, wrote, line);
                     }
                     Seen::Other => {
@@ -109,13 +105,11 @@ pub fn run(
                                 };
                             }
                             Record::Set(setting) => {
-                                let s = settings::set(longs, now, setting);
-                                now = s.kept;
-                                let line = s.line;
+                                let line = settings::set(longs, &mut now, setting);
                                 wrote = trace::put_line(out, wrote, line);
                             }
                             Record::Call(call) => {
-                                let line = calls::make(c030, c040, longs, now, crossed, call);
+                                let line = calls::make(c030, c040, longs, &now, crossed, call);
                                 wrote = trace::put_line(out, wrote, line);
                             }
                         }

@@ -1,5 +1,5 @@
 // The records that set something: each with its line, and what is kept after it.
-ghost use Rattle.std.specs.Prelude.{◌≡◌, ℕ, List, length};
+ghost use Rattle.std.specs.Prelude.{◌≡◌, ℕ, List};
 ghost use Rattle.definition.specs.Words.{any_of};
 ghost use Rattle.definition.specs.Refusal.{crossed};
 ghost use Rattle.definition.specs.Trace.{Loads, Adds, step_of};
@@ -8,34 +8,19 @@ ghost use Rattle.replay.specs.Playing.{ranges_of, state_of, StoredIn, PlayedIn};
 
 use crate::Kept;
 use definition::{Range, Registers};
+use memory::kept::Full;
 use trace::{Line, Setting};
 
-// A line, with what is kept after it.
-#[derive(Clone, Copy)]
-pub struct Step {
-    pub line: Line,
-    pub kept: Kept,
-}
-
 // Kind 01: the registers are kept, unless the family is none.
-fn set_registers(kept: Kept, g: Registers) -> Step
-    ensures { ((longs c030 c040 : List ℕ) → PlayedIn (step_of (state_of kept longs c030 c040) (Loads g)) result.line result.kept longs c030 c040) × (ranges_of result.kept ≡ ranges_of kept) }
+fn set_registers(kept: &mut Kept, g: Registers) -> Line
+    ensures played { (longs c030 c040 : List ℕ) → PlayedIn (step_of (state_of kept.old longs c030 c040) (Loads g)) result kept.new longs c030 c040 }
+    ensures ranges { ranges_of kept.new ≡ ranges_of kept.old }
 {
     if checks::no_family(g.family) {
-        return Step {
-            line: Line::R { number: 1 },
-            kept,
-        };
+        return Line::R { number: 1 };
     }
-    let list = kept.list;
-    Step {
-        line: Line::K,
-        kept: Kept {
-            registers: g,
-            list,
-            n: kept.n,
-        },
-    }
+    kept.registers = g;
+    Line::K
 }
 
 // Kind 09: a store, unless it lies outside the longs or is not aligned.
@@ -53,53 +38,28 @@ fn store(longs: &mut [u32], address: u32, value: u32) -> Line
     Line::K
 }
 
-// The number of ranges that can be kept: as many as the array has.
-fn room(list: [Range; 16]) -> usize
-    ensures { (result ≡ 16) × (length list ≡ 16) }
-{
-    16
-}
-
 // Kind 0A: a range is kept, unless it is crossed or there are sixteen.
-fn add_range(kept: Kept, range: Range) -> Step
-    ensures { ((longs c030 c040 : List ℕ) → PlayedIn (step_of (state_of kept longs c030 c040) (Adds range)) result.line result.kept longs c030 c040) × (any_of crossed (ranges_of result.kept) ≡ any_of crossed (ranges_of kept)) }
+fn add_range(kept: &mut Kept, range: Range) -> Line
+    ensures played { (longs c030 c040 : List ℕ) → PlayedIn (step_of (state_of kept.old longs c030 c040) (Adds range)) result kept.new longs c030 c040 }
+    ensures none_crossed { any_of crossed (ranges_of kept.new) ≡ any_of crossed (ranges_of kept.old) }
 {
     if range.last < range.first {
-        return Step {
-            line: Line::R { number: 3 },
-            kept,
-        };
+        return Line::R { number: 3 };
     }
-    let n = kept.n;
-    let mut list = kept.list;
-    if room(list) <= n {
-        return Step {
-            line: Line::R { number: 8 },
-            kept,
-        };
-    }
-    list[n] = range;
-    let registers = kept.registers;
-    Step {
-        line: Line::K,
-        kept: Kept {
-            registers,
-            list,
-            n: n + 1,
-        },
+    match kept.ranges.push(range) {
+        Ok(()) => Line::K,
+        Err(Full) => Line::R { number: 8 },
     }
 }
 
 // What a record that sets something prints, and what is kept after it. No setting makes a crossed range one that is kept.
-pub fn set(longs: &mut [u32], kept: Kept, setting: Setting) -> Step
-    ensures { ((c030 c040 : List ℕ) → PlayedIn (step_of (state_of kept longs.old c030 c040) (setting_in setting)) result.line result.kept longs.new c030 c040) × (any_of crossed (ranges_of result.kept) ≡ any_of crossed (ranges_of kept)) }
+pub fn set(longs: &mut [u32], kept: &mut Kept, setting: Setting) -> Line
+    ensures played { (c030 c040 : List ℕ) → PlayedIn (step_of (state_of kept.old longs.old c030 c040) (setting_in setting)) result kept.new longs.new c030 c040 }
+    ensures none_crossed { any_of crossed (ranges_of kept.new) ≡ any_of crossed (ranges_of kept.old) }
 {
     match setting {
         Setting::Registers(g) => set_registers(kept, g),
-        Setting::Long { address, value } => {
-            let line = store(longs, address, value);
-            Step { line, kept }
-        }
+        Setting::Long { address, value } => store(longs, address, value),
         Setting::Range(range) => add_range(kept, range),
     }
 }

@@ -69,12 +69,12 @@ closed why.Room {b} out'' {s' = s'} {read = read} r e p h =
     (omega (arith, r.stops, e, same_length r.going.writes, r.going.writes.ends, length-append r.going.printed (play_from s' (drop read b))))
 
 -- what is kept at the start, with arrays of zeros, is the state that a replay starts from
-started : (k : Kept) → k.registers ≡ first_registers → k.n ≡ 0
+started : (k : Kept) → k.registers ≡ first_registers → k.ranges.n ≡ 0
     → state_of k (replicate 8192 0) (replicate 69 0) (replicate 128 0) ≡ first_state
 unfolding part entries_of cache_of slots_of cache040_of
 started k e f = rw (e, f)
 
-pub from_start : (k : Kept) → (k.registers ≡ first_registers) × (k.n ≡ 0) → {b out out' : List ℕ} {s' : State} {read wrote : ℕ} {w : Why}
+pub from_start : (k : Kept) → (k.registers ≡ first_registers) × (k.ranges.n ≡ 0) → {b out out' : List ℕ} {s' : State} {read wrote : ℕ} {w : Why}
     → RanIn (state_of k (replicate 8192 0) (replicate 69 0) (replicate 128 0)) b out s' read out' wrote w
     → RanIn first_state b out s' read out' wrote w
 from_start k (e, f) {b} {out} {out'} {s'} {read} {wrote} {w} h =

@@ -9,18 +9,18 @@ use Rattle.replay.proofs.Running as law
 use Rattle.replay.proofs.run.run.Goals as goal
 
 pub loop-out-init : goal.loop-out-init
-loop-out-init c = (refl, refl, omega arith, omega arith, c.any_crossed-crossed.ensures, law.begins _ _ _)
+loop-out-init c = (refl, refl, omega arith, omega arith, rw (← c.as_slice.ensures) c.any_crossed-crossed.ensures, law.begins _ _ _)
 
 pub returns-then-out-wrote-lt44 : goal.returns-then-out-wrote-lt44
 returns-then-out-wrote-lt44 c = (
   law.stops_room _ _ _ _ c.loop-out.invariant.5 (omega arith),
-  sym c.loop-out.invariant.4 ∙ c.any_crossed-crossed.ensures,
+  sym c.loop-out.invariant.4 ∙ rw (← c.as_slice.ensures) c.any_crossed-crossed.ensures,
 )
 
 pub returns-in-Nothing : goal.returns-in-Nothing
 returns-in-Nothing c = (
   law.stops_input _ _ _ _ c.loop-out.invariant.5 (law.nothing_at _ _ c.in-Nothing.is c.front.ensures),
-  sym c.loop-out.invariant.4 ∙ c.any_crossed-crossed.ensures,
+  sym c.loop-out.invariant.4 ∙ rw (← c.as_slice.ensures) c.any_crossed-crossed.ensures,
 )
 
 pub slice_bounds-look-count : goal.slice_bounds-look-count
@@ -45,7 +45,7 @@ pub returns-in-Malformed : goal.returns-in-Malformed
 returns-in-Malformed c = (
   law.stops_malformed _ _ _ _ c.loop-out.invariant.5 (law.whole_at _ _ c.in-Body.is c.front.ensures)
       (law.said_malformed (c.decode.ensures ∙ seeing.is_other _ c.look.ensures c.in-Other.is) c.in-Malformed.is),
-  sym c.loop-out.invariant.4 ∙ c.any_crossed-crossed.ensures,
+  sym c.loop-out.invariant.4 ∙ rw (← c.as_slice.ensures) c.any_crossed-crossed.ensures,
 )
 
 pub loop-out-smaller-in-Access : goal.loop-out-smaller-in-Access
@@ -78,13 +78,13 @@ loop-out-preserved-in-Set c =
     let f = law.whole_at _ _ c.in-Body.is c.front.ensures in
     let room = c.if-out-wrote-lt44.false in
     let w = c.put_line-wrote-in-Set.ensures.room (omega (arith, room, held.1, held.3)) in (
-      c.set-s.auto.longs ∙ held.0,
+      c.set-line.auto.longs ∙ held.0,
       writes.same_length w ∙ held.1,
       f.within,
       omega (arith, writes.next_near w, room, held.1, held.3),
-      held.4 ∙ sym c.set-s.ensures.1,
+      held.4 ∙ sym c.set-line.ensures.none_crossed,
       law.goes_on _ _ _ _ held.5 _ f (law.said_setting (c.decode.ensures ∙ seeing.is_other _ c.look.ensures c.in-Other.is) c.in-Set.is)
-          (law.setting_is_good c.in-Set.setting) (c.set-s.ensures.0 _ _) (omega (arith, room, held.1, held.3)) w,
+          (law.setting_is_good c.in-Set.setting) (c.set-line.ensures.played _ _) (omega (arith, room, held.1, held.3)) w,
     )
 
 pub loop-out-smaller : goal.loop-out-smaller
