@@ -92,11 +92,7 @@ fn described(first: u32, field: u32, long: bool, asked: u32) -> Descriptor
 
 // The descriptor at `at`: a short one is one long, which is its address field too; a long one is two, and the address field is the last.
 #[tactic(auto, unfolding(definition::specs::Walk030::read_of))]
-pub fn read_desc<R: Ranges>(
-    tables: &Tables<R>,
-    at: u32,
-    long: bool,
-) -> Result<Descriptor, Lost>
+pub fn read_desc<R: Ranges>(tables: &Tables<R>, at: u32, long: bool) -> Result<Descriptor, Lost>
     ensures { result ≡ shown_read (read_of tables.now at long) }
 {
     let Some(first) = tables.fetch(at) else {

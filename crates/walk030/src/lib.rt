@@ -10,8 +10,8 @@ ghost use Rattle.walk030.specs.Machine.{misconfigured_of};
 ghost use Rattle.walk030.specs.Walked.{shown};
 
 use definition::{End, Range, Registers, Root};
-use memory::bits::bit;
 use machine::{Walking030, level_count};
+use memory::bits::bit;
 use memory::descriptor::{Kind, read_desc};
 use memory::page030::widths;
 use memory::tables::Tables;

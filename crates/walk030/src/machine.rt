@@ -12,14 +12,12 @@ use memory::descriptor::{Descriptor, Kind, Lost, entry, table_of, target_of};
 pub fn level_count(ws: [u32; 4]) -> usize
     ensures { result ≡ length (used ws) }
 {
-    let mut n: usize = 0;
-    while n < 4 {
-        if ws[n] == 0 {
+    for (n, w) in ws.iter().enumerate() {
+        if *w == 0 {
             return n;
         }
-        n += 1;
     }
-    n
+    4
 }
 
 // An index is the address shifted left by (consumed mod 32), bits lost, then right by 32 - width.
