@@ -1,17 +1,24 @@
 -- Writing: two writes in a row are one write of the joined bytes, and what a write leaves in front of its end. Assumes nothing.
-use Prim.Native.Nat.{ℕ, suc, ◌+◌, ◌≤◌}
-use mathlib.Core.Path.{◌≡◌, refl, ap, ◌∙◌}
+use Prim.Native.Nat.{ℕ, suc, ◌+◌, ◌-◌, ◌≤◌}
+use mathlib.Core.Path.{◌≡◌, refl, ap, sym, ◌∙◌}
 use mathlib.Core.Bool.{Bool, true, false}
-use mathlib.Core.List.{List, [], ◌∷◌, ◌++◌}
+use mathlib.Core.List.{List, [], ◌∷◌, ◌++◌, append_assoc}
 use native.Mathlib.Nat.{add-zero, add-suc, suc-add}
 use native.Mathlib.Omega.{arith}
 use lib.ListN.{length, take, drop, length-append}
-use lib.Seq.{sets, sets-eq, length-sets, length-take-le, take_at}
+use lib.Seq.{sets, sets-eq, length-sets, length-take-le, take_at, drop-drop}
 use Rattle.trace.specs.Lines.{Wrote, RoomFor, Put}
 
 sets_append : (a b l : List ℕ) (at : ℕ) → sets (sets l at a) (at + length a) b ≡ sets l at (a ++ b)
 sets_append [] b l at = rw add-zero
 sets_append (x ∷ a) b l at = rw (add-suc, ← suc-add at (length a)) (sets_append a b _ (suc at))
+
+-- bytes that are put there at once
+pub put_there : (at : ℕ) (old bytes new : List ℕ) → at + length bytes ≤ length old → new ≡ bytes
+    → Wrote (length bytes) old at bytes (take at old ++ (new ++ drop (at + length bytes - at) (drop at old))) (at + length bytes)
+put_there at old bytes new room e =
+    let n : at + length bytes - at ≡ length bytes = omega arith in
+    record { stores = rw (e, n, drop-drop) (sym (sets-eq bytes old at room ∙ append_assoc (take at old) bytes _)); ends = refl; short = omega arith }
 
 -- before the first write
 pub nothing : (old : List ℕ) (at : ℕ) → Wrote 0 old at [] old at
