@@ -5,6 +5,7 @@ ghost use Rattle.audit.specs.Ways.{walks_of};
 ghost use Rattle.audit.specs.declared.walking.Walks.{Walks};
 
 use definition::{Range, Registers};
+use memory::tables::Tables;
 use walk030::Walked;
 use walk040::Walked040;
 
@@ -56,15 +57,20 @@ pub fn walk_for(
 ) -> Walks
     ensures { result ≡ walks_of (memory longs.now base ranges.now) g address way }
 {
+    let tables = Tables {
+        longs,
+        base,
+        ranges,
+    };
     match way {
         Way::Idle => idle(),
         Way::By030 { code } => {
-            let limit = walk030::every_level();
-            let walk = walk030::walk(longs, base, ranges, g, address, code, limit);
+            let limit = walk030::EVERY_LEVEL;
+            let walk = walk030::walk(&tables, g, address, code, limit);
             by_030(walk)
         }
         Way::By040 { supervisor } => {
-            let walk = walk040::walk(longs, base, ranges, g, address, supervisor);
+            let walk = walk040::walk(&tables, g, address, supervisor);
             by_040(walk)
         }
     }

@@ -7,7 +7,8 @@ ghost use Rattle.definition.specs.Registers.{on, code_of, supervisor_by, instruc
 ghost use Rattle.definition.specs.Refusal.{no_family, bad_base, not030, above_seven, bad_override, bad_frame, refusal_of};
 ghost use Rattle.checks.specs.Given.{checks_of};
 
-use definition::{Access, Registers};
+use definition::{Access, Range, Registers};
+use memory::tables::Tables;
 
 // 1: the family is not 30, 40 or 60.
 pub fn no_family(family: u32) -> bool
@@ -20,7 +21,13 @@ pub fn no_family(family: u32) -> bool
 pub fn bad_longs(longs: &[u32], base: u32) -> bool
     ensures { result ≡ bad_base (memory longs.now base []) }
 {
-    memory::longs::bad_base(longs.len(), base)
+    let ranges: &[Range] = &[];
+    let tables = Tables {
+        longs,
+        base,
+        ranges,
+    };
+    tables.is_bad_base()
 }
 
 // 6: PLOAD or PTEST on family 40 or 60.

@@ -14,9 +14,11 @@ ghost use Rattle.definition.specs.List.{table_ranges, entry_ranges, tree_ranges,
 ghost use Rattle.list.specs.Numbers.{pairs_of, ListedTo};
 ghost use Rattle.list.specs.Writing.{written, begun, puts, Placed};
 
+use crate::reading::Numbers;
 use crate::seeing::{code_entry, entry_at, is_before, is_last, look, root_table, width_at};
 use crate::writing::{Progress, put};
 use definition::{Listed, Node, Registers, Root, Seen};
+use memory::tables::Tables;
 
 // 2^w entries.
 fn entries(w: u32) -> u32
@@ -29,9 +31,7 @@ fn entries(w: u32) -> u32
 // The ranges of a table that end past `from`. Its level is `level`: of the four there are 4 - level left, and they fall with each table.
 #[cycle(entry_table)]
 fn table(
-    longs: &[u32],
-    base: u32,
-    ranges: &[u32],
+    tables: &Tables<Numbers>,
     out: &mut [u64],
     s: Progress,
     ws: [u32; 4],
@@ -40,7 +40,7 @@ fn table(
     from: u32,
 ) -> Progress
     requires { Placed ws level t }
-    ensures { written out.new result ≡ puts (ranges_from from (table_ranges (memory longs.now base (pairs_of ranges.now)) (used (drop level ws)) t)) (written out.old s) }
+    ensures { written out.new result ≡ puts (ranges_from from (table_ranges tables.now (used (drop level ws)) t)) (written out.old s) }
 {
     let w = width_at(ws, level);
     if w == 0 {
@@ -54,7 +54,7 @@ fn table(
             return so;
         }
         let e = entry_at(t, w, i);
-        so = entry(longs, base, ranges, out, so, ws, level + 1, e, from);
+        so = entry(tables, out, so, ws, level + 1, e, from);
         i += 1;
     }
     so
@@ -63,9 +63,7 @@ fn table(
 // The ranges of an entry that end past `from`, with the levels from `level` on below it.
 #[cycle(entry_table)]
 fn entry(
-    longs: &[u32],
-    base: u32,
-    ranges: &[u32],
+    tables: &Tables<Numbers>,
     out: &mut [u64],
     s: Progress,
     ws: [u32; 4],
@@ -74,24 +72,22 @@ fn entry(
     from: u32,
 ) -> Progress
     requires { Placed ws level e }
-    ensures { written out.new result ≡ puts (ranges_from from (entry_ranges (memory longs.now base (pairs_of ranges.now)) (used (drop level ws)) e)) (written out.old s) }
+    ensures { written out.new result ≡ puts (ranges_from from (entry_ranges tables.now (used (drop level ws)) e)) (written out.old s) }
 {
     if is_before(e, from) {
         return s;
     }
     let last = is_last(ws, level);
-    match look(longs, base, ranges, last, e) {
+    match look(tables, last, e) {
         Seen::Nothing => s,
         Seen::One(x) => put(out, s, x),
-        Seen::Opens(t) => table(longs, base, ranges, out, s, ws, level, t, from),
+        Seen::Opens(t) => table(tables, out, s, ws, level, t, from),
     }
 }
 
 // The ranges of a tree that end past `from`. With a function-code level the code's entry of the root table is all of it.
 fn tree(
-    longs: &[u32],
-    base: u32,
-    ranges: &[u32],
+    tables: &Tables<Numbers>,
     out: &mut [u64],
     tc: u32,
     root: Root,
@@ -99,7 +95,7 @@ fn tree(
     from: u32,
 ) -> Progress
     requires { sum_of (used (widths_of tc)) ≤ 32 }
-    ensures { written out.new result ≡ puts (ranges_from from (tree_ranges (memory longs.now base (pairs_of ranges.now)) tc root code)) (begun out.old) }
+    ensures { written out.new result ≡ puts (ranges_from from (tree_ranges tables.now tc root code)) (begun out.old) }
 {
     let s = Progress {
         count: 0,
@@ -110,9 +106,9 @@ fn tree(
     let t = root_table(root);
     if memory::bits::bit(tc, 24) {
         let e = code_entry(t, code);
-        return entry(longs, base, ranges, out, s, ws, 0, e, from);
+        return entry(tables, out, s, ws, 0, e, from);
     }
-    table(longs, base, ranges, out, s, ws, 0, t, from)
+    table(tables, out, s, ws, 0, t, from)
 }
 
 // The ranges of a code's tree from an address on, as many as have room in the output.
@@ -127,11 +123,16 @@ pub fn list(
 ) -> Listed
     ensures { ListedTo (list_of g (memory longs.now base (pairs_of ranges.now)) code from (length out.old)) out.old out.new result }
 {
-    let n = taking::refusal(longs, base, ranges, g, code);
+    let tables = Tables {
+        longs,
+        base,
+        ranges: Numbers(ranges),
+    };
+    let n = taking::refusal(&tables, g, code);
     if n != 0 {
         return Listed::Refused(n);
     }
     let root = walk030::root_of(g, code);
-    let s = tree(longs, base, ranges, out, g.tc, root, code, from);
+    let s = tree(&tables, out, g.tc, root, code, from);
     writing::answer(s)
 }

@@ -1,14 +1,13 @@
 // What an entry of a table is, and where the tables and entries of a tree stand.
 ghost use Rattle.std.specs.Prelude.{◌≡◌, ◌+◌, ◌-◌, ◌*◌, ◌^◌, ◌<◌, ◌≤◌, get_or, drop, leb};
-ghost use Rattle.definition.specs.Memory.{memory};
 ghost use Rattle.definition.specs.Walk030.{used};
 ghost use Rattle.definition.specs.List.{page_at, lost_at, table_at, seen_of, entry_at, none_left, root_table, code_entry};
-ghost use Rattle.list.specs.Numbers.{pairs_of};
 ghost use Rattle.list.specs.Looking.{target_by};
 
-use crate::reading::read;
+use crate::reading::Numbers;
 use definition::{Mapped, Node, Root, Seen};
-use memory::descriptor::{Descriptor, kind_of, table_of, target_of};
+use memory::descriptor::{Descriptor, kind_of, read_desc, table_of, target_of};
+use memory::tables::Tables;
 
 // ---- what an entry is
 
@@ -76,10 +75,10 @@ fn at_target(e: Node, d: Descriptor) -> Seen
 }
 
 // What an entry is by its descriptor. On the last level types 2 and 3 are indirect.
-pub fn look(longs: &[u32], base: u32, ranges: &[u32], last: bool, e: Node) -> Seen
-    ensures { result ≡ seen_of (memory longs.now base (pairs_of ranges.now)) last e }
+pub fn look(tables: &Tables<Numbers>, last: bool, e: Node) -> Seen
+    ensures { result ≡ seen_of tables.now last e }
 {
-    match read(longs, base, ranges, e.at, e.long) {
+    match read_desc(tables, e.at, e.long) {
         Descriptor::Lost { at: _, asked: _ } => Seen::One(lost_at(e)),
         Descriptor::Whole {
             kind,
@@ -93,7 +92,7 @@ pub fn look(longs: &[u32], base: u32, ranges: &[u32], last: bool, e: Node) -> Se
             2.. => {
                 if last {
                     let to = target_of(field);
-                    let d = read(longs, base, ranges, to, kind == 3);
+                    let d = read_desc(tables, to, kind == 3);
                     return at_target(e, d);
                 }
                 Seen::Opens(table_at(e, kind, field, wp, sup))

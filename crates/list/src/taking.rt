@@ -1,17 +1,15 @@
 // What the lister refuses: 1, 5, 2 and 3 as every call over tables, then 9.
 ghost use Rattle.std.specs.Prelude.{◌≡◌};
-ghost use Rattle.definition.specs.Memory.{memory};
 ghost use Rattle.definition.specs.Walk030.{widths_of, used, sum_of};
 ghost use Rattle.definition.specs.Refusal.{no_family};
 ghost use Rattle.definition.specs.Audit.{is_access_code};
 ghost use Rattle.definition.specs.List.{not_taken};
-ghost use Rattle.list.specs.Numbers.{pairs_of};
 ghost use Rattle.list.specs.Writing.{refusal as refusal_of};
 
-use crate::reading::any_crossed;
+use crate::reading::Numbers;
 use definition::Registers;
 use memory::descriptor::kind_of;
-use memory::longs::bad_base;
+use memory::tables::Tables;
 
 // The family is not 30, 40 or 60.
 fn no_family(family: u32) -> bool
@@ -47,8 +45,8 @@ fn not_taken(g: Registers, code: u32) -> bool
 }
 
 // The number of the first that applies, and 0 where none does.
-pub fn refusal(longs: &[u32], base: u32, ranges: &[u32], g: Registers, code: u32) -> u32
-    ensures { result ≡ refusal_of g (memory longs.now base (pairs_of ranges.now)) code }
+pub fn refusal(tables: &Tables<Numbers>, g: Registers, code: u32) -> u32
+    ensures { result ≡ refusal_of g tables.now code }
 {
     if no_family(g.family) {
         return 1;
@@ -56,10 +54,10 @@ pub fn refusal(longs: &[u32], base: u32, ranges: &[u32], g: Registers, code: u32
     if 7 < code {
         return 5;
     }
-    if bad_base(longs.len(), base) {
+    if tables.is_bad_base() {
         return 2;
     }
-    if any_crossed(ranges) {
+    if tables.is_crossed() {
         return 3;
     }
     if not_taken(g, code) {

@@ -15,7 +15,7 @@ ghost use Rattle.load.specs.declared.Found.{Found};
 
 use cache::atc030::Atc030;
 use definition::{Load, Range, Registers};
-use memory::registers::tc_of;
+use memory::tables::Tables;
 use walk030::Walked;
 
 // What is settled before the tables are asked: the answer itself, or the walk to make.
@@ -67,10 +67,14 @@ fn walked(
     match plan {
         Plan::Settled(answer) => settled(answer),
         Plan::Walk030 { code } => {
-            let limit = walk030::every_level();
-            let tc = tc_of(g);
+            let limit = walk030::EVERY_LEVEL;
+            let tables = Tables {
+                longs,
+                base,
+                ranges,
+            };
             let root = walk030::root_of(g, code);
-            let walk = walk030::walk_030(longs, base, ranges, tc, root, address, code, limit);
+            let walk = walk030::walk_030(&tables, g.tc, root, address, code, limit);
             by_030(code, walk)
         }
     }

@@ -1,6 +1,5 @@
 pub mod Tests
 pub mod Widths
-pub mod Reading
 pub mod Shown
 pub mod Shifts
 pub mod Frames

@@ -1,5 +1,5 @@
 -- The search over a slice of ranges, for any test: what is known after i of them. Assumes nothing.
-use mathlib.Core.Path.{◌≡◌, refl, sym, ◌∙◌}
+use mathlib.Core.Path.{◌≡◌, refl, sym, ap, ◌∙◌}
 use mathlib.Core.Bool.{Bool, true, false, ◌||◌}
 use mathlib.Core.List.{List}
 use Prim.Native.Nat.{ℕ, ◌+◌, ◌≤◌, ◌<◌}
@@ -18,10 +18,12 @@ or_false true = refl
 or_false false = refl
 
 module _ (p : Range → Bool) (xs : List Range) (i : ℕ) (hit : Bool) (same : any_of p xs ≡ (hit || any_of p (drop i xs))) where
-  -- one range more: y is whether the search has hit by then
-  pub next_same : (d : Range) → i < length xs → (y : Bool) → y ≡ (hit || p (get_or xs i d)) → any_of p xs ≡ (y || any_of p (drop (i + 1) xs))
+  -- one range more, where y is whether the test holds of it
+  pub next_same : (r : Range) → i < length xs → r ≡ get_or xs i r → (y : Bool) → y ≡ p r → any_of p xs ≡ ((hit || y) || any_of p (drop (i + 1) xs))
   unfolding any_of
-  next_same d h y e = same ∙ rw (e, add-one, drop-cons xs i d h) (or_assoc hit _ _)
+  next_same r h er y ey =
+      let e : y ≡ p (get_or xs i r) = ey ∙ ap p er in
+      same ∙ rw (e, add-one, drop-cons xs i r h) (or_assoc hit _ _)
 
   -- no range left
   pub ends : length xs ≤ i → hit ≡ any_of p xs

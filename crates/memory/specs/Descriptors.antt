@@ -11,16 +11,6 @@ abbrev pub shown_read : walk030.Descriptor → Descriptor
 shown_read (walk030.Whole kind field wp sup asked) = Whole kind field wp sup (length asked)
 shown_read (walk030.Lost at asked) = Lost at (length asked)
 
--- the first long settles it: it failed, or the descriptor is short
-abbrev pub alone : Bool → Option ℕ → Bool
-alone long None = true
-alone long (Some first) = not long
-
 -- a descriptor by its first long and its address field, for which n longs were asked
 abbrev pub described_of : ℕ → ℕ → Bool → ℕ → Descriptor
 described_of first field long n = Whole (first % 4) field (bit_of first 2) (long && bit_of first 8) n
-
--- with both longs
-abbrev pub of_two : ℕ → Option ℕ → Option ℕ → Descriptor
-of_two at (Some first) second = shown_read (on_second first at (entry_of at 1 false) second)
-of_two at None second = Lost at 1

@@ -1,12 +1,11 @@
 // One 68030 descriptor.
 ghost use Rattle.std.specs.Prelude.{◌≡◌, false, ◌%◌, ◌*◌, ◌/◌};
-ghost use Rattle.definition.specs.Memory.{memory};
 ghost use Rattle.definition.specs.Walk030.{entry_of, read_of, short_of};
-ghost use Rattle.memory.specs.Descriptors.{alone, described_of, of_two, shown_read};
+ghost use Rattle.memory.specs.Descriptors.{described_of, shown_read};
 
 use crate::bits::bit;
-use crate::longs::fetch;
-use definition::Range;
+use crate::ranges::Ranges;
+use crate::tables::Tables;
 
 // What reading one 68030 descriptor gives, with the number of longs asked for. Lost: the long at `at` failed.
 #[derive(Clone, Copy)]
@@ -72,58 +71,20 @@ fn described(first: u32, field: u32, long: bool, asked: u32) -> Descriptor
     }
 }
 
-// Whether the first long settles it: it failed, or the descriptor is short.
-pub fn is_alone(long: bool, first: Option<u32>) -> bool
-    ensures { result ≡ alone long first }
+// The descriptor at `at`: a short one is one long, which is its address field too; a long one is two, and the address field is the last.
+#[tactic(auto, unfolding(definition::specs::Walk030::read_of))]
+pub fn read_desc<R: Ranges>(tables: &Tables<R>, at: u32, long: bool) -> Descriptor
+    ensures { result ≡ shown_read (read_of tables.now at long) }
 {
-    match first {
-        Some(_) => !long,
-        None => true,
+    let Some(first) = tables.fetch(at) else {
+        return Descriptor::Lost { at, asked: 1 };
+    };
+    if !long {
+        return described(first, first, false, 1);
     }
-}
-
-// A short descriptor is one long, which is its address field too.
-pub fn of_one(at: u32, first: Option<u32>) -> Descriptor
-    ensures { result ≡ shown_read (short_of at first) }
-{
-    match first {
-        Some(x) => described(x, x, false, 1),
-        None => Descriptor::Lost { at, asked: 1 },
+    let next = entry(at, 1, false);
+    match tables.fetch(next) {
+        Some(field) => described(first, field, true, 2),
+        None => Descriptor::Lost { at: next, asked: 2 },
     }
-}
-
-// Where the second long of a descriptor stands.
-pub fn second_at(at: u32) -> u32
-    ensures { result ≡ entry_of at 1 false }
-{
-    entry(at, 1, false)
-}
-
-// A long descriptor is two longs; the address field is the last.
-pub fn of_two(at: u32, first: Option<u32>, second: Option<u32>) -> Descriptor
-    ensures { result ≡ of_two at first second }
-{
-    match first {
-        Some(x) => match second {
-            Some(y) => described(x, y, true, 2),
-            None => Descriptor::Lost {
-                at: second_at(at),
-                asked: 2,
-            },
-        },
-        None => Descriptor::Lost { at, asked: 1 },
-    }
-}
-
-// The descriptor at `at`, short or long.
-pub fn read_desc(longs: &[u32], base: u32, ranges: &[Range], at: u32, long: bool) -> Descriptor
-    ensures { result ≡ shown_read (read_of (memory longs.now base ranges.now) at long) }
-{
-    let first = fetch(longs, base, ranges, at);
-    if is_alone(long, first) {
-        return of_one(at, first);
-    }
-    let next = second_at(at);
-    let second = fetch(longs, base, ranges, next);
-    of_two(at, first, second)
 }

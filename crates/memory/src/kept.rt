@@ -6,7 +6,7 @@ ghost use Rattle.memory.specs.Kept.{ranges_in};
 use definition::Range;
 
 #[derive(Clone, Copy)]
-pub struct Ranges {
+pub struct RangeList {
     pub list: [Range; 16],
     pub n: usize,
 }
@@ -15,7 +15,7 @@ pub struct Ranges {
 #[derive(Clone, Copy)]
 pub struct Full;
 
-impl Ranges {
+impl RangeList {
     // None.
     pub fn new() -> Self
         ensures { ranges_in result ≡ [] }

@@ -1,12 +1,40 @@
 // The bus-error ranges: which of them a long touches, and whether one is crossed.
-// A search has no branch in its turn, and reads a range field by field: so the compiler takes several ranges at once.
-ghost use Rattle.std.specs.Prelude.{◌≡◌, ◌||◌, ltb};
+ghost use Rattle.std.specs.Prelude.{◌≡◌, ◌<◌, List, length, slice_index_or};
 ghost use Rattle.definition.specs.Memory.{touches_of, in_ranges};
 ghost use Rattle.definition.specs.Refusal.{crossed};
 ghost use Rattle.definition.specs.Words.{any_of};
+ghost use Rattle.definition.specs.declared.Range.{Range};
 ghost use Rattle.memory.specs.Ranges.{last_byte};
 
 use definition::Range;
+
+// What bus-error ranges are lent as: their number, and each of them.
+pub trait Ranges: Copy {
+    ghost ranges_of: { Self → List Range };
+
+    fn count(self) -> usize
+        ensures { result ≡ length (ranges_of self) };
+
+    fn range(self, i: usize) -> Range
+        requires { i < length (ranges_of self) }
+        ensures { result ≡ slice_index_or (ranges_of self) i result };
+}
+
+impl<'a> Ranges for &'a [Range] {
+    ghost ranges_of = { λ s. s.now };
+
+    fn count(self) -> usize {
+        self.len()
+    }
+
+    // Field by field: so the compiler takes several ranges at once.
+    fn range(self, i: usize) -> Range {
+        Range {
+            first: self[i].first,
+            last: self[i].last,
+        }
+    }
+}
 
 // The last byte of the long at `at` that an address names: there is none past FFFFFFFF.
 fn last_byte(at: u32) -> u32
@@ -26,47 +54,26 @@ fn touches(first: u32, last: u32, at: u32) -> bool
     (first <= last) & (first <= top) & (at <= last)
 }
 
-// The search for a range that has a byte of the long: one range more.
-pub fn hit_or(hit: bool, first: u32, last: u32, at: u32) -> bool
-    ensures { result ≡ (hit || touches_of first last at) }
-{
-    let touched = touches(first, last, at);
-    hit | touched
-}
-
-// Whether any of the four bytes of the long at `at` lies in a range.
-pub fn hits(ranges: &[Range], at: u32) -> bool
-    ensures { result ≡ in_ranges ranges.now at }
+// Whether any of the four bytes of the long at `at` lies in a range. A turn has no branch.
+pub fn hits<R: Ranges>(ranges: R, at: u32) -> bool
+    ensures { result ≡ in_ranges (R.ranges_of ranges) at }
 {
     let mut hit = false;
-    let mut i = 0;
-    while i < ranges.len() {
-        let first = ranges[i].first;
-        let last = ranges[i].last;
-        hit = hit_or(hit, first, last, at);
-        i += 1;
+    for i in 0..ranges.count() {
+        let r = ranges.range(i);
+        hit |= touches(r.first, r.last, at);
     }
     hit
 }
 
-// The search for a range whose first is above its last: one range more.
-pub fn crossed_or(found: bool, first: u32, last: u32) -> bool
-    ensures { result ≡ (found || ltb last first) }
-{
-    found | (last < first)
-}
-
 // Refusal 3: whether a range has its first above its last.
-pub fn any_crossed(ranges: &[Range]) -> bool
-    ensures { result ≡ any_of crossed ranges.now }
+pub fn any_crossed<R: Ranges>(ranges: R) -> bool
+    ensures { result ≡ any_of crossed (R.ranges_of ranges) }
 {
     let mut found = false;
-    let mut i = 0;
-    while i < ranges.len() {
-        let first = ranges[i].first;
-        let last = ranges[i].last;
-        found = crossed_or(found, first, last);
-        i += 1;
+    for i in 0..ranges.count() {
+        let r = ranges.range(i);
+        found |= r.last < r.first;
     }
     found
 }

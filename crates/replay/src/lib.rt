@@ -9,13 +9,13 @@ ghost use Rattle.std.specs.Prelude.{◌≡◌};
 ghost use Rattle.definition.specs.Trace.{first_registers};
 
 use definition::{Registers, Root};
-use memory::kept::Ranges;
+use memory::kept::RangeList;
 
 // What the program keeps beside the caches and the longs: the registers and the ranges.
 #[derive(Clone, Copy)]
 pub struct Kept {
     pub registers: Registers,
-    pub ranges: Ranges,
+    pub ranges: RangeList,
 }
 
 // Registers start as family 30, all else 0; no range.
@@ -42,6 +42,6 @@ pub fn first() -> Kept
     };
     Kept {
         registers,
-        ranges: Ranges::new(),
+        ranges: RangeList::new(),
     }
 }

@@ -11,7 +11,7 @@ ghost use Rattle.test.specs.Tested.{test_given, found_test, shown_tested, Tested
 ghost use Rattle.test.specs.declared.Found.{Found};
 
 use definition::{Range, Registers, Test};
-use memory::registers::tc_of;
+use memory::tables::Tables;
 use walk030::Walked;
 
 // What is settled before the tables are asked: the answer itself, or the walk to make.
@@ -65,9 +65,13 @@ fn walked(
     match plan {
         Plan::Settled(answer) => settled(answer),
         Plan::Walk030 => {
-            let tc = tc_of(g);
+            let tables = Tables {
+                longs,
+                base,
+                ranges,
+            };
             let root = walk030::root_of(g, code);
-            let walk = walk030::walk_030(longs, base, ranges, tc, root, address, code, level);
+            let walk = walk030::walk_030(&tables, g.tc, root, address, code, level);
             by_030(walk)
         }
     }

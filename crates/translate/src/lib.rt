@@ -15,7 +15,7 @@ ghost use Rattle.translate.specs.declared.Found.{Found};
 use cache::atc030::Atc030;
 use cache::atc040::Atc040;
 use definition::{Access, Range, Registers, Translation};
-use memory::registers::tc_of;
+use memory::tables::Tables;
 use walk030::Walked;
 use walk040::Walked040;
 
@@ -67,19 +67,23 @@ fn by_040(supervisor: bool, walk: Walked040) -> Found
 fn walked(longs: &[u32], base: u32, ranges: &[Range], g: Registers, a: Access, plan: Plan) -> Found
     ensures { result ≡ found_of (memory longs.now base ranges.now) g a plan }
 {
+    let tables = Tables {
+        longs,
+        base,
+        ranges,
+    };
     match plan {
         Plan::Settled(answer) => settled(answer),
         Plan::Walk030 { code } => {
             let address = checks::address_of(a);
-            let limit = walk030::every_level();
-            let tc = tc_of(g);
+            let limit = walk030::EVERY_LEVEL;
             let root = walk030::root_of(g, code);
-            let walk = walk030::walk_030(longs, base, ranges, tc, root, address, code, limit);
+            let walk = walk030::walk_030(&tables, g.tc, root, address, code, limit);
             by_030(code, walk)
         }
         Plan::Walk040 { supervisor } => {
             let address = checks::address_of(a);
-            let walk = walk040::walk(longs, base, ranges, g, address, supervisor);
+            let walk = walk040::walk(&tables, g, address, supervisor);
             by_040(supervisor, walk)
         }
     }

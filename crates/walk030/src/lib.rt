@@ -4,16 +4,15 @@
 mod machine;
 
 ghost use Rattle.std.specs.Prelude.{◌≡◌};
-ghost use Rattle.definition.specs.Memory.{memory};
 ghost use Rattle.definition.specs.Registers.{root_of};
-ghost use Rattle.definition.specs.Walk030.{every_level, outcome_of, walk030};
+ghost use Rattle.definition.specs.Walk030.{outcome_of, walk030};
 ghost use Rattle.walk030.specs.Walked.{shown};
 
 use definition::{End, Range, Registers, Root};
 use memory::bits::bit;
 use memory::descriptor::{Descriptor, read_desc};
 use memory::page030::widths;
-use memory::registers::tc_of;
+use memory::tables::Tables;
 
 // How a 68030 walk ended, with WP and S, the levels, the last descriptor's address and the number of longs asked for.
 #[derive(Clone, Copy)]
@@ -41,25 +40,19 @@ pub fn root_of(g: Registers, code: u32) -> Root
 }
 
 // As many levels as there can be: the function code's and four widths.
-pub fn every_level() -> u32
-    ensures { result ≡ every_level }
-{
-    5
-}
+pub const EVERY_LEVEL: u32 = 5;
 
 // The walk from a root ends at the first descriptor that decides. It is handed TC and its root, and no more of the registers: a call that walks
 // on some ways alone then makes no copy of them on the others.
 pub fn walk_030(
-    longs: &[u32],
-    base: u32,
-    ranges: &[Range],
+    tables: &Tables<&[Range]>,
     tc: u32,
     root: Root,
     address: u32,
     code: u32,
     limit: u32,
 ) -> Walked
-    ensures { result ≡ shown (outcome_of (memory longs.now base ranges.now) tc root address code limit) }
+    ensures { result ≡ shown (outcome_of tables.now tc root address code limit) }
 {
     let ws = widths(tc);
     let n = machine::level_count(ws);
@@ -74,7 +67,7 @@ pub fn walk_030(
         s = machine::aim(s, ws, address, code);
         let at = machine::wanted(s);
         let long = machine::wants_long(s);
-        let d = read_desc(longs, base, ranges, at, long);
+        let d = read_desc(tables, at, long);
         s = machine::seen(s, n, d);
         match d {
             Descriptor::Lost { at, asked: _ } => break End::BusError { at },
@@ -101,18 +94,9 @@ pub fn walk_030(
 }
 
 // The walk in a code's space under these registers, of at most `limit` levels.
-pub fn walk(
-    longs: &[u32],
-    base: u32,
-    ranges: &[Range],
-    g: Registers,
-    address: u32,
-    code: u32,
-    limit: u32,
-) -> Walked
-    ensures { result ≡ shown (walk030 (memory longs.now base ranges.now) g address code limit) }
+pub fn walk(tables: &Tables<&[Range]>, g: Registers, address: u32, code: u32, limit: u32) -> Walked
+    ensures { result ≡ shown (walk030 tables.now g address code limit) }
 {
-    let tc = tc_of(g);
     let root = root_of(g, code);
-    walk_030(longs, base, ranges, tc, root, address, code, limit)
+    walk_030(tables, g.tc, root, address, code, limit)
 }

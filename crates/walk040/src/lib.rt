@@ -4,14 +4,12 @@
 mod machine;
 
 ghost use Rattle.std.specs.Prelude.{◌≡◌};
-ghost use Rattle.definition.specs.Memory.{memory};
 ghost use Rattle.definition.specs.Walk040.{root_at, walk040, walk040_from};
 ghost use Rattle.walk040.specs.Walked.{shown040};
 
 use definition::{End040, Range, Registers};
 use memory::descriptor::entry;
-use memory::longs::fetch;
-use memory::registers::tc_of;
+use memory::tables::Tables;
 
 // How a 68040 walk ended, and the number of longs asked for.
 #[derive(Clone, Copy)]
@@ -32,20 +30,13 @@ fn root_at(g: Registers, supervisor: bool, address: u32) -> u32
 }
 
 // The 68040 walk, also for family 60, from the root table's entry at `first`.
-fn walk_040(
-    longs: &[u32],
-    base: u32,
-    ranges: &[Range],
-    tc: u32,
-    first: u32,
-    address: u32,
-) -> Walked040
-    ensures { result ≡ shown040 (walk040_from (memory longs.now base ranges.now) tc first address) }
+fn walk_040(tables: &Tables<&[Range]>, tc: u32, first: u32, address: u32) -> Walked040
+    ensures { result ≡ shown040 (walk040_from tables.now tc first address) }
 {
     let mut s = machine::begin(first);
     let end = loop {
         let at = machine::wanted(s);
-        match fetch(longs, base, ranges, at) {
+        match tables.fetch(at) {
             None => break End040::Lost { at },
             Some(x) => {
                 if machine::is_invalid(s, x) {
@@ -66,17 +57,9 @@ fn walk_040(
 
 // The walk of a supervisor or a user under these registers.
 #[tactic(auto, unfolding(definition::specs::Walk040::walk040))]
-pub fn walk(
-    longs: &[u32],
-    base: u32,
-    ranges: &[Range],
-    g: Registers,
-    address: u32,
-    supervisor: bool,
-) -> Walked040
-    ensures { result ≡ shown040 (walk040 (memory longs.now base ranges.now) g address supervisor) }
+pub fn walk(tables: &Tables<&[Range]>, g: Registers, address: u32, supervisor: bool) -> Walked040
+    ensures { result ≡ shown040 (walk040 tables.now g address supervisor) }
 {
-    let tc = tc_of(g);
     let first = root_at(g, supervisor, address);
-    walk_040(longs, base, ranges, tc, first, address)
+    walk_040(tables, g.tc, first, address)
 }

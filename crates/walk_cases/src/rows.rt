@@ -4,6 +4,7 @@ ghost use Rattle.std.specs.Prelude.{◌≤◌, length};
 
 use crate::answers;
 use definition::{Range, Registers, Root};
+use memory::tables::Tables;
 use walk030::Walked;
 use walk040::Walked040;
 
@@ -32,12 +33,19 @@ pub struct Case {
 }
 
 impl Case {
+    // What is lent to a walk.
+    fn tables(&self) -> Tables<&[Range]> {
+        Tables {
+            longs: &self.longs,
+            base: self.base,
+            ranges: &self.list[..self.ranges],
+        }
+    }
+
     // The walk of a 68030, of at most `limit` levels.
     pub fn walked_030(&self, limit: u32) -> Walked {
         walk030::walk(
-            &self.longs,
-            self.base,
-            &self.list[..self.ranges],
+            &self.tables(),
             self.registers,
             self.address,
             self.code,
@@ -48,9 +56,7 @@ impl Case {
     // The walk of a 68040.
     pub fn walked_040(&self) -> Walked040 {
         walk040::walk(
-            &self.longs,
-            self.base,
-            &self.list[..self.ranges],
+            &self.tables(),
             self.registers,
             self.address,
             answers::is_supervisor(self.code),

@@ -1,5 +1,3 @@
-use Rattle.definition.specs.Memory.{memory}
-use Rattle.list.specs.Numbers.{pairs_of}
 use Rattle.list.specs.Writing.{written, begun}
 use Rattle.list.proofs.Entering as law
 use Rattle.list.proofs.Levels as levels
@@ -11,7 +9,7 @@ entry-requires c =
 
 pub returns-then-bit : goal.returns-then-bit
 returns-then-bit c =
-    let m = memory c.args.longs.now c.args.base (pairs_of c.args.ranges.now) in
+    let m = c.args.tables.now in
     law.by_code m c.args.tc c.widths-ws.result c.args.root c.root_table-t.result c.args.code c.args.from c.bit.result (begun c.args.out.now) (written c.entry.new.out c.entry.result) c.widths-ws.ensures c.root_table-t.ensures c.bit.ensures c.code_entry-e.result c.if-bit.true c.code_entry-e.ensures c.entry.ensures
 
 pub table-requires : goal.table-requires
@@ -19,5 +17,5 @@ table-requires c = levels.root_placed c.args.tc c.widths-ws.result c.args.root c
 
 pub returns : goal.returns
 returns c =
-    let m = memory c.args.longs.now c.args.base (pairs_of c.args.ranges.now) in
+    let m = c.args.tables.now in
     law.by_table m c.args.tc c.widths-ws.result c.args.root c.root_table-t.result c.args.code c.args.from c.bit.result (begun c.args.out.now) (written c.table.new.out c.table.result) c.widths-ws.ensures c.root_table-t.ensures c.bit.ensures c.if-bit.false c.table.ensures

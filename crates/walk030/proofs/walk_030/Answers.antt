@@ -1,5 +1,4 @@
 use Rattle.std.proofs.Common.{◌≡◌}
-use Rattle.definition.specs.Memory.{memory}
 use Rattle.definition.specs.declared.End.TheVariants.{Page, Invalid, LevelStop, BusError}
 use Rattle.walk030.specs.Machine.{answered}
 use Rattle.walk030.proofs.Driving as drive
@@ -9,35 +8,35 @@ use Rattle.walk030.proofs.walk_030.Goals.{then-is_at_limit, else-is_at_limit+in-
 pub loop-ws-init : goal.loop-ws-init
 loop-ws-init c =
     let a = c.args in
-    drive.begin (memory a.longs.now a.base a.ranges.now) a.tc a.root a.address a.code a.limit c.widths-ws.ensures c.level_count-n.ensures c.no_walk.ensures c.if-no_walk.false c.begin-s.ensures
+    drive.begin a.tables.now a.tc a.root a.address a.code a.limit c.widths-ws.ensures c.level_count-n.ensures c.no_walk.ensures c.if-no_walk.false c.begin-s.ensures
 
 pub aim-s-requires : goal.aim-s-requires
 aim-s-requires c =
     let a = c.args in
-    drive.aim_asks (memory a.longs.now a.base a.ranges.now) a.tc a.root a.address a.code a.limit c.widths-ws.ensures c.level_count-n.ensures c.loop-ws.invariant
+    drive.aim_asks a.tables.now a.tc a.root a.address a.code a.limit c.widths-ws.ensures c.level_count-n.ensures c.loop-ws.invariant
 
 pub seen-s-requires : goal.seen-s-requires
 seen-s-requires c =
     let a = c.args in
-    drive.seen_asks (memory a.longs.now a.base a.ranges.now) a.tc a.root a.address a.code a.limit c.widths-ws.ensures c.level_count-n.ensures c.loop-ws.invariant
+    drive.seen_asks a.tables.now a.tc a.root a.address a.code a.limit c.widths-ws.ensures c.level_count-n.ensures c.loop-ws.invariant
     c.is_at_limit.ensures c.if-is_at_limit.false c.aim-s.ensures c.wanted-at.ensures c.wants_long-long.ensures c.read_desc-d.ensures
 
 pub loop-ws-smaller : goal.loop-ws-smaller
 loop-ws-smaller c =
     let a = c.args in
-    drive.less (memory a.longs.now a.base a.ranges.now) a.tc a.root a.address a.code a.limit c.widths-ws.ensures c.level_count-n.ensures c.loop-ws.invariant
+    drive.less a.tables.now a.tc a.root a.address a.code a.limit c.widths-ws.ensures c.level_count-n.ensures c.loop-ws.invariant
     c.is_at_limit.ensures c.if-is_at_limit.false c.aim-s.ensures c.wanted-at.ensures c.wants_long-long.ensures c.read_desc-d.ensures c.seen-s.ensures c.in-Whole.is c.is_page.ensures c.if-is_page.false c.is_invalid.ensures c.if-is_invalid.false c.onward-s.ensures
 
 pub loop-ws-preserved : goal.loop-ws-preserved
 loop-ws-preserved c =
     let a = c.args in
-    drive.next (memory a.longs.now a.base a.ranges.now) a.tc a.root a.address a.code a.limit c.widths-ws.ensures c.level_count-n.ensures c.loop-ws.invariant
+    drive.next a.tables.now a.tc a.root a.address a.code a.limit c.widths-ws.ensures c.level_count-n.ensures c.loop-ws.invariant
     c.is_at_limit.ensures c.if-is_at_limit.false c.aim-s.ensures c.wanted-at.ensures c.wants_long-long.ensures c.read_desc-d.ensures c.seen-s.ensures c.in-Whole.is c.is_page.ensures c.if-is_page.false c.is_invalid.ensures c.if-is_invalid.false c.onward-s.ensures
 
 pub returns : goal.returns
 returns c =
     let a = c.args in
-    let m = memory a.longs.now a.base a.ranges.now in
+    let m = a.tables.now in
     elim c.if-is_at_limit.branch [
       | then-is_at_limit w ↦
           let e : c.answer.result ≡ answered c.loop-ws.s LevelStop = cc in

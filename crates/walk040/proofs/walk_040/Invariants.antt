@@ -1,9 +1,8 @@
-use Rattle.definition.specs.Memory.{memory}
 use Rattle.walk040.proofs.Driving.{Turn, depth}
 use Rattle.walk040.proofs.walk_040.Given as goal
 
 abbrev pub invariant-loop-x : goal.invariant-loop-x
-invariant-loop-x l = Turn (memory l.longs l.base l.ranges) l.tc l.first l.address l.s
+invariant-loop-x l = Turn l.tables l.tc l.first l.address l.s
 
 abbrev pub decreases-loop-x : goal.decreases-loop-x
 decreases-loop-x l = depth l.s.level

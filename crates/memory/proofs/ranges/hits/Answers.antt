@@ -5,8 +5,8 @@ use Rattle.memory.proofs.Searching.{next_same, ends}
 use Rattle.memory.proofs.ranges.hits.Goals as goal
 
 pub loop-i-preserved : goal.loop-i-preserved
-loop-i-preserved c =
-    (omega arith, next_same (λ (r : Range). touches_of r.first r.last c.args.at) c.args.ranges.now c.loop-i.i c.loop-i.hit c.loop-i.invariant.1 _ c.loop-i-test.true c.hit_or-hit.result c.hit_or-hit.ensures)
+loop-i-preserved g c =
+    next_same (λ (r : Range). touches_of r.first r.last c.args.at) _ c.loop-i.i c.loop-i.hit c.loop-i.invariant _ (omega arith) c.range-r.ensures _ c.touches-hit.ensures
 
 pub returns : goal.returns
-returns c = ends (λ (r : Range). touches_of r.first r.last c.args.at) c.args.ranges.now c.loop-i.i c.loop-i.hit c.loop-i.invariant.1 c.loop-i-test.false
+returns g c = ends (λ (r : Range). touches_of r.first r.last c.args.at) _ c.loop-i.i c.loop-i.hit c.loop-i.invariant (omega arith)
