@@ -2,7 +2,6 @@
 use std::rt::Files;
 use stored::files::Held;
 use stored::{files, lines};
-use whole::Played;
 
 // A replay: how many bytes its trace and its lines have; or why it could not be played to its end.
 #[derive(Clone, Copy)]
@@ -35,7 +34,7 @@ fn play_front(trace: &[u8], bytes: usize, text: &mut [u8]) -> Side {
     if trace.len() < bytes {
         return Side::NoRoom;
     }
-    let Played::Lines(lines) = whole::play(&trace[..bytes], text) else {
+    let Ok(lines) = whole::play(&trace[..bytes], text) else {
         return Side::NoRoom;
     };
     if ends(text, lines) {

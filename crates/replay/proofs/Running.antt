@@ -1,15 +1,15 @@
 -- A run: what stands at a place of the buffer, one record more, and why it stops. Assumes nothing.
 use Prim.Native.Nat.{ℕ, suc, ◌+◌, ◌-◌, ◌*◌, ◌≤◌, ◌<◌}
-use mathlib.Core.Path.{◌≡◌, refl, ap, sym, subst, ◌∙◌}
+use mathlib.Core.Path.{◌≡◌, refl, ap, sym, ◌∙◌}
 use mathlib.Core.List.{List, [], ◌∷◌, ◌++◌, append_assoc}
 use mathlib.Core.Bool.{true, false}
 use mathlib.Core.Logic.{◌⊎◌, inl, inr}
 use native.Mathlib.Omega.{arith}
 use borrow.Author.Tests.{le-leb, lt-leb}
 use lib.ListN.{length, get_or, take, drop, length-drop}
-use lib.Seq.{drop-drop}
+use lib.Seq.{drop-drop, take_all}
 use Rattle.std.specs.Prelude.{Result, Ok, Err}
-use Rattle.definition.specs.Trace.{State, Body, Short, Ended, front_of, Record, Calls, Malformed, record_of, is_malformed, step_of, text, play_from}
+use Rattle.definition.specs.Trace.{State, Short, Ended, front_of, Record, Calls, Malformed, record_of, is_malformed, step_of, text, play_from}
 use Rattle.definition.proofs.Files.{plays_on}
 use Rattle.trace.specs.Lines.{line_in, Wrote}
 use Rattle.trace.specs.Records.{call_in, setting_in, record_in}
@@ -50,6 +50,10 @@ module _ (n : ℕ) where
         rest = rw e refl;
         shorter = omega (arith, length-drop n rest);
       }
+
+-- the slice behind the first two bytes
+pub tail : (l : List ℕ) → take (length l - 2) (drop 2 l) ≡ drop 2 l
+tail l = take_all (length l - 2) (drop 2 l) (omega (arith, length-drop 2 l))
 
 -- so it does behind the first `read` bytes
 pub behind : (b : List ℕ) {body after : List ℕ} (read : ℕ) → read ≤ length b → Stands (drop read b) body after

@@ -1,14 +1,12 @@
 -- What each record's parts give together: the definition's step. Assumes nothing.
-use Prim.Native.Nat.{ℕ, ◌+◌, ◌*◌, ◌/◌, ◌%◌, ◌≤◌, ◌<◌}
+use Prim.Native.Nat.{ℕ, ◌*◌, ◌/◌, ◌%◌, ◌≤◌, ◌<◌}
 use mathlib.Core.Path.{◌≡◌, refl, ap, sym, ◌∙◌}
 use mathlib.Core.List.{List, [], ◌∷◌, ◌++◌}
 use mathlib.Core.Bool.{Bool, true, false, ◌||◌}
 use native.Mathlib.Omega.{arith}
-use native.Mathlib.Numerals.{add-one}
 use borrow.Author.Tests.{eq-eqb, ne_eqb, lt-ltb, le-ltb, le-leb, lt-leb}
 use lib.Dec.{ltb}
-use lib.ListN.{length, take, set, length-take}
-use lib.Seq.{length-take-le, take-suc-set}
+use lib.ListN.{length, set}
 use Rattle.definition.specs.Words.{any_of}
 use Rattle.definition.specs.Refusal.{no_family, bad_store, crossed, refusal_of}
 use Rattle.definition.specs.Calls.{Call, calling}

@@ -1,5 +1,5 @@
 -- What the replay keeps is the definition's state; what one record and a run over a buffer promise.
-use Rattle.std.specs.Prelude.{ℕ, ◌+◌, ◌-◌, ◌/◌, ◌≤◌, ◌<◌, ◌≡◌, Bool, true, false, List, [], ◌++◌, ◌⊎◌, length, take, drop, set}
+use Rattle.std.specs.Prelude.{ℕ, ◌+◌, ◌-◌, ◌/◌, ◌≤◌, ◌<◌, ◌≡◌, Bool, true, false, List, [], ◌++◌, ◌⊎◌, length, drop, set}
 use Rattle.std.specs.Prelude.{if◌then◌else◌}
 use Rattle.definition.specs.Memory.{Memory}
 use Rattle.definition.specs.Refusal.{bad_store}

@@ -41,4 +41,3 @@ unknown kind b h1 h2 h3 h4 h5 h6 h7 h8 h9 h10 h11 =
       ne_eqb kind 10 h10,
       ne_eqb kind 11 h11,
     )
-

@@ -1,4 +1,3 @@
-use Rattle.std.proofs.Common.{refl}
 use Rattle.trace.proofs.Writes.{put_there}
 use Rattle.trace.proofs.put.Goals as goal
 
