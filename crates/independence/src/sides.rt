@@ -1,147 +1,122 @@
 // The two sides of a pair: a replay read from its file and played, the records of its trace, and the lines of its accesses.
+use std::fmt;
 use std::rt::Files;
-use stored::files::Held;
-use stored::{files, lines};
+use stored::files;
+use stored::files::Unheld;
 
-// A replay: how many bytes its trace and its lines have; or why it could not be played to its end.
+// A replay: its trace, and its lines.
 #[derive(Clone, Copy)]
-pub enum Side {
-    Played { bytes: usize, lines: usize },
-    Unheld(Held),
+pub struct Side<'a> {
+    pub trace: &'a [u8],
+    pub text: &'a [u8],
+}
+
+// The buffers of a replay.
+#[derive(Clone, Copy)]
+pub struct Buffers {
+    trace: [u8; 4096],
+    text: [u8; 4096],
+}
+
+// Why a replay could not be played to its end.
+#[derive(Clone, Copy)]
+pub enum Unplayed {
+    Unheld(Unheld),
     NoRoom,
     Stopped,
 }
 
-// Whether the lines end in `end`.
-fn is_ended(text: &[u8]) -> bool {
-    let n = text.len();
-    if n < 4 {
-        return false;
+impl fmt::Display for Unplayed {
+    fn fmt<W: fmt::Write>(&self, f: &mut fmt::Formatter<W>) -> fmt::Result {
+        match self {
+            Unplayed::Unheld(why) => write!(f, "{why}"),
+            Unplayed::NoRoom => write!(f, "has too many lines"),
+            Unplayed::Stopped => write!(f, "is malformed"),
+        }
     }
-    check::same(&text[n - 4..], b"end\n")
 }
 
-// Whether the first `n` bytes of the lines end in `end`.
-fn ends(text: &[u8], n: usize) -> bool {
-    if n <= text.len() {
-        return is_ended(&text[..n]);
+impl From<Unheld> for Unplayed {
+    fn from(why: Unheld) -> Unplayed {
+        Unplayed::Unheld(why)
     }
-    false
 }
 
-// Plays the first `bytes` bytes of a trace.
-fn play_front(trace: &[u8], bytes: usize, text: &mut [u8]) -> Side {
-    if trace.len() < bytes {
-        return Side::NoRoom;
+impl Buffers {
+    pub fn new() -> Self {
+        Buffers {
+            trace: [0; 4096],
+            text: [0; 4096],
+        }
     }
-    let Ok(lines) = whole::play(&trace[..bytes], text) else {
-        return Side::NoRoom;
-    };
-    if ends(text, lines) {
-        return Side::Played { bytes, lines };
-    }
-    Side::Stopped
 }
 
-// Reads a replay's trace and plays it.
-pub fn play_named<F: Files>(
+// Reads a replay's trace and plays it to its end.
+pub fn play_named<'a, F: Files>(
     rt: &F,
     name: &[u8],
-    after: &[u8],
-    trace: &mut [u8],
-    text: &mut [u8],
-) -> Side {
-    let held = files::read_named(rt, name, after, trace);
-    let Held::Bytes(bytes) = held else {
-        return Side::Unheld(held);
+    after: &str,
+    buffers: &'a mut Buffers,
+) -> Result<Side<'a>, Unplayed> {
+    let Buffers { trace, text } = buffers;
+    let trace = files::read_named(rt, name, after, trace)?;
+    let Ok(n) = whole::play(trace, text) else {
+        return Err(Unplayed::NoRoom);
     };
-    play_front(trace, bytes, text)
+    let text = text.get(..n).ok_or(Unplayed::Stopped)?;
+    if text.ends_with(b"end\n") {
+        return Ok(Side { trace, text });
+    }
+    Err(Unplayed::Stopped)
 }
 
-// Why a replay could not be played to its end.
-pub fn put_side(out: &mut [u8], at: usize, side: Side) -> usize {
-    match side {
-        Side::Played { .. } => streams::put_text(out, at, b"was played"),
-        Side::Unheld(held) => files::put_why(out, at, held),
-        Side::NoRoom => streams::put_text(out, at, b"has too many lines"),
-        Side::Stopped => streams::put_text(out, at, b"is malformed"),
+// The first record, a 2-byte length and its body, and what comes after it; all of it where it has no whole one.
+fn split_record(records: &[u8]) -> (&[u8], &[u8]) {
+    let n = match records {
+        [high, low, ..] => 2 + 256 * usize::from(*high) + usize::from(*low),
+        _ => records.len(),
+    };
+    records.split_at(n.min(records.len()))
+}
+
+impl<'a> Side<'a> {
+    // The records from record `n` on, from 0: the first one follows the version byte.
+    fn records(self, n: u32) -> &'a [u8] {
+        let mut records = self.trace.get(1..).unwrap_or(&[]);
+        for _ in 0..n {
+            records = split_record(records).1;
+        }
+        records
+    }
+
+    // The line of record `n`. The version's line comes before the first record's.
+    pub fn answer(self, n: u32) -> Answer<'a> {
+        let mut lines = self.text.split_inclusive(|b| *b == b'\n');
+        let line = lines.nth(n as usize + 1).unwrap_or(&[]);
+        let space = line.iter().rposition(|b| *b == b' ').unwrap_or(0);
+        let (told, count) = line.split_at(space);
+        Answer { told, count }
+    }
+
+    // How many records were played: all lines but the first and the last.
+    pub fn record_count(self) -> usize {
+        self.text
+            .split_inclusive(|b| *b == b'\n')
+            .count()
+            .saturating_sub(2)
     }
 }
 
-// A length of two bytes, big-endian.
-fn length_of(high: u8, low: u8) -> usize {
-    (high as usize) * 256 + (low as usize)
+// Whether record `one` of the first trace and record `two` of the second are the same access: its kind, 02, comes after the length.
+pub fn same_access(first: Side, one: u32, second: Side, two: u32) -> bool {
+    let first = first.records(one);
+    let second = second.records(two);
+    first.get(2) == Some(&2) && split_record(first).0 == split_record(second).0
 }
 
-// Where the record at `at` ends: a 2-byte length and its body; the trace's end where it has none.
-fn record_end(trace: &[u8], at: usize) -> usize {
-    let size = trace.len();
-    if size <= at {
-        return size;
-    }
-    let left = size - at;
-    if left < 2 {
-        return size;
-    }
-    let n = length_of(trace[at], trace[at + 1]);
-    if left - 2 < n {
-        return size;
-    }
-    at + 2 + n
-}
-
-// Where record `n` starts, from 0: the first one follows the version byte.
-fn nth_record(trace: &[u8], n: u32) -> usize {
-    let mut at = 1;
-    let mut left = n;
-    while left > 0 {
-        at = record_end(trace, at);
-        left -= 1;
-    }
-    at
-}
-
-// Whether an access's record stands at `at`: its kind, 02, comes after the length.
-fn is_access(trace: &[u8], at: usize) -> bool {
-    if trace.len() < 3 {
-        return false;
-    }
-    if trace.len() - 3 < at {
-        return false;
-    }
-    trace[at + 2] == 2
-}
-
-// Whether record `one` of the first trace and record `two` of the second are the same access.
-pub fn same_access(first: &[u8], one: u32, second: &[u8], two: u32) -> bool {
-    let i = nth_record(first, one);
-    let j = nth_record(second, two);
-    is_access(first, i)
-        && lines::same_part(
-            first,
-            i,
-            record_end(first, i),
-            second,
-            j,
-            record_end(second, j),
-        )
-}
-
-// An access's line: what it is answered stands from `from` up to `count`, and its count from there up to `to`.
+// An access's line: what it is answered, and its count with the space before.
 #[derive(Clone, Copy)]
-pub struct AnswerLine {
-    pub from: usize,
-    pub count: usize,
-    pub to: usize,
-}
-
-// The line of record `n`. The version's line comes before the first record's.
-pub fn answered(text: &[u8], n: u32) -> AnswerLine {
-    let from = lines::line_end(text, lines::nth_line(text, n));
-    let to = lines::line_end(text, from);
-    AnswerLine {
-        from,
-        count: lines::last_space(text, from, to),
-        to,
-    }
+pub struct Answer<'a> {
+    pub told: &'a [u8],
+    pub count: &'a [u8],
 }

@@ -1,26 +1,19 @@
-// The program's arguments by number; its own name is argument 0.
-ghost use Rattle.std.specs.Prelude.{◌≤◌, length};
-
+// The program's arguments.
 use std::env::FillError;
 use std::rt::Env;
 
-// How many there are, the program's name among them.
-pub fn count<E: Env>(rt: &E) -> usize {
-    let mut start = [0u8; 1];
-    for i in 0..usize::MAX {
-        if let Err(FillError::NotPresent) = rt.arg(i, &mut start) {
-            return i;
-        }
-    }
-    usize::MAX
-}
-
-// Puts argument `i` at the start of the buffer: its length, or 0 where it is missing or longer than the buffer.
-pub fn put<E: Env>(rt: &E, i: usize, buffer: &mut [u8]) -> usize
-    ensures { result ≤ length buffer.new }
+// Hands over each argument after the program's name, in order: None for one that is empty or longer than 64 bytes.
+pub fn each<E: Env, F: FnMut(Option<&[u8]>) + Drop>(rt: &E, mut each: F)
+    requires { F.IsAlwaysCallable each }
 {
-    match rt.arg(i, buffer) {
-        Ok(n) => n,
-        Err(_) => 0,
+    let mut buffer = [0u8; 64];
+    for i in 1..usize::MAX {
+        match rt.arg(i, &mut buffer) {
+            Ok(0) | Err(FillError::TooLong) => each(None),
+            Ok(n) => each(Some(&buffer[..n])),
+            Err(FillError::NotPresent) => {
+                return;
+            }
+        }
     }
 }

@@ -1,80 +1,65 @@
 // A file by its name, read whole into a buffer.
-use std::fs;
+ghost use Rattle.std.specs.Prelude.{◌≤◌, length, IfOk};
+
+use crate::text::Text;
 use std::io::Read;
 use std::rt::Files;
-use streams::Got;
+use std::{fmt, fs};
 
-// What a file gave: so many bytes, or why not.
-#[derive(Clone, Copy)]
-pub enum Held {
-    Bytes(usize),
+// Why a file gave no bytes.
+#[derive(Clone, Copy, Debug, PartialEq, Eq)]
+pub enum Unheld {
     Unopened,
     Unread,
     TooLarge,
 }
 
-// Reads to the end. A buffer that is full before the end is met is too small.
-fn read_to_end<R: Read>(file: &mut R, buffer: &mut [u8]) -> Held {
+impl fmt::Display for Unheld {
+    fn fmt<W: fmt::Write>(&self, f: &mut fmt::Formatter<W>) -> fmt::Result {
+        match self {
+            Unheld::Unopened => write!(f, "can't be opened"),
+            Unheld::Unread => write!(f, "can't be read"),
+            Unheld::TooLarge => write!(f, "is too large"),
+        }
+    }
+}
+
+// Reads to the end: how many bytes there are. A buffer that is full before the end is met is too small.
+fn read_to_end<R: Read>(file: &mut R, buffer: &mut [u8]) -> Result<usize, Unheld>
+    ensures { IfOk result (λ n. n ≤ length buffer.new) }
+{
     let mut have = 0;
-    let mut turns = u64::MAX;
-    while turns > 0 && have < buffer.len() {
-        match streams::fill(file, buffer, have) {
-            Got::Waiting(n) => {
-                have = n;
+    while have < buffer.len() {
+        match file.read(&mut buffer[have..]) {
+            Ok(0) => {
+                return Ok(have);
             }
-            Got::Ended => {
-                return Held::Bytes(have);
+            Ok(n) => {
+                have += n;
             }
-            Got::Failed => {
-                return Held::Unread;
+            Err(_) => {
+                return Err(Unheld::Unread);
             }
         }
-        turns -= 1;
     }
-    Held::TooLarge
-}
-
-// The bytes of a file, from the start of the buffer on.
-fn read_file<F: Files>(rt: &F, path: &str, buffer: &mut [u8]) -> Held {
-    match fs::open(rt, path) {
-        Ok(mut file) => read_to_end(&mut file, buffer),
-        Err(_) => Held::Unopened,
-    }
-}
-
-// Starts a line of a report: a name and a colon.
-pub fn put_name(out: &mut [u8], at: usize, name: &[u8]) -> usize {
-    let to = streams::put_text(out, at, name);
-    streams::put_text(out, to, b": ")
-}
-
-// Starts the line of a file that failed, whose name is `name` with `after` behind it.
-pub fn put_file(out: &mut [u8], at: usize, name: &[u8], after: &[u8]) -> usize {
-    let mut to = put_name(out, at, name);
-    to = streams::put_text(out, to, name);
-    to = streams::put_text(out, to, after);
-    streams::put_text(out, to, b" ")
-}
-
-// Why a file gave no bytes.
-pub fn put_why(out: &mut [u8], at: usize, held: Held) -> usize {
-    match held {
-        Held::Bytes(_) => streams::put_text(out, at, b"was read"),
-        Held::Unopened => streams::put_text(out, at, b"can't be opened"),
-        Held::Unread => streams::put_text(out, at, b"can't be read"),
-        Held::TooLarge => streams::put_text(out, at, b"is too large"),
-    }
+    Err(Unheld::TooLarge)
 }
 
 // The bytes of the file whose name is `name` with `after` behind it.
-pub fn read_named<F: Files>(rt: &F, name: &[u8], after: &[u8], buffer: &mut [u8]) -> Held {
-    let mut path = [0u8; 128];
-    let at = streams::put_text(&mut path, 0, name);
-    let n = streams::put_text(&mut path, at, after);
-    if n < 128 {
-        if let Ok(text) = std::str::from_utf8(&path[..n]) {
-            return read_file(rt, text, buffer);
-        }
+pub fn read_named<'a, F: Files>(
+    rt: &F,
+    name: &[u8],
+    after: &str,
+    buffer: &'a mut [u8],
+) -> Result<&'a [u8], Unheld> {
+    let mut path = Text::<128>::new();
+    path.push(name);
+    path.print(after);
+    if path.is_full() {
+        return Err(Unheld::Unopened);
     }
-    Held::Unopened
+    let path = std::str::from_utf8(path.as_bytes()).map_err(|_| Unheld::Unopened)?;
+    let mut file = fs::open(rt, path).map_err(|_| Unheld::Unopened)?;
+    let n = read_to_end(&mut file, buffer)?;
+    Ok(&buffer[..n])
 }

@@ -1,6 +1,9 @@
-// What is stored in files: a file read whole, and the lines of a text; and the arguments, which name the files.
+// What is stored in files: a file read whole, and the lines of a text; the arguments, which name the files; and the report of what
+// was read.
 #![tactic(auto)]
 
 pub mod arguments;
 pub mod files;
 pub mod lines;
+pub mod report;
+pub mod text;

@@ -1,4 +1,8 @@
+use Rattle.std.proofs.Common.{length, ◌-◌, ◌≤◌}
 use Rattle.stored.proofs.files.read_to_end.Given as goal
 
-abbrev pub decreases-loop-turns : goal.decreases-loop-turns
-decreases-loop-turns g l = l.turns
+abbrev pub invariant-loop-have : goal.invariant-loop-have
+invariant-loop-have g l = l.have ≤ length l.buffer
+
+abbrev pub decreases-loop-have : goal.decreases-loop-have
+decreases-loop-have g l = length l.initial.buffer - l.have
