@@ -8,15 +8,13 @@ use native.Mathlib.Omega.{arith}
 use borrow.Author.Tests.{le-leb, lt-leb}
 use lib.ListN.{length, get_or, take, drop, length-drop}
 use lib.Seq.{drop-drop, take_all}
-use Rattle.std.specs.Prelude.{Result, Ok, Err}
-use Rattle.definition.specs.Trace.{State, Short, Ended, front_of, Record, Calls, Malformed, record_of, is_malformed, step_of, text, play_from}
+use Rattle.std.specs.Prelude.{Result, Ok}
+use Rattle.definition.specs.Trace.{State, Short, Ended, front_of, Record, Calls, record_of, is_malformed, step_of, text, play_from}
 use Rattle.definition.proofs.Files.{plays_on}
 use Rattle.trace.specs.Lines.{line_in, Wrote}
-use Rattle.trace.specs.Records.{call_in, setting_in, record_in}
+use Rattle.trace.specs.Records.{call_in, record_in}
 use Rattle.trace.specs.declared.Line.{Line}
 use Rattle.trace.specs.declared.Call.{Call}
-use Rattle.trace.specs.declared.Setting.{Setting}
-use Rattle.trace.specs.declared.Setting.TheVariants as setting
 use Rattle.trace.specs.declared.Malformed.{Malformed as Bad}
 use Rattle.trace.specs.declared.Record.{Record as Said}
 use Rattle.trace.proofs.Writes.{nothing, then, same_length, next_near}
@@ -63,20 +61,8 @@ behind b {body} {after} read h f =
     f.rest ∙ rw (drop-drop, e) refl
 
 -- ---- a record, once it is told apart
-module _ {x : Result Said Bad} {r : Record} (e : record_in x ≡ r) where
-  pub said_call : {c : Call} → x ≡ Ok (Said.Call c) → Calls (call_in c) ≡ r
-  said_call t = sym (ap record_in t) ∙ e
-
-  pub said_setting : {c : Setting} → x ≡ Ok (Said.Set c) → setting_in c ≡ r
-  said_setting t = sym (ap record_in t) ∙ e
-
-  pub said_malformed : {y : Bad} → x ≡ Err y → Malformed ≡ r
-  said_malformed t = sym (ap record_in t) ∙ e
-
-pub setting_is_good : (x : Setting) → is_malformed (setting_in x) ≡ false
-setting_is_good (setting.Registers g) = refl
-setting_is_good (setting.Long address value) = refl
-setting_is_good (setting.Range range) = refl
+pub said_call : {x : Result Said Bad} {r : Record} {c : Call} → record_in x ≡ r → x ≡ Ok (Said.Call c) → Calls (call_in c) ≡ r
+said_call e t = sym (ap record_in t) ∙ e
 
 -- ---- a run goes on
 pub begins : (s : State) (b out : List ℕ) → Going s b out s 0 out 0

@@ -1,13 +1,12 @@
 -- Writing: two writes in a row are one write of the joined bytes, and what a write leaves in front of its end. Assumes nothing.
 use Prim.Native.Nat.{ℕ, suc, ◌+◌, ◌-◌, ◌≤◌}
 use mathlib.Core.Path.{◌≡◌, refl, ap, sym, ◌∙◌}
-use mathlib.Core.Bool.{Bool, true, false}
 use mathlib.Core.List.{List, [], ◌∷◌, ◌++◌, append_assoc}
 use native.Mathlib.Nat.{add-zero, add-suc, suc-add}
 use native.Mathlib.Omega.{arith}
 use lib.ListN.{length, take, drop, length-append}
 use lib.Seq.{sets, sets-eq, length-sets, length-take-le, take_at, drop-drop}
-use Rattle.trace.specs.Lines.{Wrote, RoomFor, Put}
+use Rattle.trace.specs.Lines.{Wrote}
 
 sets_append : (a b l : List ℕ) (at : ℕ) → sets (sets l at a) (at + length a) b ≡ sets l at (a ++ b)
 sets_append [] b l at = rw add-zero
@@ -37,14 +36,6 @@ then {at = at} {old = old} {a = a} {b = b} v w =
 -- a write of at most m bytes is one of at most n
 pub loosely : {m at next : ℕ} {old new bytes : List ℕ} (n : ℕ) → m ≤ n → Wrote m old at bytes new next → Wrote n old at bytes new next
 loosely n h w = record { stores = w.stores; ends = w.ends; short = omega (arith, w.short) }
-
--- a write that looks for room first
-pub has_room : {most at next : ℕ} {old new bytes : List ℕ} {r : Bool} → RoomFor (length old) at most r → r ≡ true → Wrote most old at bytes new next
-    → Put most old at bytes new next
-has_room f e w = record { room = λ _. w; none = λ k. absurd (omega (arith, f.room e, k)) }
-
-pub no_room : {most at : ℕ} {old bytes : List ℕ} {r : Bool} → RoomFor (length old) at most r → r ≡ false → Put most old at bytes old at
-no_room f e = record { room = λ k. absurd (omega (arith, f.full e, k)); none = λ _. (refl, refl) }
 
 -- what a caller takes from a write that had room
 module _ {most at next : ℕ} {old new bytes : List ℕ} (w : Wrote most old at bytes new next) where

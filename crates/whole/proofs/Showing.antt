@@ -4,11 +4,9 @@ use mathlib.Core.Path.{◌≡◌, refl, ap, sym, subst, ◌∙◌}
 use mathlib.Core.List.{List, [], ◌∷◌, ◌++◌}
 use mathlib.Core.Logic.{◌⊎◌, inl, inr}
 use native.Mathlib.Omega.{arith}
-use native.Mathlib.Decide.{dec_le}
-use native.Mathlib.Nat.{min-eq_right}
 use borrow.Author.Tests.{ne_eqb, eq-eqb}
-use lib.ListN.{length, get_or, take, drop, replicate, length-append, length-take, length-drop}
-use lib.Seq.{length-take-le, take-append-le, take-append-add, take_all}
+use lib.ListN.{length, get_or, take, drop, replicate, length-append, length-drop}
+use lib.Seq.{take-append-le, take-append-add, take_all}
 use Rattle.definition.specs.Trace.{State, Short, Ended, front_of, first_registers, first_state, play_from, opening, play}
 use Rattle.definition.proofs.Files.{not_ended, plays_bad, plays_short, plays_ended}
 use Rattle.trace.specs.Lines.{Wrote, Put}
@@ -33,16 +31,6 @@ put p h =
     (omega (arith, same_length w, h, next_near w), front w (omega (arith, h, next_near w)))
 
 -- there was no room
-pub crowded : (old bytes : List ℕ) (at : ℕ) → length old < at + 44 → length old < length (take at old ++ bytes) + 44
-crowded old bytes at h = go (dec_le at (length old))
-  where
-    go : Dec (at ≤ length old) → length old < length (take at old ++ bytes) + 44
-    go (yes k) = omega (arith, length-append (take at old) bytes, length-take-le at old k)
-    go (no k) =
-        let j : length old ≤ at = omega arith in
-        omega (arith, length-append (take at old) bytes, length-take at old ∙ min-eq_right j)
-
--- so an answer that is an error says
 pub none_shown : (lines out : List ℕ) (r : Result ℕ NoRoom) → IsErr r → length out < length lines + 44 → Shows lines out r
 none_shown lines out (Ok n) i h = let z : ◌≡◌ {A = ℕ} 0 1 = cc in absurd (omega arith)
 none_shown lines out (Err e) i h = h
