@@ -36,7 +36,8 @@ fn front(bytes: &[u8]) -> Option<(&[u8], &[u8])>
     let [high, low, rest @ ..] = bytes else {
         return None;
     };
-    let n = u16::from_be_bytes([*high, *low]) as usize;
+    let length = u16::from_be_bytes([*high, *low]);
+    let n = length as usize;
     if rest.len() < n {
         return None;
     }
