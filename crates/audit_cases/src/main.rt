@@ -58,29 +58,6 @@ fn reading(supervisor: bool) -> Access {
     }
 }
 
-// A bus-error range.
-fn range(first: u32, last: u32) -> Range {
-    Range { first, last }
-}
-
-fn store(longs: &mut [u32; 8192], address: u32, value: u32) {
-    longs[(address / 4 % 8192) as usize] = value;
-}
-
-// 1004=2002, 2004=3002, 3004=55001; and a table of long descriptors at 4000, whose second is the same page with S.
-fn tables(longs: &mut [u32; 8192]) {
-    store(longs, 0x1004, 0x2002);
-    store(longs, 0x2004, 0x3002);
-    store(longs, 0x3004, 0x55001);
-    store(longs, 0x4008, 0x101);
-    store(longs, 0x400C, 0x55000);
-}
-
-// The page of 02041ABC is cached.
-fn warm(c030: &mut Atc030, c040: &mut Atc040, longs: &[u32; 8192], g: Registers, supervisor: bool) {
-    translate::translate(c030, c040, longs, 0, &[], false, g, reading(supervisor));
-}
-
 // ---- What is written.
 
 fn index<P: Print>(rt: &P, letter: &str, i: u32) -> io::Result<()> {
@@ -96,227 +73,236 @@ fn tell<P: Print>(rt: &P, a: Audit) -> io::Result<()> {
     }
 }
 
-fn end_line<P: Print>(rt: &P) -> io::Result<()> {
-    rt.println("")
+// ---- What is tried.
+
+// The caches and the longs that a case is tried on.
+#[derive(Clone, Copy)]
+struct Setting {
+    c030: Atc030,
+    c040: Atc040,
+    longs: [u32; 8192],
 }
 
-// What the audit says from an index on.
-fn show_from<P: Print>(
-    rt: &P,
-    c030: &Atc030,
-    c040: &Atc040,
-    longs: &[u32; 8192],
-    g: Registers,
-    from: u32,
-) -> io::Result<()> {
-    tell(rt, audit_lent(c030, c040, longs, 0, &[], g, from))
-}
+impl Setting {
+    // Empty caches and no tables.
+    fn new() -> Self {
+        Setting {
+            c030: [0; 69],
+            c040: [0; 128],
+            longs: [0; 8192],
+        }
+    }
 
-// What it says over a base and ranges.
-fn show_with<P: Print>(
-    rt: &P,
-    c030: &Atc030,
-    c040: &Atc040,
-    longs: &[u32; 8192],
-    base: u32,
-    ranges: &[Range],
-    g: Registers,
-) -> io::Result<()> {
-    tell(rt, audit_lent(c030, c040, longs, base, ranges, g, 0))
-}
+    // The page of 02041ABC is cached, from its tables.
+    fn warm(g: Registers, supervisor: bool) -> Self {
+        let mut s = Setting::new();
+        s.store_tables();
+        s.translate(g, supervisor);
+        s
+    }
 
-fn show<P: Print>(
-    rt: &P,
-    c030: &Atc030,
-    c040: &Atc040,
-    longs: &[u32; 8192],
-    g: Registers,
-) -> io::Result<()> {
-    show_from(rt, c030, c040, longs, g, 0)
-}
+    fn store(&mut self, address: u32, value: u32) {
+        self.longs[(address / 4 % 8192) as usize] = value;
+    }
 
-// The same over one changed long, which is then as it was.
-fn changed<P: Print>(
-    rt: &P,
-    c030: &Atc030,
-    c040: &Atc040,
-    longs: &mut [u32; 8192],
-    g: Registers,
-    address: u32,
-    value: u32,
-) -> io::Result<()> {
-    let before = longs[(address / 4 % 8192) as usize];
-    store(longs, address, value);
-    let shown = show(rt, c030, c040, longs, g);
-    store(longs, address, before);
-    shown
+    // 1004=2002, 2004=3002, 3004=55001; and a table of long descriptors at 4000, whose second is the same page with S.
+    fn store_tables(&mut self) {
+        self.store(0x1004, 0x2002);
+        self.store(0x2004, 0x3002);
+        self.store(0x3004, 0x55001);
+        self.store(0x4008, 0x101);
+        self.store(0x400C, 0x55000);
+    }
+
+    // Reads 02041ABC.
+    fn translate(&mut self, g: Registers, supervisor: bool) {
+        let a = reading(supervisor);
+        translate::translate(
+            &mut self.c030,
+            &mut self.c040,
+            &self.longs,
+            0,
+            &[],
+            false,
+            g,
+            a,
+        );
+    }
+
+    // What the audit says over a base and ranges.
+    fn show_with<P: Print>(
+        &self,
+        rt: &P,
+        base: u32,
+        ranges: &[Range],
+        g: Registers,
+    ) -> io::Result<()> {
+        tell(
+            rt,
+            audit_lent(&self.c030, &self.c040, &self.longs, base, ranges, g, 0),
+        )
+    }
+
+    // What it says from an index on.
+    fn show_from<P: Print>(&self, rt: &P, g: Registers, from: u32) -> io::Result<()> {
+        tell(
+            rt,
+            audit_lent(&self.c030, &self.c040, &self.longs, 0, &[], g, from),
+        )
+    }
+
+    fn show<P: Print>(&self, rt: &P, g: Registers) -> io::Result<()> {
+        self.show_from(rt, g, 0)
+    }
+
+    // The same over each changed long, which is then as it was.
+    fn show_changed<P: Print>(
+        &mut self,
+        rt: &P,
+        g: Registers,
+        changes: &[(u32, u32)],
+    ) -> io::Result<()> {
+        let longs = self.longs;
+        for (address, value) in changes {
+            self.store(*address, *value);
+            self.show(rt, g)?;
+            self.longs = longs;
+        }
+        Ok(())
+    }
+
+    // What is said of entry i, for a read and for a write.
+    fn say<P: Print>(&self, rt: &P, g: Registers, i: u32) -> io::Result<()> {
+        for write in [false, true] {
+            tell_finding(
+                rt,
+                finding_lent(&self.c030, &self.c040, &self.longs, 0, &[], g, i, write),
+            )?;
+        }
+        Ok(())
+    }
 }
 
 // ---- The 68030.
 
 // As it is; the guard; another page; WP above; S for a user; no table; a bus error; a root that is none.
 fn damage_030<P: Print>(rt: &P) -> io::Result<()> {
-    let mut longs = [0u32; 8192];
-    let mut c030 = [0u64; 69];
-    let mut c040 = [0u64; 128];
     let g = of_030();
-    tables(&mut longs);
+    let changes = [
+        (0x3004, 0),
+        (0x3004, 0x66001),
+        (0x2004, 0x3006),
+        (0x2004, 0x4003),
+        (0x1004, 0),
+    ];
     print!(rt; "030")?;
-    show(rt, &c030, &c040, &longs, g)?;
-    warm(&mut c030, &mut c040, &longs, g, false);
-    show(rt, &c030, &c040, &longs, g)?;
+    Setting::new().show(rt, g)?;
+    let mut s = Setting::warm(g, false);
+    s.show(rt, g)?;
     print!(rt; " |")?;
-    changed(rt, &c030, &c040, &mut longs, g, 0x3004, 0)?;
-    changed(rt, &c030, &c040, &mut longs, g, 0x3004, 0x66001)?;
-    changed(rt, &c030, &c040, &mut longs, g, 0x2004, 0x3006)?;
-    changed(rt, &c030, &c040, &mut longs, g, 0x2004, 0x4003)?;
-    changed(rt, &c030, &c040, &mut longs, g, 0x1004, 0)?;
-    show_with(rt, &c030, &c040, &longs, 0, &[range(0x3004, 0x3004)], g)?;
-    show(
-        rt,
-        &c030,
-        &c040,
-        &longs,
-        rooted(30, 0x80C0_7760, 0x8000_0001),
-    )?;
-    end_line(rt)
+    s.show_changed(rt, g, &changes)?;
+    let range = Range {
+        first: 0x3004,
+        last: 0x3004,
+    };
+    s.show_with(rt, 0, &[range], g)?;
+    s.show(rt, rooted(30, 0x80C0_7760, 0x8000_0001))?;
+    println!(rt; "")
 }
 
 // WP of the entry alone; with the guard: another shift of the cache, and of TC; an invalid entry; the other family.
 fn harmless_030<P: Print>(rt: &P) -> io::Result<()> {
-    let mut longs = [0u32; 8192];
-    let mut c030 = [0u64; 69];
-    let mut c040 = [0u64; 128];
     let g = of_030();
-    tables(&mut longs);
-    warm(&mut c030, &mut c040, &longs, g, false);
+    let mut s = Setting::warm(g, false);
+    let warm = s.c030;
     print!(rt; "030 harmless")?;
-    let page = c030[PAGES];
-    c030[PAGES] = page | 1;
-    show(rt, &c030, &c040, &longs, g)?;
-    c030[PAGES] = page;
-    store(&mut longs, 0x3004, 0);
-    show(rt, &c030, &c040, &longs, g)?;
-    c030[SHIFT] = 13;
-    show(rt, &c030, &c040, &longs, g)?;
-    c030[SHIFT] = 12;
-    show(rt, &c030, &c040, &longs, registers(30, 0x80C0_7750))?;
-    show(rt, &c030, &c040, &longs, of_040())?;
-    let tag = c030[0];
-    c030[0] = tag & 0xFFFF_FFFE;
-    show(rt, &c030, &c040, &longs, g)?;
-    end_line(rt)
+    s.c030[PAGES] |= 1;
+    s.show(rt, g)?;
+    s.c030 = warm;
+    s.store(0x3004, 0);
+    s.show(rt, g)?;
+    s.c030[SHIFT] = 13;
+    s.show(rt, g)?;
+    s.c030 = warm;
+    s.show(rt, registers(30, 0x80C0_7750))?;
+    s.show(rt, of_040())?;
+    s.c030[0] &= 0xFFFF_FFFE;
+    s.show(rt, g)?;
+    println!(rt; "")
 }
 
-// The page of 02041ABC under this code.
-fn coded<P: Print>(
-    rt: &P,
-    mut c030: Atc030,
-    c040: &Atc040,
-    longs: &[u32; 8192],
-    code: u64,
-) -> io::Result<()> {
-    c030[0] = 0x20411 + code % 8 * 2;
-    show(rt, &c030, c040, longs, of_030())
-}
-
-// The guard under each code: an access has 1, 2, 5 or 6.
+// The page of 02041ABC under each code, with the guard: an access has 1, 2, 5 or 6.
 fn codes<P: Print>(rt: &P) -> io::Result<()> {
-    let mut longs = [0u32; 8192];
-    let mut c030 = [0u64; 69];
-    let mut c040 = [0u64; 128];
     let g = of_030();
-    tables(&mut longs);
-    warm(&mut c030, &mut c040, &longs, g, false);
-    store(&mut longs, 0x3004, 0);
+    let mut s = Setting::warm(g, false);
+    s.store(0x3004, 0);
     print!(rt; "codes")?;
-    coded(rt, c030, &c040, &longs, 0)?;
-    coded(rt, c030, &c040, &longs, 1)?;
-    coded(rt, c030, &c040, &longs, 2)?;
-    coded(rt, c030, &c040, &longs, 3)?;
-    coded(rt, c030, &c040, &longs, 4)?;
-    coded(rt, c030, &c040, &longs, 5)?;
-    coded(rt, c030, &c040, &longs, 6)?;
-    coded(rt, c030, &c040, &longs, 7)?;
-    end_line(rt)
+    for code in 0..8 {
+        s.c030[0] = 0x20411 + code * 2;
+        s.show(rt, g)?;
+    }
+    println!(rt; "")
 }
 
 // The last entry; and from an index on, with entries 0, 7 and 21 stale.
 fn places_030<P: Print>(rt: &P) -> io::Result<()> {
-    let mut longs = [0u32; 8192];
-    let mut c030 = [0u64; 69];
-    let mut c040 = [0u64; 128];
     let g = of_030();
-    tables(&mut longs);
-    warm(&mut c030, &mut c040, &longs, g, false);
-    store(&mut longs, 0x3004, 0);
-    let tag = c030[0];
-    c030[0] = 0;
-    c030[21] = tag;
+    let mut s = Setting::warm(g, false);
+    s.store(0x3004, 0);
+    let tag = s.c030[0];
+    s.c030[0] = 0;
+    s.c030[21] = tag;
     print!(rt; "places")?;
-    show(rt, &c030, &c040, &longs, g)?;
-    c030[0] = tag;
-    c030[7] = tag;
-    show_from(rt, &c030, &c040, &longs, g, 0)?;
-    show_from(rt, &c030, &c040, &longs, g, 1)?;
-    show_from(rt, &c030, &c040, &longs, g, 8)?;
-    show_from(rt, &c030, &c040, &longs, g, 21)?;
-    show_from(rt, &c030, &c040, &longs, g, 22)?;
-    show_from(rt, &c030, &c040, &longs, g, 0xFFFF_FFFF)?;
-    end_line(rt)
+    s.show(rt, g)?;
+    s.c030[0] = tag;
+    s.c030[7] = tag;
+    for from in [0, 1, 8, 21, 22, 0xFFFF_FFFF] {
+        s.show_from(rt, g, from)?;
+    }
+    println!(rt; "")
 }
 
 // ---- The 68040: as it is; the guard; another page; W; S; no table; W of the slot alone; the last slot; the other family.
 fn case_040<P: Print>(rt: &P, supervisor: bool) -> io::Result<()> {
-    let mut longs = [0u32; 8192];
-    let mut c030 = [0u64; 69];
-    let mut c040 = [0u64; 128];
     let g = of_040();
-    tables(&mut longs);
-    warm(&mut c030, &mut c040, &longs, g, supervisor);
-    show(rt, &c030, &c040, &longs, g)?;
+    let mut s = Setting::warm(g, supervisor);
+    let changes = [
+        (0x3004, 0),
+        (0x3004, 0x66001),
+        (0x3004, 0x55005),
+        (0x3004, 0x55081),
+        (0x1004, 0),
+    ];
+    s.show(rt, g)?;
     print!(rt; " |")?;
-    changed(rt, &c030, &c040, &mut longs, g, 0x3004, 0)?;
-    changed(rt, &c030, &c040, &mut longs, g, 0x3004, 0x66001)?;
-    changed(rt, &c030, &c040, &mut longs, g, 0x3004, 0x55005)?;
-    changed(rt, &c030, &c040, &mut longs, g, 0x3004, 0x55081)?;
-    changed(rt, &c030, &c040, &mut longs, g, 0x1004, 0)?;
-    let base = c040[65];
-    c040[65] = base | 2;
-    show(rt, &c030, &c040, &longs, g)?;
-    c040[65] = base;
-    c040[63] = c040[1];
-    show(rt, &c030, &c040, &longs, g)?;
-    show_from(rt, &c030, &c040, &longs, g, 64)?;
-    show(rt, &c030, &c040, &longs, of_030())?;
-    end_line(rt)
+    s.show_changed(rt, g, &changes)?;
+    let base = s.c040[65];
+    s.c040[65] = base | 2;
+    s.show(rt, g)?;
+    s.c040[65] = base;
+    s.c040[63] = s.c040[1];
+    s.show(rt, g)?;
+    s.show_from(rt, g, 64)?;
+    s.show(rt, of_030())?;
+    println!(rt; "")
 }
 
 // ---- Refusals, in their order: all at once, then without the first of them.
 fn refusals<P: Print>(rt: &P) -> io::Result<()> {
-    let longs = [0u32; 8192];
-    let mut c030 = [0u64; 69];
-    let c040 = [0u64; 128];
-    c030[RECENT] = 22;
+    let mut s = Setting::new();
+    let crossed = [Range { first: 1, last: 0 }];
+    s.c030[RECENT] = 22;
     print!(rt; "refusals")?;
-    show_with(
-        rt,
-        &c030,
-        &c040,
-        &longs,
-        2,
-        &[range(1, 0)],
-        registers(50, 0),
-    )?;
-    show_with(rt, &c030, &c040, &longs, 2, &[range(1, 0)], of_030())?;
-    show_with(rt, &c030, &c040, &longs, 0, &[range(1, 0)], of_030())?;
-    show_with(rt, &c030, &c040, &longs, 0, &[], of_030())?;
-    c030[RECENT] = 0;
-    c030[SHIFT] = 32;
-    show(rt, &c030, &c040, &longs, of_040())?;
-    c030[SHIFT] = 31;
-    show(rt, &c030, &c040, &longs, of_030())?;
-    end_line(rt)
+    s.show_with(rt, 2, &crossed, registers(50, 0))?;
+    s.show_with(rt, 2, &crossed, of_030())?;
+    s.show_with(rt, 0, &crossed, of_030())?;
+    s.show(rt, of_030())?;
+    s.c030[RECENT] = 0;
+    s.c030[SHIFT] = 32;
+    s.show(rt, of_040())?;
+    s.c030[SHIFT] = 31;
+    s.show(rt, of_030())?;
+    println!(rt; "")
 }
 
 // ---- What is said of an entry.
@@ -360,45 +346,27 @@ fn tell_finding<P: Print>(rt: &P, f: Finding) -> io::Result<()> {
         }
         Finding::Refused(n) => index(rt, "R", n)?,
     }
-    end_line(rt)
-}
-
-// Of entry i, for a read and for a write.
-fn said<P: Print>(
-    rt: &P,
-    c030: &Atc030,
-    c040: &Atc040,
-    longs: &[u32; 8192],
-    g: Registers,
-    i: u32,
-) -> io::Result<()> {
-    tell_finding(rt, finding_lent(c030, c040, longs, 0, &[], g, i, false))?;
-    tell_finding(rt, finding_lent(c030, c040, longs, 0, &[], g, i, true))
+    println!(rt; "")
 }
 
 // Of the guard; of WP above; of an entry with WP; of an index past the end; of a supervisor's slot whose page has W; of what is refused.
 fn findings<P: Print>(rt: &P) -> io::Result<()> {
-    let mut longs = [0u32; 8192];
-    let mut c030 = [0u64; 69];
-    let mut c040 = [0u64; 128];
     let mut g = of_030();
-    tables(&mut longs);
-    warm(&mut c030, &mut c040, &longs, g, false);
-    store(&mut longs, 0x3004, 0);
+    let mut s = Setting::warm(g, false);
+    s.store(0x3004, 0);
     g.tt0 = 0x00FF_8777;
-    said(rt, &c030, &c040, &longs, g, 0)?;
-    tables(&mut longs);
-    store(&mut longs, 0x2004, 0x3006);
-    said(rt, &c030, &c040, &longs, g, 0)?;
-    tables(&mut longs);
-    let page = c030[PAGES];
-    c030[PAGES] = page | 1;
-    said(rt, &c030, &c040, &longs, g, 0)?;
-    said(rt, &c030, &c040, &longs, g, 22)?;
-    warm(&mut c030, &mut c040, &longs, of_040(), true);
-    store(&mut longs, 0x3004, 0x55005);
-    said(rt, &c030, &c040, &longs, of_040(), 1)?;
-    said(rt, &c030, &c040, &longs, registers(50, 0), 1)
+    s.say(rt, g, 0)?;
+    s.store_tables();
+    s.store(0x2004, 0x3006);
+    s.say(rt, g, 0)?;
+    s.store_tables();
+    s.c030[PAGES] |= 1;
+    s.say(rt, g, 0)?;
+    s.say(rt, g, 22)?;
+    s.translate(of_040(), true);
+    s.store(0x3004, 0x55005);
+    s.say(rt, of_040(), 1)?;
+    s.say(rt, registers(50, 0), 1)
 }
 
 fn main(rt: HostRuntime) -> io::Result<()> {

@@ -3,5 +3,5 @@
 #![tactic(auto)]
 
 fn main(rt: HostRuntime) {
-    auditing::play(&rt, &mut rt.stdin(), auditing::How::AtEnd);
+    playing::play(&rt, &mut rt.stdin(), auditing::AtEnd);
 }

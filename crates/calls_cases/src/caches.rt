@@ -14,7 +14,7 @@ const KEY: u64 = 0x20413;
 const OTHER: u64 = 0x99993;
 
 // 2^64 - 1.
-const LAST: u64 = 0xFFFF_FFFF_FFFF_FFFF;
+const LAST: u64 = u64::MAX;
 
 // A read of user data.
 fn reading(recorded: bool) -> Access {
@@ -29,13 +29,9 @@ fn writing() -> Access {
 // 22 entries of another page, base 11000 with WP or not, and one stamp.
 fn others(wp: u64, stamp: u64) -> Atc030 {
     let mut c030 = [0u64; 69];
-    let mut i: usize = 0;
-    while i < 22 {
-        c030[i] = OTHER;
-        c030[PAGES + i] = 0x22000 | wp;
-        c030[STAMPS + i] = stamp;
-        i += 1;
-    }
+    c030[..PAGES].fill(OTHER);
+    c030[PAGES..STAMPS].fill(0x22000 | wp);
+    c030[STAMPS..RECENT].fill(stamp);
     c030
 }
 
@@ -81,18 +77,10 @@ fn show_answer<P: Print>(rt: &P, answer: Translation) -> io::Result<()> {
 fn show_entry<P: Print>(rt: &P, c030: &Atc030, i: usize) -> io::Result<()>
     requires { i < 22 }
 {
-    let tag = setting::at(c030, i);
-    let page = setting::at(c030, PAGES + i);
-    let stamp = setting::at(c030, STAMPS + i);
+    let tag = c030[i];
+    let page = c030[PAGES + i];
+    let stamp = c030[STAMPS + i];
     print!(rt; " {tag:x},{page:x},{stamp}")
-}
-
-// Writes the most recent index, the clock and the shift.
-fn show_marks<P: Print>(rt: &P, c030: &Atc030) -> io::Result<()> {
-    let recent = setting::at(c030, RECENT);
-    let clock = setting::at(c030, CLOCK);
-    let shift = setting::at(c030, SHIFT);
-    print!(rt; " m={recent} c={clock} s={shift}")
 }
 
 // Translates over a cache and writes what it gives and leaves.
@@ -102,15 +90,14 @@ fn tried<P: Print>(rt: &P, then: Atc030, a: Access) -> io::Result<()> {
     let longs = setting::tree();
     let g = setting::registers(30, true);
     let r = translate::translate(&mut c030, &mut c040, &longs, 0x1000, &[], false, g, a);
-    let answer = r.answer;
     let count = r.count;
-    show_answer(rt, answer)?;
+    show_answer(rt, r.answer)?;
     print!(rt; " {count}")?;
-    show_marks(rt, &c030)?;
+    print!(rt; " m={} c={} s={}", c030[RECENT], c030[CLOCK], c030[SHIFT])?;
     show_entry(rt, &c030, 0)?;
     show_entry(rt, &c030, 3)?;
     show_entry(rt, &c030, 7)?;
-    rt.println("")
+    println!(rt; "")
 }
 
 // Two entries of one key, at 3 and 7, and all stamps 5.

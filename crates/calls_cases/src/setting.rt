@@ -1,6 +1,6 @@
 // What the cases are given: registers, tables, accesses, and what compares and prints.
 use definition::{Access, Range, Registers, Root};
-use std::io;
+use std::{fmt, io};
 
 // What a call is tried with; `fit` has nothing that is refused, and each case spoils some of it.
 #[derive(Clone, Copy)]
@@ -13,26 +13,137 @@ pub struct Trial {
     pub last: u32,
     pub recent: u64,
     pub shift: u64,
+    pub level: u32,
+    pub mask: u32,
 }
 
-// What a call gave: the refusal's number (0: none), and whether the count was 0 and the caches stayed.
+// What a call gave: the refusal's number, and whether the count was 0 and the caches stayed.
 #[derive(Clone, Copy)]
 pub struct Given {
-    pub number: u32,
+    pub refusal: Option<u32>,
     pub kept: bool,
 }
 
-// Family 30 with an enabled PMMU, data of the user, tables at 1000, a range below them, shift 12.
-pub fn fit() -> Trial {
-    Trial {
-        family: 30,
-        enabled: true,
-        code: 1,
-        base: 0x1000,
-        first: 0x10,
-        last: 0x10,
-        recent: 0,
-        shift: 12,
+// A refusal's number, 0 for none, and a mark where the count was not 0 or the caches changed.
+impl fmt::Display for Given {
+    fn fmt<W: fmt::Write>(&self, f: &mut fmt::Formatter<W>) -> fmt::Result {
+        let number = self.refusal.unwrap_or(0);
+        let mark = if self.kept { "" } else { "!" };
+        write!(f, " {number}{mark}")
+    }
+}
+
+// What is spoilt, by number.
+impl Trial {
+    // Family 30 with an enabled PMMU, data of the user, tables at 1000, a range below them, shift 12.
+    pub fn fit() -> Trial {
+        Trial {
+            family: 30,
+            enabled: true,
+            code: 1,
+            base: 0x1000,
+            first: 0x10,
+            last: 0x10,
+            recent: 0,
+            shift: 12,
+            level: 0,
+            mask: 7,
+        }
+    }
+
+    // 1: 'family not 30, 40, 60'.
+    pub fn one(self) -> Trial {
+        Trial { family: 20, ..self }
+    }
+
+    // 6: 'PLOAD or PTEST on family 40 or 60'.
+    pub fn six(self) -> Trial {
+        Trial { family: 40, ..self }
+    }
+
+    // 5: 'override, function code .. above 7'.
+    pub fn five(self) -> Trial {
+        Trial { code: 8, ..self }
+    }
+
+    // 5: a mask above 7.
+    pub fn five_mask(self) -> Trial {
+        Trial { mask: 8, ..self }
+    }
+
+    // A test's level; 5: one above 7.
+    pub fn at(self, level: u32) -> Trial {
+        Trial { level, ..self }
+    }
+
+    // 2: 'base not a multiple of 4'.
+    pub fn two(self) -> Trial {
+        Trial {
+            base: 0x1002,
+            ..self
+        }
+    }
+
+    // 2: 'base + 4 x longs above 2^32': of 32 longs.
+    pub fn two_high(self) -> Trial {
+        Trial {
+            base: 0xFFFF_FF84,
+            ..self
+        }
+    }
+
+    // 3: 'a range whose first is above its last'.
+    pub fn three(self) -> Trial {
+        Trial {
+            first: 0x11,
+            ..self
+        }
+    }
+
+    // 4: 'most-recent index above 21'.
+    pub fn four(self) -> Trial {
+        Trial { recent: 22, ..self }
+    }
+
+    // 4: 'or shift above 31'.
+    pub fn four_shift(self) -> Trial {
+        Trial { shift: 32, ..self }
+    }
+
+    // The largest that are taken: code 7, base + 4 x longs at 2^32, most recent index 21, shift 31.
+    pub fn largest(self) -> Trial {
+        Trial {
+            code: 7,
+            base: 0xFFFF_FF80,
+            recent: 21,
+            shift: 31,
+            ..self
+        }
+    }
+
+    // The PMMU is off: the checks 'precede the test for an enabled PMMU'.
+    pub fn off(self) -> Trial {
+        Trial {
+            enabled: false,
+            ..self
+        }
+    }
+
+    // The registers of a case.
+    pub fn registers(self) -> Registers {
+        registers(self.family, self.enabled)
+    }
+
+    // The one range of a case, and whether it is crossed.
+    pub fn range(self) -> Range {
+        Range {
+            first: self.first,
+            last: self.last,
+        }
+    }
+
+    pub fn is_crossed(self) -> bool {
+        self.last < self.first
     }
 }
 
@@ -69,11 +180,6 @@ pub fn tree() -> [u32; 32] {
     longs
 }
 
-// The one range of a case.
-pub fn ranges(first: u32, last: u32) -> [Range; 1] {
-    [Range { first, last }]
-}
-
 // Logical 02041ABC of user data, or under a function code.
 pub fn access(code: Option<u32>, write: bool, recorded: bool) -> Access {
     Access {
@@ -87,35 +193,17 @@ pub fn access(code: Option<u32>, write: bool, recorded: bool) -> Access {
     }
 }
 
-// Whether two arrays have the same numbers.
-pub fn same(a: &[u64], b: &[u64]) -> bool {
-    if a.len() != b.len() {
-        return false;
-    }
-    let mut i: usize = 0;
-    while i < a.len() {
-        if a[i] != b[i] {
-            return false;
-        }
-        i += 1;
-    }
-    true
-}
-
-// The number at a place, 0 past the end.
-pub fn at(a: &[u64], i: usize) -> u64 {
-    if i < a.len() {
-        return a[i];
-    }
-    0
-}
-
-// Writes a refusal's number, and a mark where the count was not 0 or the caches changed.
-pub fn show<P: Print>(rt: &P, g: Given) -> io::Result<()> {
-    let number = g.number;
-    print!(rt; " {number}")?;
-    if !g.kept {
-        print!(rt; "!")?;
+// Tries a call with each trial, and writes what it gives.
+pub fn show<P: Print, F: Fn(Trial) -> Given + Drop>(
+    rt: &P,
+    call: F,
+    trials: &[Trial],
+) -> io::Result<()>
+    requires { F.IsAlwaysCallable call }
+{
+    for t in trials {
+        let given = call(*t);
+        print!(rt; "{given}")?;
     }
     Ok(())
 }

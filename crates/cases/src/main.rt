@@ -4,10 +4,12 @@
 #![tactic(auto)]
 
 use replay::run::Why;
+use states::State;
 use std::fmt;
 use std::rt::Files;
 use stored::files::Unheld;
 use stored::report::Report;
+use stored::text::Text;
 use stored::{arguments, files, lines};
 use trace::Line;
 
@@ -123,7 +125,7 @@ impl<P: Print + Eprint> Comparison<'_, '_, '_, P> {
         let mut c040 = [0u64; 128];
         let mut longs = [0u32; 8192];
         let mut line = [0u8; 45];
-        let mut state = [0u8; 4096];
+        let mut state = Text::<4096>::new();
         let mut kept = replay::first();
         let mut rest = records;
         for _ in 0..u64::MAX {
@@ -133,8 +135,13 @@ impl<P: Print + Eprint> Comparison<'_, '_, '_, P> {
             match ran.why {
                 Why::Room => {
                     self.line(&line[..ran.wrote]);
-                    let n = states::state_line(&mut state, &c030, &c040);
-                    self.state(&state[..n.min(4096)]);
+                    let caches = State {
+                        c030: &c030,
+                        c040: &c040,
+                    };
+                    state.clear();
+                    state.print(format_args!("{caches}\n"));
+                    self.state(state.as_bytes());
                 }
                 Why::Input => {
                     return self.finished(rest);

@@ -2,5 +2,8 @@
 #![tactic(auto)]
 
 fn main(rt: HostRuntime) {
-    auditing::play(&rt, &mut rt.stdin(), auditing::How::List);
+    let tree = auditing::Tree {
+        asked: listing::Asked::read(&rt),
+    };
+    playing::play(&rt, &mut rt.stdin(), tree);
 }

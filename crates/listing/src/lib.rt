@@ -2,292 +2,175 @@
 // The program's arguments are the function code, in decimal, and the address to start at, in hex.
 #![tactic(auto)]
 
-ghost use Rattle.std.specs.Prelude.{◌≤◌, length};
-
 use definition::{Listed, Range, Registers};
-use states::put_hex;
 use std::env::Env;
-use streams::{put, put_decimal, put_text, shown};
+use std::fmt;
+use std::fmt::{Display, Formatter, Write};
+use streams::{Unwritten, printed};
 
 // ---- The arguments.
 
-// A digit's value; another byte has none.
-fn digit_of(b: u8) -> u64 {
-    if 48 <= b && b <= 57 {
-        return (b - 48) as u64;
-    }
-    if 65 <= b && b <= 70 {
-        return (b - 55) as u64;
-    }
-    if 97 <= b && b <= 102 {
-        return (b - 87) as u64;
-    }
-    0
-}
-
-// A number with one digit more, mod 2^32.
-fn with_digit(x: u32, b: u8, hex: bool) -> u32 {
-    let d = digit_of(b) % 16;
-    if hex {
-        return ((x as u64 * 16 + d) % 4294967296) as u32;
-    }
-    ((x as u64 * 10 + d) % 4294967296) as u32
-}
-
-// A number by its digits.
-fn value(text: &[u8], hex: bool) -> u32 {
-    let mut x = 0;
-    let mut i = 0;
-    while i < text.len() {
-        x = with_digit(x, text[i], hex);
-        i += 1;
-    }
-    x
+// A number by its digits, mod 2^32; a byte that is no digit counts as 0.
+fn value(text: &[u8], base: u32) -> u32 {
+    text.iter().fold(0u32, |x, b| {
+        let digit = char::from(*b).to_digit(16).unwrap_or(0);
+        x.wrapping_mul(base).wrapping_add(digit)
+    })
 }
 
 // Argument i as a number: 0 where it is missing.
-fn argument<H: Env>(rt: &H, i: usize, hex: bool) -> u32 {
+fn argument<H: Env>(rt: &H, i: usize, base: u32) -> u32 {
     let mut text = [0u8; 16];
     match rt.arg(i, &mut text) {
-        Ok(n) => value(&text[..n], hex),
+        Ok(n) => value(&text[..n], base),
         Err(_) => 0,
+    }
+}
+
+// What the arguments ask for.
+#[derive(Clone, Copy)]
+pub struct Asked {
+    pub code: u32,
+    pub from: u32,
+}
+
+impl Asked {
+    pub fn read<H: Env>(rt: &H) -> Self {
+        Asked {
+            code: argument(rt, 1, 10),
+            from: argument(rt, 2, 16),
+        }
     }
 }
 
 // ---- The lines.
 
-// How many addresses a range has.
-fn size(x: u64) -> u64 {
-    let consumed = (x % 256 % 33) as u32;
-    1 << (32 - consumed)
-}
+// A range of the list, as its number says it: the first address above, the page's upper bits below, and in the last byte 33 times
+// the kind and how many bits of an address the tables took. The number is the host's too (`host_list`).
+#[derive(Clone, Copy)]
+struct Mapped(u64);
 
-// Its last address.
-fn last_of(x: u64) -> u64 {
-    let past = std::num::wrapping_add_u64(x >> 32, size(x));
-    std::num::wrapping_sub_u64(past, 1)
-}
+impl Mapped {
+    // How many addresses it has.
+    fn size(self) -> u64 {
+        1 << (32 - (self.0 % 256 % 33) as u32)
+    }
 
-// 0 a page, 1 with WP, 2 with S, 3 with both; 4 and above a range whose descriptor can't be fetched.
-fn kind(x: u64) -> u64 {
-    x % 256 / 33
-}
+    // 0 a page, 1 with WP, 2 with S, 3 with both; 4 and above a range whose descriptor can't be fetched.
+    fn kind(self) -> u64 {
+        self.0 % 256 / 33
+    }
 
-fn put_flags(out: &mut [u8], at: usize, kind: u64) -> usize {
-    match kind {
-        0 => put(out, at, b'-'),
-        1 => put(out, at, b'W'),
-        2 => put(out, at, b'S'),
-        3.. => put_text(out, at, b"WS"),
+    // How many addresses it maps.
+    fn bytes(self) -> u64 {
+        if self.kind() < 4 { self.size() } else { 0 }
     }
 }
 
-// Where a range is mapped to.
-fn put_page(out: &mut [u8], at: usize, x: u64) -> usize {
-    let k = kind(x);
-    if k < 4 {
-        let mut to = put_hex(out, at, x % 4294967296 / 256 * 256);
-        to = put(out, to, b' ');
-        return put_flags(out, to, k);
+impl Display for Mapped {
+    fn fmt<W: Write>(&self, f: &mut Formatter<W>) -> fmt::Result {
+        let first = self.0 >> 32;
+        let last = first.wrapping_add(self.size()).wrapping_sub(1) % 4294967296;
+        let flags = match self.kind() {
+            0 => "-",
+            1 => "W",
+            2 => "S",
+            3 => "WS",
+            4.. => return write!(f, "{first:08X}-{last:08X} unfetchable"),
+        };
+        let page = self.0 % 4294967296 / 256 * 256;
+        write!(f, "{first:08X}-{last:08X} {page:08X} {flags}")
     }
-    put_text(out, at, b"unfetchable")
 }
 
-// A range's line.
-fn put_range(out: &mut [u8], at: usize, x: u64) -> usize {
-    let first = x >> 32;
-    let mut to = put_hex(out, at, first);
-    to = put(out, to, b'-');
-    to = put_hex(out, to, last_of(x));
-    to = put(out, to, b' ');
-    to = put_page(out, to, x);
-    put(out, to, b'\n')
-}
+// A line for each.
+#[derive(Clone, Copy)]
+struct Lines<'a>(&'a [u64]);
 
-// The lines of some ranges.
-fn put_ranges(out: &mut [u8], found: &[u64]) -> usize {
-    let mut to = 0;
-    let mut i = 0;
-    while i < found.len() {
-        to = put_range(out, to, found[i]);
-        i += 1;
-    }
-    to
-}
-
-// The addresses of the mapped ones, and `bytes` more.
-fn mapped(bytes: u64, found: &[u64]) -> u64 {
-    let mut sum = bytes;
-    let mut i = 0;
-    while i < found.len() {
-        let x = found[i];
-        if kind(x) < 4 {
-            sum = std::num::wrapping_add_u64(sum, size(x));
+impl Display for Lines<'_> {
+    fn fmt<W: Write>(&self, f: &mut Formatter<W>) -> fmt::Result {
+        for x in self.0 {
+            let mapped = Mapped(*x);
+            writeln!(f, "{mapped}")?;
         }
-        i += 1;
+        Ok(())
     }
-    sum
-}
-
-fn put_sum(out: &mut [u8], ranges: u64, bytes: u64) -> usize {
-    let mut to = put_decimal(out, 0, ranges);
-    to = put_text(out, to, b" ranges, ");
-    to = put_decimal(out, to, bytes);
-    put_text(out, to, b" bytes mapped\n")
-}
-
-fn put_refusal(out: &mut [u8], number: u32) -> usize {
-    let mut to = put_text(out, 0, b"R ");
-    to = put_decimal(out, to, number as u64);
-    put(out, to, b'\n')
 }
 
 // ---- The list.
 
-// What was listed so far, where to go on, and whether it goes on.
+// What was listed so far.
 #[derive(Clone, Copy)]
-struct Listing {
+struct Sum {
     ranges: u64,
     bytes: u64,
-    from: u32,
-    on: bool,
+}
+
+impl Sum {
+    // With these beside.
+    fn with(self, found: &[u64]) -> Self {
+        let bytes = found
+            .iter()
+            .fold(self.bytes, |sum, x| sum.wrapping_add(Mapped(*x).bytes()));
+        Sum {
+            ranges: self.ranges.wrapping_add(found.len() as u64),
+            bytes,
+        }
+    }
+}
+
+impl Display for Sum {
+    fn fmt<W: Write>(&self, f: &mut Formatter<W>) -> fmt::Result {
+        let Sum { ranges, bytes } = *self;
+        write!(f, "{ranges} ranges, {bytes} bytes mapped")
+    }
 }
 
 // The ranges of what is kept as numbers, two for each.
-fn numbers_of(ranges: &[Range]) -> [u32; 32]
-    requires { length ranges.now ≤ 16 }
-{
+fn numbers_of(ranges: &[Range]) -> [u32; 32] {
     let mut numbers = [0u32; 32];
-    for i in 0..ranges.len() {
-        numbers[2 * i] = ranges[i].first;
-        numbers[2 * i + 1] = ranges[i].last;
+    for (pair, range) in numbers.chunks_exact_mut(2).zip(ranges) {
+        pair[0] = range.first;
+        pair[1] = range.last;
     }
     numbers
 }
 
-// It is over.
-fn stopped(l: Listing) -> Listing {
-    Listing {
-        ranges: l.ranges,
-        bytes: l.bytes,
-        from: l.from,
-        on: false,
-    }
-}
-
-// Writes the lines of ranges that were found. It goes on where there are more, and where they could be written.
-fn told<H: Print + Eprint>(
+// Lists the tree of registers, longs at 0 and at most sixteen ranges, as many mapped ranges at a time as `found` has room for.
+pub fn listed<H: Print + Eprint>(
     rt: &H,
-    line: &mut [u8],
-    found: &[u64],
-    l: Listing,
-    more: bool,
-    next: u32,
-) -> Listing {
-    let n = put_ranges(line, found);
-    let done = shown(rt, line, n);
-    Listing {
-        ranges: std::num::wrapping_add_u64(l.ranges, found.len() as u64),
-        bytes: mapped(l.bytes, found),
-        from: next,
-        on: done & more,
-    }
-}
-
-// The same of the first `n` numbers.
-fn told_of<H: Print + Eprint>(
-    rt: &H,
-    line: &mut [u8],
-    found: &[u64],
-    n: usize,
-    l: Listing,
-    more: bool,
-    next: u32,
-) -> Listing {
-    if n <= found.len() {
-        return told(rt, line, &found[..n], l, more, next);
-    }
-    stopped(l)
-}
-
-// The last line: what was listed.
-fn ended<H: Print + Eprint>(rt: &H, line: &mut [u8], l: Listing) -> Listing {
-    let n = put_sum(line, l.ranges, l.bytes);
-    shown(rt, line, n);
-    stopped(l)
-}
-
-// The one line of a refusal.
-fn refused<H: Print + Eprint>(rt: &H, line: &mut [u8], l: Listing, number: u32) -> Listing {
-    let n = put_refusal(line, number);
-    shown(rt, line, n);
-    stopped(l)
-}
-
-// Lists as many ranges as have room, from where it goes on.
-fn turn<H: Print + Eprint>(
-    rt: &H,
-    line: &mut [u8],
-    longs: &[u32],
-    ranges: &[u32],
-    g: Registers,
-    code: u32,
-    found: &mut [u64],
-    l: Listing,
-) -> Listing {
-    match list::list(longs, 0, ranges, g, code, l.from, found) {
-        Listed::All(n) => {
-            let now = told_of(rt, line, found, n, l, false, 0);
-            ended(rt, line, now)
-        }
-        Listed::More { count, next } => told_of(rt, line, found, count, l, true, next),
-        Listed::Refused(n) => refused(rt, line, l, n),
-    }
-}
-
-// Lists the tree from an address on, over ranges as numbers, as many at a time as `found` has room for. Whether it came to its end.
-fn all<H: Print + Eprint>(
-    rt: &H,
-    line: &mut [u8],
-    longs: &[u32],
-    ranges: &[u32],
-    g: Registers,
-    code: u32,
-    from: u32,
-    found: &mut [u64],
-) -> bool {
-    let mut l = Listing {
-        ranges: 0,
-        bytes: 0,
-        from,
-        on: true,
-    };
-    let mut turns = u64::MAX;
-    while turns > 0 {
-        l = turn(rt, line, longs, ranges, g, code, found, l);
-        if !l.on {
-            return true;
-        }
-        turns -= 1;
-    }
-    false
-}
-
-// Lists the tree of registers, longs at 0 and at most sixteen ranges, through `line`. Whether it came to its end.
-pub fn listed<H: Env + Print + Eprint>(
-    rt: &H,
-    line: &mut [u8],
     longs: &[u32],
     g: Registers,
     ranges: &[Range],
-) -> bool {
+    asked: Asked,
+) -> Result<(), Unwritten> {
     if ranges.len() > 16 {
-        return false;
+        return Ok(());
     }
     let numbers = numbers_of(ranges);
-    let code = argument(rt, 1, false);
-    let from = argument(rt, 2, true);
-    let mut found = [0u64; 256];
     let pairs = &numbers[..2 * ranges.len()];
-    all(rt, line, longs, pairs, g, code, from, &mut found)
+    let mut found = [0u64; 256];
+    let mut sum = Sum {
+        ranges: 0,
+        bytes: 0,
+    };
+    let mut from = asked.from;
+    for _ in 0..u64::MAX {
+        match list::list(longs, 0, pairs, g, asked.code, from, &mut found) {
+            Listed::All(n) => {
+                let last = found.get(..n).unwrap_or(&[]);
+                let _ = printed(rt, Lines(last));
+                sum = sum.with(last);
+                return printed(rt, format_args!("{sum}\n"));
+            }
+            Listed::More { count, next } => {
+                let some = found.get(..count).unwrap_or(&[]);
+                printed(rt, Lines(some))?;
+                sum = sum.with(some);
+                from = next;
+            }
+            Listed::Refused(number) => return printed(rt, format_args!("R {number}\n")),
+        }
+    }
+    Ok(())
 }

@@ -2,5 +2,5 @@
 #![tactic(auto)]
 
 fn main(rt: HostRuntime) {
-    playing::play(&rt, &mut rt.stdin(), false);
+    playing::play(&rt, &mut rt.stdin(), playing::Lines);
 }

@@ -3,5 +3,5 @@
 #![tactic(auto)]
 
 fn main(rt: HostRuntime) {
-    playing::play(&rt, &mut rt.stdin(), true);
+    playing::play(&rt, &mut rt.stdin(), playing::States);
 }

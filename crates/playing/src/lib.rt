@@ -1,304 +1,161 @@
-// The driver of the players: standard input through a buffer, the replay's lines through another, and with `states` also both
-// caches after each record. It is proved that of the bytes that stand in the buffer no record is lost and none is played twice.
+// The driver of the players and of the auditors: standard input through a buffer, and what a program writes of each record and at
+// the end. It is proved that of the bytes that stand in the buffer no record is lost and none is played twice.
 #![tactic(auto)]
 
-ghost use Rattle.std.specs.Prelude.{◌≡◌, true, false, ◌≤◌, ◌-◌, length, take, drop};
-ghost use Rattle.definition.specs.Words.{any_of};
-ghost use Rattle.definition.specs.Refusal.{crossed};
-ghost use Rattle.replay.specs.Playing.{ranges_of, state_of};
-ghost use Rattle.playing.specs.Driving.{Went, Waits, Turned};
+mod lines;
+mod state;
 
-use cache::atc030::Atc030;
-use cache::atc040::Atc040;
-use replay::Kept;
-use replay::run::Why;
+ghost use Rattle.std.specs.Prelude.{◌≤◌, length, OnOk, IfOk};
+ghost use Rattle.playing.specs.Driving.{state_in, bytes_in, Went, Waits, Turned};
+
+pub use lines::{Lines, States};
+use replay::run::{Ran, Why};
+pub use state::Replay;
+use state::Waiting;
 use std::io::Read;
-use streams::{Got, shown, written};
+use streams::{Unwritten, written};
 
-// Where the driver stands: what the replay keeps, how many bytes of the buffer wait, and whether it goes on.
+// It is over, and what there was to say is said.
 #[derive(Clone, Copy)]
-struct Waiting {
-    kept: Kept,
-    have: usize,
-    on: bool,
+pub struct Over;
+
+impl From<Unwritten> for Over {
+    fn from(_unwritten: Unwritten) -> Self {
+        Over
+    }
+}
+
+// What a program makes of a trace.
+pub trait Watch {
+    // Whether it is told of each record. Then the records are played one by one.
+    const EACH: bool;
+
+    // Lines of the replay, the version's first.
+    fn lines<H: Print + Eprint>(&mut self, _rt: &H, _lines: &[u8]) -> Result<(), Over> {
+        Ok(())
+    }
+
+    // After a record that printed its line.
+    fn record<H: Print + Eprint>(&mut self, _rt: &H, _replay: &Replay) -> Result<(), Over> {
+        Ok(())
+    }
+
+    // At the end of the trace.
+    fn end<H: Print + Eprint>(&mut self, rt: &H, replay: &Replay) -> Result<(), Over>;
 }
 
 // Refusal 7: the last line.
-fn malformed<H: Print + Eprint>(rt: &H) {
-    written(rt, b"R 7\n");
-}
-
-// At the end of the input: `end`, or refusal 7 where a part of a record is left.
-fn finish<H: Print + Eprint>(rt: &H, have: usize) {
-    if have == 0 {
-        written(rt, b"end\n");
-        return;
-    }
-    malformed(rt);
-}
-
-// The bytes from `from` to `have` move to the front of the buffer: how many they are.
-fn shifted(buffer: &mut [u8], from: usize, have: usize) -> usize
-    requires { (from ≤ have) × (have ≤ length buffer.old) }
-    ensures { (result ≡ have - from) × (take result buffer.new ≡ take result (drop from buffer.old)) }
-{
-    let left = have - from;
-    let mut i = 0;
-    while i < left {
-        buffer[i] = buffer[from + i];
-        i += 1;
-    }
-    left
-}
-
-// Where a run over the waiting bytes leaves off: there is more to run, more input is wanted, or it is over.
-#[derive(Clone, Copy)]
-enum Next {
-    More,
-    Input,
-    Over,
-}
-
-// What a run leaves: what is kept, how many bytes it read, and what is next.
-#[derive(Clone, Copy)]
-struct Played {
-    kept: Kept,
-    read: usize,
-    next: Next,
-}
-
-// Which comes after a run. A malformed record ends it.
-fn after<H: Print + Eprint>(rt: &H, why: Why) -> Next {
-    match why {
-        Why::Input => Next::Input,
-        Why::Room => Next::More,
-        Why::Malformed => {
-            malformed(rt);
-            Next::Over
-        }
-    }
-}
-
-// With `states`, both caches after a record that printed its line.
-fn caches_shown<H: Print + Eprint>(
-    rt: &H,
-    line: &mut [u8],
-    c030: &Atc030,
-    c040: &Atc040,
-    states: bool,
-    wrote: usize,
-) -> bool {
-    if states && 0 < wrote {
-        let n = states::state_line(line, c030, c040);
-        return shown(rt, line, n);
-    }
-    true
-}
-
-// One run over waiting bytes, with its lines written. With `states` it plays one record, since `out` has room for one line, and
-// writes both caches after it.
-fn some<H: Print + Eprint>(
-    rt: &H,
-    c030: &mut Atc030,
-    c040: &mut Atc040,
-    longs: &mut [u32],
-    kept: Kept,
-    input: &[u8],
-    out: &mut [u8],
-    line: &mut [u8],
-    states: bool,
-) -> Played
-    requires { any_of crossed (ranges_of kept) ≡ false }
-    ensures { (any_of crossed (ranges_of result.kept) ≡ false) × (result.read ≤ length input.now) × Went result.next (state_of kept longs.old c030.old c040.old) input.now (state_of result.kept longs.new c030.new c040.new) result.read }
-{
-    let ran = replay::run::run(c030, c040, longs, kept, input, out);
-    let now = ran.kept;
-    let wrote = ran.wrote;
-    let why = ran.why;
-    let over = Played {
-        kept: now,
-        read: 0,
-        next: Next::Over,
-    };
-    if !shown(rt, out, wrote) {
-        return over;
-    }
-    if !caches_shown(rt, line, c030, c040, states, wrote) {
-        return over;
-    }
-    Played {
-        kept: now,
-        read: ran.read,
-        next: after(rt, why),
-    }
-}
-
-// It is over.
-fn over(kept: Kept) -> Waiting
-    ensures { (result.kept ≡ kept) × (result.on ≡ false) }
-{
-    Waiting {
-        kept,
-        have: 0,
-        on: false,
-    }
-}
-
-// The bytes from `at` on wait at the front of the buffer for more input.
-fn resting(buffer: &mut [u8], kept: Kept, at: usize, have: usize) -> Waiting
-    requires { (at ≤ have) × (have ≤ length buffer.old) }
-    ensures { (result.kept ≡ kept) × (result.on ≡ true) × (result.have ≡ have - at) × (take result.have buffer.new ≡ take result.have (drop at buffer.old)) }
-{
-    let left = shifted(buffer, at, have);
-    Waiting {
-        kept,
-        have: left,
-        on: true,
-    }
-}
-
-// Plays the waiting bytes as far as whole records stand there.
-fn drained<H: Print + Eprint>(
-    rt: &H,
-    c030: &mut Atc030,
-    c040: &mut Atc040,
-    longs: &mut [u32],
-    kept: Kept,
-    buffer: &mut [u8],
-    have: usize,
-    out: &mut [u8],
-    line: &mut [u8],
-    states: bool,
-) -> Waiting
-    requires { (have ≤ length buffer.old) × (any_of crossed (ranges_of kept) ≡ false) }
-    ensures { (any_of crossed (ranges_of result.kept) ≡ false) × Waits result.on (state_of kept longs.old c030.old c040.old) (take have buffer.old) (state_of result.kept longs.new c030.new c040.new) buffer.new result.have }
-{
-    let mut now = kept;
-    let mut at = 0;
-    let mut turns = u64::MAX;
-    while turns > 0 {
-        let s = some(
-            rt,
-            c030,
-            c040,
-            longs,
-            now,
-            &buffer[at..have],
-            out,
-            line,
-            states,
-        );
-        now = s.kept;
-        let read = s.read;
-        let next = s.next;
-        at += read;
-        match next {
-            Next::More => {}
-            Next::Input => {
-                return resting(buffer, now, at, have);
-            }
-            Next::Over => {
-                return over(now);
-            }
-        }
-        turns -= 1;
-    }
-    over(now)
+fn malformed<H: Print + Eprint>(rt: &H) -> Over {
+    let _ = written(rt, b"R 7\n");
+    Over
 }
 
 // Says on standard error that a read failed.
-fn unread<H: Eprint>(rt: &H) {
+fn unread<H: Eprint>(rt: &H) -> Over {
     let _ = rt.eprintln("player: a read failed");
+    Over
 }
 
-// Reads once and plays what came. At the end of the input, or where a read fails, it is over.
-fn turn<H: Print + Eprint, R: Read>(
-    rt: &H,
-    input: &mut R,
-    c030: &mut Atc030,
-    c040: &mut Atc040,
-    longs: &mut [u32],
-    w: Waiting,
-    buffer: &mut [u8],
-    out: &mut [u8],
-    line: &mut [u8],
-    states: bool,
-) -> Waiting
-    requires { any_of crossed (ranges_of w.kept) ≡ false }
-    ensures { (any_of crossed (ranges_of result.kept) ≡ false) × Turned result.on (state_of w.kept longs.old c030.old c040.old) (take w.have buffer.old) (state_of result.kept longs.new c030.new c040.new) buffer.new result.have }
-{
-    let kept = w.kept;
-    let have = w.have;
-    match streams::fill(input, buffer, have) {
-        Got::Failed => {
-            unread(rt);
-            over(kept)
-        }
-        Got::Ended => {
-            finish(rt, have);
-            over(kept)
-        }
-        Got::Waiting(n) => drained(rt, c030, c040, longs, kept, buffer, n, out, line, states),
-    }
+// A program over what it is told of the trace: the state, and the lines of a run.
+#[derive(Drop)]
+struct Driver<W> {
+    watch: W,
+    replay: Replay,
+    out: [u8; 65536],
 }
 
-// The version byte: `v1` follows a good one, and refusal 7 anything else.
-fn begins<H: Print + Eprint, R: Read>(rt: &H, input: &mut R) -> bool {
-    let mut version = [0u8; 1];
-    match streams::fill(input, &mut version, 0) {
-        Got::Failed => {
-            unread(rt);
-            false
-        }
-        Got::Waiting(_) if version[0] == 1 => written(rt, b"v1\n"),
-        _ => {
-            malformed(rt);
-            false
-        }
-    }
-}
-
-// How many bytes a run may write. With `states` one line: a line is written where 44 bytes have room, and has two or more.
-fn room_for(states: bool) -> usize
+// How many bytes a run may write. Where each record is told it is one line: a line is written where 44 bytes have room, and has two or more.
+const fn room<W: Watch>() -> usize
     ensures { result ≤ 65536 }
 {
-    if states {
-        return 45;
-    }
-    65536
+    if W::EACH { 45 } else { 65536 }
 }
 
-// Plays the trace on standard input.
-pub fn play<H: Print + Eprint, R: Read>(rt: &H, input: &mut R, states: bool) {
-    if !begins(rt, input) {
-        return;
+impl<W: Watch> Driver<W> {
+    // One run over waiting bytes, told to the program.
+    fn run<H: Print + Eprint>(&mut self, rt: &H, input: &[u8]) -> Result<Ran, Over>
+        ensures within { IfOk result (λ ran. ran.read ≤ length input.now) }
+        ensures went { IfOk result (λ ran. Went (state_in self.old.replay) input.now (state_in self.new.replay) ran.read) }
+    {
+        let ran = self.replay.run(input, &mut self.out, room::<W>());
+        self.watch.lines(rt, &self.out[..ran.wrote])?;
+        if W::EACH && ran.wrote > 0 {
+            self.watch.record(rt, &self.replay)?;
+        }
+        Ok(ran)
     }
-    let mut c030 = [0u64; 69];
-    let mut c040 = [0u64; 128];
-    let mut longs = [0u32; 8192];
-    let mut buffer = [0u8; 131072];
-    let mut out = [0u8; 65536];
-    let mut line = [0u8; 16384];
-    let room = room_for(states);
-    let mut w = Waiting {
-        kept: replay::first(),
-        have: 0,
-        on: true,
+
+    // Plays the waiting bytes as far as whole records stand there.
+    fn drain<H: Print + Eprint>(&mut self, rt: &H, waiting: &mut Waiting) -> Result<(), Over>
+        ensures { Waits result (state_in self.old.replay) (bytes_in waiting.old) (state_in self.new.replay) (bytes_in waiting.new) }
+    {
+        let mut at = 0;
+        for _ in 0..u64::MAX {
+            let ran = self.run(rt, &waiting.buffer[at..waiting.have])?;
+            at += ran.read;
+            match ran.why {
+                Why::Room => {}
+                Why::Input => {
+                    waiting.skip(at);
+                    return Ok(());
+                }
+                Why::Malformed => return Err(malformed(rt)),
+            }
+        }
+        Err(Over)
+    }
+
+    // Reads once and plays what came. At the end of the input, or where a read fails, it is over.
+    fn turn<H: Print + Eprint, R: Read>(
+        &mut self,
+        rt: &H,
+        input: &mut R,
+        waiting: &mut Waiting,
+    ) -> Result<(), Over>
+        ensures { Turned result (state_in self.old.replay) (bytes_in waiting.old) (state_in self.new.replay) (bytes_in waiting.new) }
+    {
+        let have = waiting.have;
+        match streams::fill(input, &mut waiting.buffer, have) {
+            Err(_) => Err(unread(rt)),
+            Ok(None) if have == 0 => {
+                self.watch.end(rt, &self.replay)?;
+                Err(Over)
+            }
+            Ok(None) => Err(malformed(rt)),
+            Ok(Some(n)) => {
+                waiting.have = n;
+                self.drain(rt, waiting)
+            }
+        }
+    }
+
+    // The version byte: `v1` follows a good one, and refusal 7 anything else.
+    fn begin<H: Print + Eprint, R: Read>(&mut self, rt: &H, input: &mut R) -> Result<(), Over> {
+        let mut version = [0u8; 1];
+        match streams::fill(input, &mut version, 0) {
+            Err(_) => Err(unread(rt)),
+            Ok(Some(_)) if version[0] == 1 => self.watch.lines(rt, b"v1\n"),
+            Ok(_) => Err(malformed(rt)),
+        }
+    }
+
+    // Plays the trace until it is over.
+    fn play<H: Print + Eprint, R: Read>(&mut self, rt: &H, input: &mut R) -> Result<(), Over> {
+        self.begin(rt, input)?;
+        let mut waiting = Waiting::new();
+        for _ in 0..u64::MAX {
+            self.turn(rt, input, &mut waiting)?;
+        }
+        Ok(())
+    }
+}
+
+// Plays the trace on standard input, and tells the program of it.
+pub fn play<H: Print + Eprint, R: Read, W: Watch + Drop>(rt: &H, input: &mut R, watch: W) {
+    let mut driver = Driver {
+        watch,
+        replay: Replay::new(),
+        out: [0; 65536],
     };
-    let mut turns = u64::MAX;
-    while turns > 0 && w.on {
-        w = turn(
-            rt,
-            input,
-            &mut c030,
-            &mut c040,
-            &mut longs,
-            w,
-            &mut buffer,
-            &mut out[..room],
-            &mut line,
-            states,
-        );
-        turns -= 1;
-    }
+    let _ = driver.play(rt, input);
 }

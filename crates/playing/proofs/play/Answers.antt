@@ -1,6 +1,0 @@
-use Rattle.std.proofs.Common.{refl}
-use Rattle.playing.proofs.Driving.{none_kept}
-use Rattle.playing.proofs.play.Goals as goal
-
-pub loop-turns-init : goal.loop-turns-init
-loop-turns-init g c = (refl, none_kept c.first.result c.first.ensures.1)
