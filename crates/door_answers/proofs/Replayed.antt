@@ -18,8 +18,9 @@ use Rattle.replay.specs.Playing.{ranges_of, state_of, CalledIn, PlayedIn, Runs, 
 use Rattle.replay.specs.declared.Kept.{Kept}
 use Rattle.replay.specs.declared.run.Why.{Why}
 use Rattle.replay.specs.declared.run.Why.TheVariants as why
+use Rattle.std.specs.Prelude.{Ok, Err}
 use Rattle.whole.specs.Shown.{Shows}
-use Rattle.whole.specs.declared.Played.TheVariants as played
+use Rattle.whole.specs.declared.NoRoom.{NoRoom}
 use Rattle.door_answers.proofs.Arrays.{same_arrays}
 
 -- ---- a line is settled by the definition's
@@ -191,11 +192,11 @@ run_single {s} {s₁} {s₂} {b} {out} {out₁} {out₂} {read₁} {read₂} {wr
 
 -- ---- a whole trace
 -- the lines at the start of the output are the same, and so many
-pub play_single : (lines out out' : List ℕ) (n n' : ℕ) → Shows lines out (played.Lines n) → Shows lines out' (played.Lines n')
+pub play_single : (lines out out' : List ℕ) (n n' : ℕ) → Shows lines out (Ok n) → Shows lines out' (Ok n')
     → (n ≡ n') × (take n out ≡ take n' out')
 play_single lines out out' n n' a b =
     (omega (arith, length-take-le n out a.0, ap length a.1, length-take-le n' out' b.0, ap length b.1), a.1 ∙ sym b.1)
 
 -- and there are no others where the lines and one line more have room
-pub play_has_room : (lines out : List ℕ) → length lines + 44 ≤ length out → Shows lines out played.NoRoom → ⊥
-play_has_room lines out h s = omega (arith, h, s)
+pub play_has_room : (lines out : List ℕ) (e : NoRoom) → length lines + 44 ≤ length out → Shows lines out (Err e) → ⊥
+play_has_room lines out e h s = omega (arith, h, s)

@@ -3,7 +3,6 @@ use std::fmt;
 use std::rt::Files;
 use stored::files;
 use stored::files::Unheld;
-use whole::Played;
 
 // A replay: its trace, and its lines.
 #[derive(Clone, Copy)]
@@ -61,7 +60,7 @@ pub fn play_named<'a, F: Files>(
 ) -> Result<Side<'a>, Unplayed> {
     let Buffers { trace, text } = buffers;
     let trace = files::read_named(rt, name, after, trace)?;
-    let Played::Lines(n) = whole::play(trace, text) else {
+    let Ok(n) = whole::play(trace, text) else {
         return Err(Unplayed::NoRoom);
     };
     let text = text.get(..n).ok_or(Unplayed::Stopped)?;

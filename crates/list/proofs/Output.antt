@@ -9,7 +9,7 @@ use borrow.Author.Tests.{lt-ltb, le-ltb}
 use lib.Dec.{ltb}
 use lib.ListN.{length, set, take, drop, length-drop, length-set, length-map, take-append-drop}
 use lib.Seq.{length-take-le, take-suc-set, drop-set-lt, append_snoc, drop-length}
-use Rattle.std.specs.Prelude.{if◌then◌else◌}
+use Rattle.std.specs.Prelude.{if◌then◌else◌, Option, Some, None, is_some}
 use Rattle.definition.specs.List.{gather, end_of, ranges_from, room_for}
 use Rattle.definition.specs.declared.Mapped.{Mapped}
 use Rattle.list.specs.Numbers.{number_of, ListedTo}
@@ -22,11 +22,11 @@ unfolding puts
 puts_append [] ys l = refl
 puts_append (x ∷ xs) ys l = puts_append xs ys (put x l)
 
-put_full : (x : Mapped) (l : Written) → l.full ≡ true → put x l ≡ l
+put_full : (x : Mapped) (l : Written) → is_some l.next ≡ true → put x l ≡ l
 unfolding put
 put_full x l h = rw h
 
-puts_full : (xs : List Mapped) (l : Written) → l.full ≡ true → puts xs l ≡ l
+puts_full : (xs : List Mapped) (l : Written) → is_some l.next ≡ true → puts xs l ≡ l
 unfolding puts
 puts_full [] l h = refl
 puts_full (x ∷ xs) l h = rw (put_full x l h) (puts_full xs l h)
@@ -56,7 +56,7 @@ ends f n whole i l g h =
     let e : n - i ≡ 0 = omega arith in
     rw e at g.same
 
-pub stops : (f : ℕ → List Mapped) (n : ℕ) (whole : Written) (i : ℕ) (l : Written) → Going f n whole i l → l.full ≡ true → l ≡ whole
+pub stops : (f : ℕ → List Mapped) (n : ℕ) (whole : Written) (i : ℕ) (l : Written) → Going f n whole i l → is_some l.next ≡ true → l ≡ whole
 stops f n whole i l g h = sym (puts_full _ l h) ∙ g.same
 
 -- ---- from an address on, of lists in a row
@@ -77,20 +77,20 @@ from_gather from f i (suc n) =
     from_append from (f i) (gather f (suc i) n) ∙ ap (λ (l : List Mapped). ranges_from from (f i) ++ l) (from_gather from f (suc i) n)
 
 -- ---- up to the room there is
-puts_fit : (xs : List Mapped) (out : List ℕ) (n next : ℕ) → n + length xs ≤ length out
-    → puts xs (record { out = out; count = n; full = false; next = next })
-    ≡ record { out = take n out ++ (map number_of xs ++ drop (n + length xs) out); count = n + length xs; full = false; next = next }
+puts_fit : (xs : List Mapped) (out : List ℕ) (n : ℕ) → n + length xs ≤ length out
+    → puts xs (record { out = out; count = n; next = None })
+    ≡ record { out = take n out ++ (map number_of xs ++ drop (n + length xs) out); count = n + length xs; next = None }
 unfolding puts put
-puts_fit [] out n next h =
+puts_fit [] out n h =
     let e : n + 0 ≡ n = omega arith in
     rw (e, take-append-drop)
-puts_fit (x ∷ xs) out n next h =
+puts_fit (x ∷ xs) out n h =
     let k : n < length out = omega arith in
     let s = length-set out n (number_of x) in
     let e : n + 1 + length xs ≡ n + suc (length xs) = omega arith in
     rw (
       lt-ltb n (length out) k,
-      puts_fit xs (set out n (number_of x)) (n + 1) next (omega arith),
+      puts_fit xs (set out n (number_of x)) (n + 1) (omega arith),
       e,
       add-one,
       take-suc-set out n (number_of x) k,
@@ -100,23 +100,23 @@ puts_fit (x ∷ xs) out n next h =
 
 -- room for all
 puts_within : (xs : List Mapped) (old : List ℕ) → length xs ≤ length old
-    → puts xs (begun old) ≡ record { out = map number_of xs ++ drop (length xs) old; count = length xs; full = false; next = 0 }
+    → puts xs (begun old) ≡ record { out = map number_of xs ++ drop (length xs) old; count = length xs; next = None }
 puts_within xs old h =
     let e : 0 + length xs ≡ length xs = omega arith in
-    puts_fit xs old 0 0 (omega arith) ∙ rw e
+    puts_fit xs old 0 (omega arith) ∙ rw e
 
 puts_exact : (xs : List Mapped) (old : List ℕ) → length xs ≡ length old
-    → puts xs (begun old) ≡ record { out = map number_of xs; count = length old; full = false; next = 0 }
+    → puts xs (begun old) ≡ record { out = map number_of xs; count = length old; next = None }
 puts_exact xs old h = puts_within xs old (omega arith) ∙ rw (h, drop-length, append-nil)
 
 put_over : (x : Mapped) (xs : List Mapped) (out : List ℕ) (n : ℕ) → length out ≤ n
-    → puts (x ∷ xs) (record { out = out; count = n; full = false; next = 0 }) ≡ record { out = out; count = n; full = true; next = x.first }
+    → puts (x ∷ xs) (record { out = out; count = n; next = None }) ≡ record { out = out; count = n; next = Some x.first }
 unfolding puts put
-put_over x xs out n h = rw (le-ltb n (length out) h) (puts_full xs (record { out = out; count = n; full = true; next = x.first }) refl)
+put_over x xs out n h = rw (le-ltb n (length out) h) (puts_full xs (record { out = out; count = n; next = Some x.first }) refl)
 
 -- more than there is room for: the output is filled, and the next range's address is kept
 puts_over : (xs : List Mapped) (old : List ℕ) (y : Mapped) (ys : List Mapped) → drop (length old) xs ≡ y ∷ ys → length old ≤ length xs
-    → puts xs (begun old) ≡ record { out = map number_of (take (length old) xs); count = length old; full = true; next = y.first }
+    → puts xs (begun old) ≡ record { out = map number_of (take (length old) xs); count = length old; next = Some y.first }
 puts_over xs old y ys e h =
     let m = length old in
     let len : length (take m xs) ≡ m = length-take-le m xs h in
@@ -136,16 +136,15 @@ listed xs old new r e = go (drop (length old) xs) refl
         let n = length-drop (length old) xs in
         let none : length (drop (length old) xs) ≡ 0 = ap length d in
         let w = e ∙ puts_within xs old (omega arith) in
-        let full : r.full ≡ false = ap (λ (l : Written). l.full) w in
+        let next : r.next ≡ None = ap (λ (l : Written). l.next) w in
         let count : r.count ≡ length xs = ap (λ (l : Written). l.count) w in
-        record { answer = rw (full, d, all, count); wrote = ap (λ (l : Written). l.out) w ∙ rw all }
+        record { answer = rw (next, d, all, count); wrote = ap (λ (l : Written). l.out) w ∙ rw all }
     go (y ∷ ys) d =
         let n = length-drop (length old) xs in
         let some : length (drop (length old) xs) ≡ suc (length ys) = ap length d in
         let most : length old ≤ length xs = omega arith in
         let w = e ∙ puts_over xs old y ys d most in
-        let full : r.full ≡ true = ap (λ (l : Written). l.full) w in
         let count : r.count ≡ length old = ap (λ (l : Written). l.count) w in
-        let next : r.next ≡ y.first = ap (λ (l : Written). l.next) w in
+        let next : r.next ≡ Some y.first = ap (λ (l : Written). l.next) w in
         let len = length-take-le (length old) xs most in
-        record { answer = rw (full, d, len, count, next); wrote = ap (λ (l : Written). l.out) w ∙ rw (len, drop-length, append-nil) }
+        record { answer = rw (next, d, len, count); wrote = ap (λ (l : Written). l.out) w ∙ rw (len, drop-length, append-nil) }

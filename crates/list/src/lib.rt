@@ -48,14 +48,12 @@ fn table(
     }
     let n = entries(w);
     let mut so = s;
-    let mut i = 0;
-    while i < n {
-        if so.full {
+    for i in 0..n {
+        if so.next.is_some() {
             return so;
         }
         let e = entry_at(t, w, i);
         so = entry(tables, out, so, ws, level + 1, e, from);
-        i += 1;
     }
     so
 }
@@ -99,8 +97,7 @@ fn tree(
 {
     let s = Progress {
         count: 0,
-        full: false,
-        next: 0,
+        next: None,
     };
     let ws = memory::page030::widths(tc);
     let t = root_table(root);

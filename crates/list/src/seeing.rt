@@ -1,26 +1,26 @@
 // What an entry of a table is, and where the tables and entries of a tree stand.
 ghost use Rattle.std.specs.Prelude.{◌≡◌, ◌+◌, ◌-◌, ◌*◌, ◌^◌, ◌<◌, ◌≤◌, get_or, drop, leb};
 ghost use Rattle.definition.specs.Walk030.{used};
-ghost use Rattle.definition.specs.List.{page_at, lost_at, table_at, seen_of, entry_at, none_left, root_table, code_entry};
-ghost use Rattle.list.specs.Looking.{target_by};
+ghost use Rattle.definition.specs.List.{page_at, lost_at, seen_of, entry_at, none_left, root_table, code_entry};
+ghost use Rattle.list.specs.Looking.{opened, target_by};
 
 use crate::reading::Numbers;
 use definition::{Mapped, Node, Root, Seen};
-use memory::descriptor::{Descriptor, kind_of, read_desc, table_of, target_of};
+use memory::descriptor::{Descriptor, Kind, Lost, read_desc, table_of, target_of};
 use memory::tables::Tables;
 
 // ---- what an entry is
 
 // The entry's stretch, at a page's address field.
-fn page_at(e: Node, field: u32, wp: bool, sup: bool) -> Mapped
-    ensures { result ≡ page_at e field wp sup }
+fn page_at(e: Node, d: Descriptor) -> Mapped
+    ensures { result ≡ page_at e d.field d.wp d.sup }
 {
     Mapped {
         first: e.first,
         consumed: e.consumed,
-        physical: field / 256 * 256,
-        wp: e.wp | wp,
-        sup: e.sup | sup,
+        physical: d.field / 256 * 256,
+        wp: e.wp | d.wp,
+        sup: e.sup | d.sup,
         lost: false,
     }
 }
@@ -40,37 +40,29 @@ fn lost_at(e: Node) -> Mapped
 }
 
 // The table that an entry names.
-fn table_at(e: Node, kind: u32, field: u32, wp: bool, sup: bool) -> Node
-    ensures { result ≡ table_at e kind field wp sup }
+fn table_at(e: Node, d: Descriptor, long: bool) -> Node
+    ensures { result ≡ opened e long d.field d.wp d.sup }
 {
     Node {
-        at: table_of(field),
-        long: kind == 3,
+        at: table_of(d.field),
+        long,
         first: e.first,
         consumed: e.consumed,
-        wp: e.wp | wp,
-        sup: e.sup | sup,
+        wp: e.wp | d.wp,
+        sup: e.sup | d.sup,
     }
 }
 
 // The target of an indirect descriptor must be a page.
-fn at_target(e: Node, d: Descriptor) -> Seen
-    ensures { result ≡ target_by e d }
+fn at_target(e: Node, read: Result<Descriptor, Lost>) -> Seen
+    ensures { result ≡ target_by e read }
 {
-    match d {
-        Descriptor::Lost { at: _, asked: _ } => Seen::One(lost_at(e)),
-        Descriptor::Whole {
-            kind,
-            field,
-            wp,
-            sup,
-            asked: _,
-        } => {
-            if kind == 1 {
-                return Seen::One(page_at(e, field, wp, sup));
-            }
-            Seen::Nothing
-        }
+    match read {
+        Err(_) => Seen::One(lost_at(e)),
+        Ok(d) => match d.kind {
+            Kind::Page => Seen::One(page_at(e, d)),
+            _ => Seen::Nothing,
+        },
     }
 }
 
@@ -78,26 +70,20 @@ fn at_target(e: Node, d: Descriptor) -> Seen
 pub fn look(tables: &Tables<Numbers>, last: bool, e: Node) -> Seen
     ensures { result ≡ seen_of tables.now last e }
 {
-    match read_desc(tables, e.at, e.long) {
-        Descriptor::Lost { at: _, asked: _ } => Seen::One(lost_at(e)),
-        Descriptor::Whole {
-            kind,
-            field,
-            wp,
-            sup,
-            asked: _,
-        } => match kind {
-            0 => Seen::Nothing,
-            1 => Seen::One(page_at(e, field, wp, sup)),
-            2.. => {
-                if last {
-                    let to = target_of(field);
-                    let d = read_desc(tables, to, kind == 3);
-                    return at_target(e, d);
-                }
-                Seen::Opens(table_at(e, kind, field, wp, sup))
+    let d = match read_desc(tables, e.at, e.long) {
+        Ok(d) => d,
+        Err(_) => return Seen::One(lost_at(e)),
+    };
+    match d.kind {
+        Kind::Invalid => Seen::Nothing,
+        Kind::Page => Seen::One(page_at(e, d)),
+        Kind::Table { long } => {
+            if last {
+                let to = target_of(d.field);
+                return at_target(e, read_desc(tables, to, long));
             }
-        },
+            Seen::Opens(table_at(e, d, long))
+        }
     }
 }
 
@@ -107,10 +93,9 @@ pub fn look(tables: &Tables<Numbers>, last: bool, e: Node) -> Seen
 pub fn root_table(root: Root) -> Node
     ensures { result ≡ root_table root }
 {
-    let kind = kind_of(root.limit);
     Node {
         at: table_of(root.address),
-        long: kind == 3,
+        long: root.limit % 4 == 3,
         first: 0,
         consumed: 0,
         wp: false,

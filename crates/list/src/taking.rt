@@ -8,7 +8,6 @@ ghost use Rattle.list.specs.Writing.{refusal as refusal_of};
 
 use crate::reading::Numbers;
 use definition::Registers;
-use memory::descriptor::kind_of;
 use memory::tables::Tables;
 
 // The family is not 30, 40 or 60.
@@ -40,8 +39,7 @@ fn not_taken(g: Registers, code: u32) -> bool
     let known = is_access_code(code);
     let sum = sum_of_levels(g.tc);
     let root = walk030::root_of(g, code);
-    let kind = kind_of(root.limit);
-    (g.family != 30) | !known | ((g.tc >> 16) % 16 != 0) | (sum == 0) | (32 < sum) | (kind < 2)
+    (g.family != 30) | !known | ((g.tc >> 16) % 16 != 0) | (sum == 0) | (32 < sum) | (root.limit % 4 < 2)
 }
 
 // The number of the first that applies, and 0 where none does.

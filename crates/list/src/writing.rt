@@ -5,12 +5,11 @@ ghost use Rattle.list.specs.Writing.{written, put as put_of, answer_of};
 
 use definition::{Listed, Mapped};
 
-// How many are written; whether one found no room, and its first address.
+// How many are written, and the first address of one that found no room.
 #[derive(Clone, Copy)]
 pub struct Progress {
     pub count: usize,
-    pub full: bool,
-    pub next: u32,
+    pub next: Option<u32>,
 }
 
 fn flag(b: bool) -> u64
@@ -45,7 +44,7 @@ fn number(x: Mapped) -> u64
 pub fn put(out: &mut [u64], s: Progress, x: Mapped) -> Progress
     ensures { written out.new result ≡ put_of x (written out.old s) }
 {
-    if s.full {
+    if s.next.is_some() {
         return s;
     }
     let n = s.count;
@@ -53,14 +52,12 @@ pub fn put(out: &mut [u64], s: Progress, x: Mapped) -> Progress
         out[n] = number(x);
         return Progress {
             count: n + 1,
-            full: false,
-            next: s.next,
+            next: None,
         };
     }
     Progress {
         count: n,
-        full: true,
-        next: x.first,
+        next: Some(x.first),
     }
 }
 
@@ -68,12 +65,11 @@ pub fn put(out: &mut [u64], s: Progress, x: Mapped) -> Progress
 pub fn answer(s: Progress) -> Listed
     ensures { result ≡ answer_of s }
 {
-    let full = s.full;
-    if full {
-        return Listed::More {
+    match s.next {
+        Some(next) => Listed::More {
             count: s.count,
-            next: s.next,
-        };
+            next,
+        },
+        None => Listed::All(s.count),
     }
-    Listed::All(s.count)
 }

@@ -1,26 +1,52 @@
 // One 68030 descriptor.
 ghost use Rattle.std.specs.Prelude.{◌≡◌, false, ◌%◌, ◌*◌, ◌/◌};
-ghost use Rattle.definition.specs.Walk030.{entry_of, read_of, short_of};
+ghost use Rattle.definition.specs.Walk030.{entry_of, read_of};
 ghost use Rattle.memory.specs.Descriptors.{described_of, shown_read};
 
 use crate::bits::bit;
 use crate::ranges::Ranges;
 use crate::tables::Tables;
 
-// What reading one 68030 descriptor gives, with the number of longs asked for. Lost: the long at `at` failed.
+// The type of a descriptor or of a root: 0 is invalid, 1 a page, 2 and 3 name a table, of short and of long descriptors.
 #[derive(Clone, Copy)]
-pub enum Descriptor {
-    Whole {
-        kind: u32,
-        field: u32,
-        wp: bool,
-        sup: bool,
-        asked: u32,
-    },
-    Lost {
-        at: u32,
-        asked: u32,
-    },
+pub enum Kind {
+    Invalid,
+    Page,
+    Table { long: bool },
+}
+
+// It is in 1:0 of the first long.
+impl From<u32> for Kind {
+    ghost use Rattle.std.specs.Prelude.{◌≡◌, ◌%◌};
+    ghost use Rattle.memory.specs.Descriptors.{kind_of};
+
+    ghost from_gives = { λ x k. k ≡ kind_of (x % 4) };
+
+    fn from(first: u32) -> Self {
+        match first % 4 {
+            0 => Kind::Invalid,
+            1 => Kind::Page,
+            2 => Kind::Table { long: false },
+            _ => Kind::Table { long: true },
+        }
+    }
+}
+
+// A descriptor, with the number of longs asked for it.
+#[derive(Clone, Copy)]
+pub struct Descriptor {
+    pub kind: Kind,
+    pub field: u32,
+    pub wp: bool,
+    pub sup: bool,
+    pub asked: u32,
+}
+
+// The long of a descriptor that failed, with the number of longs asked for.
+#[derive(Clone, Copy)]
+pub struct Lost {
+    pub at: u32,
+    pub asked: u32,
 }
 
 // Entry i of the table at `table` is 4i or 8i after it, wrapping.
@@ -32,13 +58,6 @@ pub fn entry(table: u32, index: u32, long: bool) -> u32
     } else {
         ((table as u64 + index as u64 * 4) % 4294967296) as u32
     }
-}
-
-// The type of a descriptor or a root is in 1:0.
-pub fn kind_of(x: u32) -> u32
-    ensures { result ≡ x % 4 }
-{
-    x % 4
 }
 
 // The address of a table: field & FFFFFFF0.
@@ -59,10 +78,10 @@ pub fn target_of(field: u32) -> u32
 fn described(first: u32, field: u32, long: bool, asked: u32) -> Descriptor
     ensures { result ≡ described_of first field long asked }
 {
-    let kind = kind_of(first);
+    let kind = Kind::from(first);
     let wp = bit(first, 2);
     let sup = bit(first, 8);
-    Descriptor::Whole {
+    Descriptor {
         kind,
         field,
         wp,
@@ -73,18 +92,18 @@ fn described(first: u32, field: u32, long: bool, asked: u32) -> Descriptor
 
 // The descriptor at `at`: a short one is one long, which is its address field too; a long one is two, and the address field is the last.
 #[tactic(auto, unfolding(definition::specs::Walk030::read_of))]
-pub fn read_desc<R: Ranges>(tables: &Tables<R>, at: u32, long: bool) -> Descriptor
+pub fn read_desc<R: Ranges>(tables: &Tables<R>, at: u32, long: bool) -> Result<Descriptor, Lost>
     ensures { result ≡ shown_read (read_of tables.now at long) }
 {
     let Some(first) = tables.fetch(at) else {
-        return Descriptor::Lost { at, asked: 1 };
+        return Err(Lost { at, asked: 1 });
     };
     if !long {
-        return described(first, first, false, 1);
+        return Ok(described(first, first, false, 1));
     }
     let next = entry(at, 1, false);
-    match tables.fetch(next) {
-        Some(field) => described(first, field, true, 2),
-        None => Descriptor::Lost { at: next, asked: 2 },
-    }
+    let Some(field) = tables.fetch(next) else {
+        return Err(Lost { at: next, asked: 2 });
+    };
+    Ok(described(first, field, true, 2))
 }

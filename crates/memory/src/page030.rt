@@ -24,15 +24,12 @@ pub fn physical(field: u32, consumed: u32, address: u32) -> u32
 pub fn consumed(tc: u32) -> u32
     ensures { result ≡ is_of tc + sum_of (used (widths_of tc)) }
 {
-    let ws = widths(tc);
     let mut sum = (tc >> 16) % 16;
-    let mut k: usize = 0;
-    while k < 4 {
-        if ws[k] == 0 {
+    for w in &widths(tc) {
+        if *w == 0 {
             return sum;
         }
-        sum += ws[k];
-        k += 1;
+        sum += *w;
     }
     sum
 }

@@ -126,11 +126,6 @@ module _ (crossed : Bool) (g : Registers) (m : Memory) {l : Line} where
   unfolding calling calling_given
   of_flush_frame frame k q e = record { prints = e ∙ ap flush_line q.answers; leaves = q.leaves }
 
--- a PTEST: the caches stay
-pub tested : (crossed : Bool) (g : Registers) (m : Memory) (c030 c040 : List ℕ) {code level address : ℕ} {write : Bool} {l : Line} → Tests crossed g m code write level address l
-    → CalledIn (calling_given crossed g m (caches_of c030 c040) (calls.testing code write level address)) l c030 c040
-tested crossed g m c030 c040 t = record { prints = t.prints (caches_of c030 c040); leaves = t.leaves (caches_of c030 c040) }
-
 -- a call that was told apart
 pub by_call : (crossed : Bool) (g : Registers) (m : Memory) (c : Caches) {x y : Made} {l : Line} {c030 c040 : List ℕ} → x ≡ y
     → CalledIn (calling_given crossed g m c (call_in y)) l c030 c040 → CalledIn (calling_given crossed g m c (call_in x)) l c030 c040

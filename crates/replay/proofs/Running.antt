@@ -1,135 +1,98 @@
 -- A run: what stands at a place of the buffer, one record more, and why it stops. Assumes nothing.
 use Prim.Native.Nat.{ℕ, suc, ◌+◌, ◌-◌, ◌*◌, ◌≤◌, ◌<◌}
-use mathlib.Core.Path.{◌≡◌, refl, ap, sym, subst, ◌∙◌}
+use mathlib.Core.Path.{◌≡◌, refl, ap, sym, ◌∙◌}
 use mathlib.Core.List.{List, [], ◌∷◌, ◌++◌, append_assoc}
-use mathlib.Core.Bool.{false}
+use mathlib.Core.Bool.{true, false}
 use mathlib.Core.Logic.{◌⊎◌, inl, inr}
 use native.Mathlib.Omega.{arith}
-use native.Mathlib.Numerals.{add-one, add-two}
-use native.Mathlib.Nat.{not-suc-le-zero, le_of_suc-le-suc}
 use borrow.Author.Tests.{le-leb, lt-leb}
-use lib.Dec.{leb}
 use lib.ListN.{length, get_or, take, drop, length-drop}
-use lib.Seq.{drop-cons, drop-drop}
-use Rattle.std.specs.Prelude.{if◌then◌else◌}
-use Rattle.definition.specs.Trace.{State, Body, Short, Ended, front_of, Record, Calls, Malformed, record_of, is_malformed, step_of, text, play_from}
+use lib.Seq.{drop-drop, take_all}
+use Rattle.std.specs.Prelude.{Result, Ok}
+use Rattle.definition.specs.Trace.{State, Short, Ended, front_of, Record, Calls, record_of, is_malformed, step_of, text, play_from}
 use Rattle.definition.proofs.Files.{plays_on}
 use Rattle.trace.specs.Lines.{line_in, Wrote}
-use Rattle.trace.specs.Records.{call_in, setting_in, record_in}
+use Rattle.trace.specs.Records.{call_in, record_in}
 use Rattle.trace.specs.declared.Line.{Line}
 use Rattle.trace.specs.declared.Call.{Call}
-use Rattle.trace.specs.declared.Setting.{Setting}
-use Rattle.trace.specs.declared.Setting.TheVariants as setting
+use Rattle.trace.specs.declared.Malformed.{Malformed as Bad}
 use Rattle.trace.specs.declared.Record.{Record as Said}
 use Rattle.trace.proofs.Writes.{nothing, then, same_length, next_near}
 use Rattle.replay.specs.declared.Kept.{Kept}
-use Rattle.replay.specs.declared.run.Whole.{Whole}
 use Rattle.replay.specs.declared.run.Why.{Why}
-use Rattle.replay.specs.Playing.{state_of, PlayedIn, Runs, none, more, Stands, Fronts, Going, RanIn}
+use Rattle.replay.specs.Playing.{state_of, PlayedIn, Runs, none, more, Stands, Going, RanIn}
 
--- ---- what stands at a place
-few : (l : List ℕ) → length l < 2 → (front_of l ≡ Short) ⊎ (front_of l ≡ Ended)
+-- ---- what stands first
+pub front_few : (l : List ℕ) → length l < 2 → (front_of l ≡ Short) ⊎ (front_of l ≡ Ended)
 unfolding front_of
-few [] h = inr refl
-few (x ∷ []) h = inl refl
-few (x ∷ y ∷ l) h = absurd (not-suc-le-zero (le_of_suc-le-suc (le_of_suc-le-suc h)))
+front_few [] h = inr refl
+front_few (x ∷ []) h = inl refl
+front_few (x ∷ y ∷ l) h = absurd (omega arith)
 
-two : (b : List ℕ) (at : ℕ) → at + 2 ≤ length b → drop at b ≡ get_or b at 0 ∷ get_or b (at + 1) 0 ∷ drop (at + 2) b
-two b at h =
-    let one : at < length b = omega arith in
-    let next : suc at < length b = omega arith in
-    rw (drop-cons b at 0 one, drop-cons b (suc at) 0 next, add-one, add-two)
+module _ (n : ℕ) where
+  pub front_cut : (l : List ℕ) → 2 ≤ length l → n ≡ get_or l 0 0 * 256 + get_or l 1 0 → length (drop 2 l) < n → front_of l ≡ Short
+  unfolding front_of
+  front_cut [] size is h = absurd (omega arith)
+  front_cut (x ∷ []) size is h = absurd (omega arith)
+  front_cut (high ∷ low ∷ rest) size is h = rw (← is, lt-leb n (length rest) h) refl
 
--- the front of two bytes and more
-front_of_lem : (high low : ℕ) (rest : List ℕ) → front_of (high ∷ low ∷ rest) ≡ (if leb (high * 256 + low) (length rest) then Body (take (high * 256 + low) rest) (drop (high * 256 + low) rest) else Short)
-unfolding front_of
-front_of_lem high low rest = refl
+  pub front_whole : (l : List ℕ) → 2 ≤ length l → n ≡ get_or l 0 0 * 256 + get_or l 1 0 → n ≤ length (drop 2 l)
+      → Stands l (take n (drop 2 l)) (drop n (drop 2 l))
+  unfolding front_of
+  front_whole [] size is h = absurd (omega arith)
+  front_whole (x ∷ []) size is h = absurd (omega arith)
+  front_whole (high ∷ low ∷ rest) size is h =
+      let e : length (high ∷ low ∷ rest) - length (drop n rest) ≡ suc (suc n) = omega (arith, length-drop n rest) in
+      record {
+        front = rw (← is, le-leb n (length rest) h) refl;
+        rest = rw e refl;
+        shorter = omega (arith, length-drop n rest);
+      }
 
-module _ (b : List ℕ) (at : ℕ) where
-  pub front_few : length b - at < 2 → Fronts b at Whole.Nothing
-  unfolding Fronts
-  front_few h = few (drop at b) (omega (arith, length-drop at b))
+-- the slice behind the first two bytes
+pub tail : (l : List ℕ) → take (length l - 2) (drop 2 l) ≡ drop 2 l
+tail l = take_all (length l - 2) (drop 2 l) (omega (arith, length-drop 2 l))
 
-  module _ (size : 2 ≤ length b - at) (n : ℕ) (is : n ≡ get_or b at 0 * 256 + get_or b (at + 1) 0) where
-    pub front_cut : length b - at - 2 < n → Fronts b at Whole.Nothing
-    unfolding Fronts
-    front_cut h =
-        inl
-        (ap front_of (two b at (omega arith)) ∙ front_of_lem (get_or b at 0) (get_or b (at + 1) 0) (drop (at + 2) b)
-        ∙ rw (← is, lt-leb n (length (drop (at + 2) b)) (omega (arith, length-drop (at + 2) b))) refl)
-
-    pub front_whole : n ≤ length b - at - 2 → Fronts b at (Whole.Body (at + 2) (at + 2 + n))
-    unfolding Fronts
-    front_whole h =
-        let e : at + 2 + n - (at + 2) ≡ n = omega arith in
-        record {
-          front =
-              ap front_of (two b at (omega arith)) ∙ front_of_lem (get_or b at 0) (get_or b (at + 1) 0) (drop (at + 2) b)
-              ∙ rw (← is, le-leb n (length (drop (at + 2) b)) (omega (arith, length-drop (at + 2) b)), e, drop-drop) refl;
-          after = omega arith;
-          ends = omega arith;
-          within = omega arith;
-        }
-
--- ---- what stands at a place, once it is told apart
-module _ (b : List ℕ) (at : ℕ) {x : Whole} where
-  pub nothing_at : x ≡ Whole.Nothing → Fronts b at x → Fronts b at Whole.Nothing
-  nothing_at e f = subst (Fronts b at) e f
-
-  pub whole_at : {start end : ℕ} → x ≡ Whole.Body start end → Fronts b at x → Stands b at start end
-  unfolding Fronts
-  whole_at e f = subst (Fronts b at) e f
+-- so it does behind the first `read` bytes
+pub behind : (b : List ℕ) {body after : List ℕ} (read : ℕ) → read ≤ length b → Stands (drop read b) body after
+    → after ≡ drop (length b - length after) b
+behind b {body} {after} read h f =
+    let e : read + (length (drop read b) - length after) ≡ length b - length after = omega (arith, f.shorter, length-drop read b) in
+    f.rest ∙ rw (drop-drop, e) refl
 
 -- ---- a record, once it is told apart
-module _ {x : Said} {r : Record} (e : record_in x ≡ r) where
-  pub said_call : {c : Call} → x ≡ Said.Call c → Calls (call_in c) ≡ r
-  said_call t = sym (ap record_in t) ∙ e
-
-  pub said_setting : {c : Setting} → x ≡ Said.Set c → setting_in c ≡ r
-  said_setting t = sym (ap record_in t) ∙ e
-
-  pub said_malformed : x ≡ Said.Malformed → Malformed ≡ r
-  said_malformed t = sym (ap record_in t) ∙ e
-
-pub setting_is_good : (x : Setting) → is_malformed (setting_in x) ≡ false
-setting_is_good (setting.Registers g) = refl
-setting_is_good (setting.Long address value) = refl
-setting_is_good (setting.Range range) = refl
+pub said_call : {x : Result Said Bad} {r : Record} {c : Call} → record_in x ≡ r → x ≡ Ok (Said.Call c) → Calls (call_in c) ≡ r
+said_call e t = sym (ap record_in t) ∙ e
 
 -- ---- a run goes on
 pub begins : (s : State) (b out : List ℕ) → Going s b out s 0 out 0
 begins s b out = record { printed = []; most = 0; runs = none; writes = nothing out 0; reads = omega arith; fits = omega arith }
 
 module _ (s : State) (b out : List ℕ) (s' : State) {read wrote : ℕ} {out' : List ℕ} (g : Going s b out s' read out' wrote) where
-  -- one record more
-  pub goes_on : (said : Record) {start end next : ℕ} {l : Line} {k : Kept} {longs c030 c040 out'' : List ℕ}
-      → Stands b read start end → said ≡ record_of (take (end - start) (drop start b)) → is_malformed said ≡ false
-      → PlayedIn (step_of s' said) l k longs c030 c040 → wrote + 44 ≤ length out' → Wrote 44 out' wrote (text (line_in l)) out'' next
-      → Going s b out (state_of k longs c030 c040) end out'' next
-  goes_on said {start} {end} {next} {l} f e m p room w =
-      record {
-        printed = g.printed ++ text (line_in l);
-        most = g.most + 44;
-        runs =
-            rw (p.leaves, p.prints, e)
-            (more (take (end - start) (drop start b)) (drop end b) g.runs f.front (sym (ap is_malformed e) ∙ m));
-        writes = (then) g.writes w;
-        reads = f.within;
-        fits = omega (arith, next_near w, same_length g.writes, g.fits);
-      }
+  module _ {body after : List ℕ} (f : Stands (drop read b) body after) where
+    -- one record more
+    pub goes_on : {next : ℕ} {l : Line} {k : Kept} {longs c030 c040 out'' : List ℕ} → is_malformed (record_of body) ≡ false
+        → PlayedIn (step_of s' (record_of body)) l k longs c030 c040 → wrote + 44 ≤ length out' → Wrote 44 out' wrote (text (line_in l)) out'' next
+        → Going s b out (state_of k longs c030 c040) (length b - length after) out'' next
+    goes_on {next} {l} m p room w =
+        record {
+          printed = g.printed ++ text (line_in l);
+          most = g.most + 44;
+          runs = rw (p.leaves, p.prints, ← behind b read g.reads f) (more body after g.runs f.front m);
+          writes = (then) g.writes w;
+          reads = omega arith;
+          fits = omega (arith, next_near w, same_length g.writes, g.fits);
+        }
+
+    pub stops_malformed : is_malformed (record_of body) ≡ true → RanIn s b out s' read out' wrote Why.Malformed
+    stops_malformed m = record { going = g; stops = record { body = body; after = after; is = f.front; bad = m } }
 
   -- ---- why it stops
   pub stops_room : length out - wrote < 44 → RanIn s b out s' read out' wrote Why.Room
   stops_room h = record { going = g; stops = omega (arith, g.fits) }
 
-  pub stops_input : Fronts b read Whole.Nothing → RanIn s b out s' read out' wrote Why.Input
-  unfolding Fronts
-  stops_input f = record { going = g; stops = f }
-
-  pub stops_malformed : {start end : ℕ} → Stands b read start end → Malformed ≡ record_of (take (end - start) (drop start b))
-      → RanIn s b out s' read out' wrote Why.Malformed
-  stops_malformed {start} {end} f e =
-      record { going = g; stops = record { body = take (end - start) (drop start b); after = drop end b; is = f.front; bad = sym (ap is_malformed e) } }
+  pub stops_input : (front_of (drop read b) ≡ Short) ⊎ (front_of (drop read b) ≡ Ended) → RanIn s b out s' read out' wrote Why.Input
+  stops_input e = record { going = g; stops = e }
 
 -- ---- runs are the definition's: what is left plays on from where they stopped
 pub runs_play : (s : State) (b : List ℕ) {t r : List ℕ} {s' : State} → Runs s b t s' r → play_from s b ≡ t ++ play_from s' r

@@ -1,14 +1,10 @@
 -- What each record's parts give together: the definition's step. Assumes nothing.
-use Prim.Native.Nat.{ℕ, ◌+◌, ◌*◌, ◌/◌, ◌%◌, ◌≤◌, ◌<◌}
+use Prim.Native.Nat.{ℕ, ◌≤◌, ◌<◌}
 use mathlib.Core.Path.{◌≡◌, refl, ap, sym, ◌∙◌}
 use mathlib.Core.List.{List, [], ◌∷◌, ◌++◌}
 use mathlib.Core.Bool.{Bool, true, false, ◌||◌}
-use native.Mathlib.Omega.{arith}
-use native.Mathlib.Numerals.{add-one}
-use borrow.Author.Tests.{eq-eqb, ne_eqb, lt-ltb, le-ltb, le-leb, lt-leb}
-use lib.Dec.{ltb}
-use lib.ListN.{length, take, set, length-take}
-use lib.Seq.{length-take-le, take-suc-set}
+use borrow.Author.Tests.{lt-ltb, le-ltb, le-leb, lt-leb}
+use lib.ListN.{length}
 use Rattle.definition.specs.Words.{any_of}
 use Rattle.definition.specs.Refusal.{no_family, bad_store, crossed, refusal_of}
 use Rattle.definition.specs.Calls.{Call, calling}
@@ -31,21 +27,6 @@ module _ (k : Kept) (g : Registers) {x : Bool} (is : x ≡ no_family g.family) {
       → PlayedIn (step_of (state_of k longs c030 c040) (Loads g)) Line.K (record { registers = g; ranges = k.ranges }) longs c030 c040
   unfolding step_of refusal_of
   set_some e = rw (sym is ∙ e) (record { prints = refl; leaves = refl })
-
--- ---- a store
-module _ (longs : List ℕ) (address value : ℕ) where
-  pub store_odd : (address % 4 ≡ 0 → ⊥) → StoredIn longs address value (Line.R 2) longs
-  store_odd h = record { prints = rw (ne_eqb (address % 4) 0 h); leaves = rw (ne_eqb (address % 4) 0 h) }
-
-  pub store_outside : address % 4 ≡ 0 → length longs ≤ address / 4 → StoredIn longs address value (Line.R 2) longs
-  store_outside e h =
-      let b : ltb address (4 * length longs) ≡ false = le-ltb address (4 * length longs) (omega arith) in
-      record { prints = rw (eq-eqb (address % 4) 0 e, b); leaves = rw (eq-eqb (address % 4) 0 e, b) }
-
-  pub store_in : address % 4 ≡ 0 → address / 4 < length longs → StoredIn longs address value Line.K (set longs (address / 4) value)
-  store_in e h =
-      let b : ltb address (4 * length longs) ≡ true = lt-ltb address (4 * length longs) (omega arith) in
-      record { prints = rw (eq-eqb (address % 4) 0 e, b); leaves = rw (eq-eqb (address % 4) 0 e, b) }
 
 -- a store is refused or done, as the definition's record is
 pub stored : (k : Kept) (address value : ℕ) (longs : List ℕ) {l : Line} {longs' c030 c040 : List ℕ} → StoredIn longs address value l longs'

@@ -1,5 +1,5 @@
 -- What the replay keeps is the definition's state; what one record and a run over a buffer promise.
-use Rattle.std.specs.Prelude.{ℕ, ◌+◌, ◌-◌, ◌/◌, ◌≤◌, ◌<◌, ◌≡◌, Bool, true, false, List, [], ◌++◌, ◌⊎◌, length, take, drop, set}
+use Rattle.std.specs.Prelude.{ℕ, ◌+◌, ◌-◌, ◌/◌, ◌≤◌, ◌<◌, ◌≡◌, Bool, true, false, List, [], ◌++◌, ◌⊎◌, length, drop, set}
 use Rattle.std.specs.Prelude.{if◌then◌else◌}
 use Rattle.definition.specs.Memory.{Memory}
 use Rattle.definition.specs.Refusal.{bad_store}
@@ -16,8 +16,6 @@ use Rattle.translate.specs.Stages.{translate_given}
 use Rattle.load.specs.Loaded.{load_given}
 use Rattle.test.specs.Tested.{test_given}
 use Rattle.replay.specs.declared.Kept.{Kept}
-use Rattle.replay.specs.declared.run.Whole.{Whole}
-use Rattle.replay.specs.declared.run.Whole.TheVariants as whole
 use Rattle.replay.specs.declared.run.Why.{Why}
 use Rattle.replay.specs.declared.run.Why.TheVariants as why
 
@@ -66,17 +64,11 @@ pub data Runs (s : State) (b : List ℕ) : List ℕ → State → List ℕ → T
   more : {t r : List ℕ} {s' : State} (body rest : List ℕ) → Runs s b t s' r → front_of r ≡ Body body rest → is_malformed (record_of body) ≡ false
       → Runs s b (t ++ text (step_of s' (record_of body)).line) (step_of s' (record_of body)).state rest
 
--- a whole record stands at `at`: its body lies from start to end
-pub record Stands (b : List ℕ) (at start end : ℕ) : Type 0 where
-  pub front : front_of (drop at b) ≡ Body (take (end - start) (drop start b)) (drop end b)
-  pub after : at + 2 ≤ start
-  pub ends : start ≤ end
-  pub within : end ≤ length b
-
--- what stands at `at`: a whole record, or none
-unfoldable pub Fronts : List ℕ → ℕ → Whole → Type 0
-Fronts b at (whole.Body start end) = Stands b at start end
-Fronts b at whole.Nothing = (front_of (drop at b) ≡ Short) ⊎ (front_of (drop at b) ≡ Ended)
+-- a whole record stands first: its body, and the bytes behind it, of which there are fewer
+pub record Stands (b body after : List ℕ) : Type 0 where
+  pub front : front_of b ≡ Body body after
+  pub rest : after ≡ drop (length b - length after) b
+  pub shorter : length after < length b
 
 -- the next record is malformed
 pub record Bad (rest : List ℕ) : Type 0 where

@@ -1,21 +1,15 @@
 // A run over a buffer: the records that stand in it whole, one after the other.
-ghost use Rattle.std.specs.Prelude.{◌≡◌, ◌≤◌, length};
+ghost use Rattle.std.specs.Prelude.{◌≡◌, ◌⊎◌, true, false, length, IfSome, IfNone, IfOk, OnOk, OnErr};
 ghost use Rattle.definition.specs.Words.{any_of};
 ghost use Rattle.definition.specs.Refusal.{crossed};
-ghost use Rattle.replay.specs.Playing.{ranges_of, state_of, Fronts, RanIn};
+ghost use Rattle.definition.specs.Trace.{Short, Ended, front_of, record_of, is_malformed, step_of};
+ghost use Rattle.replay.specs.Playing.{ranges_of, state_of, PlayedIn, Stands, RanIn};
 
 use crate::{Kept, calls, settings};
 use cache::atc030::Atc030;
 use cache::atc040::Atc040;
-use memory::ranges::any_crossed;
-use trace::{Record, Seen};
-
-// A whole record at a place of the buffer: where its body starts and ends.
-#[derive(Clone, Copy)]
-pub enum Whole {
-    Body { start: usize, end: usize },
-    Nothing,
-}
+use memory::ranges;
+use trace::{Line, Malformed, Record};
 
 // Why a run stopped: no whole record is left, the next one is malformed, or there is no room for a line.
 #[derive(Clone, Copy)]
@@ -34,23 +28,44 @@ pub struct Ran {
     pub why: Why,
 }
 
-// Each record is a 2-byte length and its body.
-fn front(input: &[u8], at: usize) -> Whole
-    requires { at ≤ length input.now }
-    ensures { Fronts input.now at result }
+// Each record is a 2-byte length and its body: the body of the first one, and what is behind it. None where no whole record stands there.
+fn front(bytes: &[u8]) -> Option<(&[u8], &[u8])>
+    ensures whole { IfSome result (λ r. Stands bytes.now r.0.now r.1.now) }
+    ensures none { IfNone result ((front_of bytes.now ≡ Short) ⊎ (front_of bytes.now ≡ Ended)) }
 {
-    let left = input.len() - at;
-    if left < 2 {
-        return Whole::Nothing;
+    let [high, low, rest @ ..] = bytes else {
+        return None;
+    };
+    let length = u16::from_be_bytes([*high, *low]);
+    let n = length as usize;
+    if rest.len() < n {
+        return None;
     }
-    let n = (input[at] as usize) * 256 + (input[at + 1] as usize);
-    if left - 2 < n {
-        return Whole::Nothing;
+    Some(rest.split_at(n))
+}
+
+// What one record does, and its line. `any_crossed` says whether a range that is kept is crossed: no record changes that.
+fn played(
+    c030: &mut Atc030,
+    c040: &mut Atc040,
+    longs: &mut [u32],
+    kept: &mut Kept,
+    any_crossed: bool,
+    body: &[u8],
+) -> Result<Line, Malformed>
+    requires { any_crossed ≡ any_of crossed (ranges_of kept.old) }
+    ensures ok { IfOk result (λ line. PlayedIn (step_of (state_of kept.old longs.old c030.old c040.old) (record_of body.now)) line kept.new longs.new c030.new c040.new) }
+    ensures good { OnOk result (is_malformed (record_of body.now) ≡ false) }
+    ensures bad { OnErr result (is_malformed (record_of body.now) ≡ true) }
+    ensures stays { OnErr result (state_of kept.new longs.new c030.new c040.new ≡ state_of kept.old longs.old c030.old c040.old) }
+    ensures none_crossed { any_of crossed (ranges_of kept.new) ≡ any_of crossed (ranges_of kept.old) }
+{
+    if let Some(a) = trace::look(body) {
+        return Ok(calls::access_line(c030, c040, longs, kept, any_crossed, a));
     }
-    let start = at + 2;
-    Whole::Body {
-        start,
-        end: start + n,
+    match trace::decode(body)? {
+        Record::Set(setting) => Ok(settings::set(longs, kept, setting)),
+        Record::Call(call) => Ok(calls::make(c030, c040, longs, kept, any_crossed, call)),
     }
 }
 
@@ -66,57 +81,27 @@ pub fn run(
 ) -> Ran
     ensures { (RanIn (state_of kept longs.old c030.old c040.old) input.now out.old (state_of result.kept longs.new c030.new c040.new) result.read out.new result.wrote result.why) × (any_of crossed (ranges_of result.kept) ≡ any_of crossed (ranges_of kept)) }
 {
-    let crossed = any_crossed(kept.ranges.as_slice());
+    let any_crossed = ranges::any_crossed(kept.ranges.as_slice());
     let mut now = kept;
-    let mut read: usize = 0;
+    let mut rest = input;
     let mut wrote: usize = 0;
-    loop {
+    let why = loop {
         if out.len() - wrote < 44 {
-            return Ran {
-                kept: now,
-                read,
-                wrote,
-                why: Why::Room,
-            };
+            break Why::Room;
         }
-        match front(input, read) {
-            Whole::Nothing => {
-                return Ran {
-                    kept: now,
-                    read,
-                    wrote,
-                    why: Why::Input,
-                };
-            }
-            Whole::Body { start, end } => {
-                match trace::look(&input[start..end]) {
-                    Seen::Access(a) => {
-                        let line = calls::access_line(c030, c040, longs, &now, crossed, a);
-                        wrote = trace::put_line(out, wrote, line);
-                    }
-                    Seen::Other => {
-                        match trace::decode(&input[start..end]) {
-                            Record::Malformed => {
-                                return Ran {
-                                    kept: now,
-                                    read,
-                                    wrote,
-                                    why: Why::Malformed,
-                                };
-                            }
-                            Record::Set(setting) => {
-                                let line = settings::set(longs, &mut now, setting);
-                                wrote = trace::put_line(out, wrote, line);
-                            }
-                            Record::Call(call) => {
-                                let line = calls::make(c030, c040, longs, &now, crossed, call);
-                                wrote = trace::put_line(out, wrote, line);
-                            }
-                        }
-                    }
-                }
-                read = end;
-            }
-        }
+        let Some((body, after)) = front(rest) else {
+            break Why::Input;
+        };
+        let Ok(line) = played(c030, c040, longs, &mut now, any_crossed, body) else {
+            break Why::Malformed;
+        };
+        wrote = trace::put_line(out, wrote, line);
+        rest = after;
+    };
+    Ran {
+        kept: now,
+        read: input.len() - rest.len(),
+        wrote,
+        why,
     }
 }

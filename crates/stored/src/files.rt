@@ -29,6 +29,7 @@ fn read_to_end<R: Read>(file: &mut R, buffer: &mut [u8]) -> Result<usize, Unheld
     ensures { IfOk result (λ n. n ≤ length buffer.new) }
 {
     let mut have = 0;
+    // No index counts up here: each read says how far it came.
     while have < buffer.len() {
         match file.read(&mut buffer[have..]) {
             Ok(0) => {

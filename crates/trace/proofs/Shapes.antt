@@ -1,65 +1,43 @@
--- What a record's kind says of it: the body after its kind, the kinds that share a shape, and the unknown kinds. Assumes nothing.
+-- What a record's kind says of it: the body after its kind, and the unknown kinds. Assumes nothing.
 use Prim.Native.Nat.{ℕ, suc, ◌-◌, ◌≤◌, ◌<◌}
 use mathlib.Core.Path.{◌≡◌, refl}
 use mathlib.Core.List.{List, [], ◌∷◌}
-use mathlib.Core.Bool.{Bool, true, false}
 use native.Mathlib.Omega.{arith}
-use lib.Dec.{eqb}
 use lib.ListN.{length, get_or, take, drop}
 use lib.Seq.{take-length}
-use borrow.Author.Tests.{ne_eqb, eqb-true, eqb-false}
-use Rattle.std.specs.Prelude.{if◌then◌else◌}
-use Rattle.definition.specs.Trace.{Record, Stores, Adds, Malformed, be, shaped, by_trace_kind, record_of}
+use borrow.Author.Tests.{ne_eqb}
+use Rattle.definition.specs.Trace.{Record, Malformed, by_trace_kind, record_of}
 
 -- the bytes after the first
 abbrev pub rest : List ℕ → List ℕ
 rest body = take (length body - 1) (drop 1 body)
 
-pub no_kind : (body : List ℕ) → length body ≡ 0 → Malformed ≡ record_of body
+pub no_kind : (body : List ℕ) → length body < 1 → Malformed ≡ record_of body
 unfolding record_of
 no_kind [] h = refl
 no_kind (kind ∷ b) h = absurd (omega arith)
 
-pub by_kind : {r : Record} {kind : ℕ} (body : List ℕ) → (length body ≡ 0 → ⊥) → kind ≡ get_or body 0 0
-    → r ≡ by_trace_kind kind (rest body) → r ≡ record_of body
+pub by_kind : {r : Record} (body : List ℕ) → 1 ≤ length body → r ≡ by_trace_kind (get_or body 0 0) (rest body) → r ≡ record_of body
 unfolding record_of
-by_kind [] some e h = absurd (some refl)
-by_kind {kind = kind} (k ∷ b) some e h =
+by_kind [] some h = absurd (omega arith)
+by_kind (k ∷ b) some h =
     let n : suc (length b) - 1 ≡ length b = omega arith in
-    rw (e, n, take-length b) at h
+    rw (n, take-length b) at h
 
--- 09 and 0A differ in what their two longs are
-abbrev pub two_longs : ℕ → List ℕ → Record
-two_longs kind b =
-    shaped b 8 true
-    (if eqb kind 9 then Stores (be b 0) (be b 4) else Adds (record { first = be b 0; last = be b 4 }))
-
-pub two_longs_lem : (kind : ℕ) (b : List ℕ) → 9 ≤ kind → kind ≤ 10 → by_trace_kind kind b ≡ two_longs kind b
-two_longs_lem kind b low high = go (eqb kind 9) refl
-  where
-    go : (t : Bool) → eqb kind 9 ≡ t → by_trace_kind kind b ≡ two_longs kind b
-    go true e = rw (eqb-true kind 9 e)
-    go false e =
-        let ten : kind ≡ 10 = omega (arith, eqb-false kind 9 e) in
-        rw ten
-
--- 'unknown kind'
-pub unknown : {kind : ℕ} (body : List ℕ) → (length body ≡ 0 → ⊥) → kind ≡ get_or body 0 0 → 11 < kind → Malformed ≡ record_of body
-unknown {kind} body some e h =
-    by_kind body some e
-    (rw (
-      other 1 (omega arith),
-      other 2 (omega arith),
-      other 3 (omega arith),
-      other 4 (omega arith),
-      other 5 (omega arith),
-      other 6 (omega arith),
-      other 7 (omega arith),
-      other 8 (omega arith),
-      other 9 (omega arith),
-      other 10 (omega arith),
-      other 11 (omega arith),
-    ))
-  where
-    other : (n : ℕ) → n ≤ 11 → eqb kind n ≡ false
-    other n small = ne_eqb kind n (λ e. omega arith)
+-- 'unknown kind': each that is known is another
+pub unknown : (kind : ℕ) (b : List ℕ) → (kind ≡ 1 → ⊥) → (kind ≡ 2 → ⊥) → (kind ≡ 3 → ⊥) → (kind ≡ 4 → ⊥) → (kind ≡ 5 → ⊥) → (kind ≡ 6 → ⊥)
+    → (kind ≡ 7 → ⊥) → (kind ≡ 8 → ⊥) → (kind ≡ 9 → ⊥) → (kind ≡ 10 → ⊥) → (kind ≡ 11 → ⊥) → Malformed ≡ by_trace_kind kind b
+unknown kind b h1 h2 h3 h4 h5 h6 h7 h8 h9 h10 h11 =
+    rw (
+      ne_eqb kind 1 h1,
+      ne_eqb kind 2 h2,
+      ne_eqb kind 3 h3,
+      ne_eqb kind 4 h4,
+      ne_eqb kind 5 h5,
+      ne_eqb kind 6 h6,
+      ne_eqb kind 7 h7,
+      ne_eqb kind 8 h8,
+      ne_eqb kind 9 h9,
+      ne_eqb kind 10 h10,
+      ne_eqb kind 11 h11,
+    )

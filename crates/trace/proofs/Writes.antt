@@ -1,17 +1,23 @@
 -- Writing: two writes in a row are one write of the joined bytes, and what a write leaves in front of its end. Assumes nothing.
-use Prim.Native.Nat.{ℕ, suc, ◌+◌, ◌≤◌}
-use mathlib.Core.Path.{◌≡◌, refl, ap, ◌∙◌}
-use mathlib.Core.Bool.{Bool, true, false}
-use mathlib.Core.List.{List, [], ◌∷◌, ◌++◌}
+use Prim.Native.Nat.{ℕ, suc, ◌+◌, ◌-◌, ◌≤◌}
+use mathlib.Core.Path.{◌≡◌, refl, ap, sym, ◌∙◌}
+use mathlib.Core.List.{List, [], ◌∷◌, ◌++◌, append_assoc}
 use native.Mathlib.Nat.{add-zero, add-suc, suc-add}
 use native.Mathlib.Omega.{arith}
 use lib.ListN.{length, take, drop, length-append}
-use lib.Seq.{sets, sets-eq, length-sets, length-take-le, take_at}
-use Rattle.trace.specs.Lines.{Wrote, RoomFor, Put}
+use lib.Seq.{sets, sets-eq, length-sets, length-take-le, take_at, drop-drop}
+use Rattle.trace.specs.Lines.{Wrote}
 
 sets_append : (a b l : List ℕ) (at : ℕ) → sets (sets l at a) (at + length a) b ≡ sets l at (a ++ b)
 sets_append [] b l at = rw add-zero
 sets_append (x ∷ a) b l at = rw (add-suc, ← suc-add at (length a)) (sets_append a b _ (suc at))
+
+-- bytes that are put there at once
+pub put_there : (at : ℕ) (old bytes new : List ℕ) → at + length bytes ≤ length old → new ≡ bytes
+    → Wrote (length bytes) old at bytes (take at old ++ (new ++ drop (at + length bytes - at) (drop at old))) (at + length bytes)
+put_there at old bytes new room e =
+    let n : at + length bytes - at ≡ length bytes = omega arith in
+    record { stores = rw (e, n, drop-drop) (sym (sets-eq bytes old at room ∙ append_assoc (take at old) bytes _)); ends = refl; short = omega arith }
 
 -- before the first write
 pub nothing : (old : List ℕ) (at : ℕ) → Wrote 0 old at [] old at
@@ -30,14 +36,6 @@ then {at = at} {old = old} {a = a} {b = b} v w =
 -- a write of at most m bytes is one of at most n
 pub loosely : {m at next : ℕ} {old new bytes : List ℕ} (n : ℕ) → m ≤ n → Wrote m old at bytes new next → Wrote n old at bytes new next
 loosely n h w = record { stores = w.stores; ends = w.ends; short = omega (arith, w.short) }
-
--- a write that looks for room first
-pub has_room : {most at next : ℕ} {old new bytes : List ℕ} {r : Bool} → RoomFor (length old) at most r → r ≡ true → Wrote most old at bytes new next
-    → Put most old at bytes new next
-has_room f e w = record { room = λ _. w; none = λ k. absurd (omega (arith, f.room e, k)) }
-
-pub no_room : {most at : ℕ} {old bytes : List ℕ} {r : Bool} → RoomFor (length old) at most r → r ≡ false → Put most old at bytes old at
-no_room f e = record { room = λ k. absurd (omega (arith, f.full e, k)); none = λ _. (refl, refl) }
 
 -- what a caller takes from a write that had room
 module _ {most at next : ℕ} {old new bytes : List ℕ} (w : Wrote most old at bytes new next) where

@@ -9,6 +9,7 @@ fn read_full<R: Read>(input: &mut R, buf: &mut [u8]) -> usize
     ensures { result ≤ length buf.new }
 {
     let mut done = 0;
+    // No index counts up here: each read says how far it came.
     while done < buf.len() {
         match input.read(&mut buf[done..]) {
             Ok(0) | Err(_) => {

@@ -11,7 +11,8 @@ use borrow.Author.Tests.{eqb-true, eqb-false, ne_eqb, le-leb, lt-leb, lt-ltb}
 use lib.Dec.{eqb, ltb}
 use lib.ListN.{length, get_or, drop, length-append, length-drop, drop_of_length-le}
 use lib.Seq.{drop-cons}
-use Rattle.std.specs.Prelude.{if◌then◌else◌, Option, Some, None}
+use Rattle.std.specs.Prelude.{if◌then◌else◌, Option, Some, None, Result, Ok, Err}
+use Rattle.std.proofs.lemmas.Option.{none-some}
 use Rattle.definition.specs.Words.{bit_of}
 use Rattle.definition.specs.Memory.{Memory, fetch_of}
 use Rattle.definition.specs.Walk030.{entry_of, Descriptor, Whole, Lost, short_of, long_of, on_second, read_of, is_of, used, widths_of, top_index, Step, steps, steps_with, Found, Outcome, ended, asking, deeper, guarded, by_kind, on_target, on_table, on_descriptor, walk_from, start, walk_steps, outcome_of, walk030}
@@ -19,17 +20,19 @@ use Rattle.definition.specs.Registers.{root_of}
 use Rattle.definition.specs.declared.Registers.{Registers}
 use Rattle.definition.specs.declared.Root.{Root}
 use Rattle.definition.proofs.Asked030.{asked_for}
-use Rattle.memory.specs.Descriptors.{shown_read}
+use Rattle.memory.specs.Descriptors.{kind_of, shown_read}
 use Rattle.memory.specs.declared.descriptor.Descriptor.{Descriptor as Read}
-use Rattle.memory.specs.declared.descriptor.Descriptor.TheVariants as given
+use Rattle.memory.specs.declared.descriptor.Lost.{Lost as Gone}
+use Rattle.memory.specs.declared.descriptor.Kind.{Kind}
+use Rattle.memory.specs.declared.descriptor.Kind.TheVariants as given
 use Rattle.definition.specs.declared.End.{End}
 use Rattle.definition.specs.declared.End.TheVariants.{Page, Invalid, LevelStop, BusError, Config}
 use Rattle.walk030.specs.Walked.{shown}
-use Rattle.walk030.specs.Machine.{no_walk, misconfigured_of, begin_of, at_limit, aimed_of, next_k, aim_of, adds_of, asked_of, levels_of, held_of, seen_of, to_target, to_table, onward_of, answered}
+use Rattle.walk030.specs.Machine.{no_walk, misconfigured_of, begun_of, begin_of, at_limit, aimed_of, next_k, aim_of, adds_of, asked_of, levels_of, held_of, seen_of, to_target, to_table, onward_of, answered}
 use Rattle.walk030.specs.declared.Walked.{Walked}
 use Rattle.walk030.specs.declared.machine.Walking030.{Walking030}
 use Rattle.memory.proofs.Tests.{clash}
-use Rattle.memory.proofs.Shown.{lost_is, whole_is}
+use Rattle.memory.proofs.Shown.{type_of, lost_is, whole_is, kind_is, page_is, invalid_is, table_is}
 use Rattle.memory.proofs.Widths.{used_at, width_small, widths_few}
 use Rattle.walk030.proofs.Aiming as aim
 
@@ -55,6 +58,17 @@ read_few m at false = short_few at (fetch_of m at)
 counted : (d : Descriptor) → asked_of (shown_read d) ≡ length (asked_for d)
 counted (Whole kind field wp sup x) = refl
 counted (Lost at x) = refl
+
+-- where a walk begins
+begin_is : (tc : ℕ) (root : Root) (n : ℕ)
+    → begin_of tc root n ≡ (if no_walk (root.limit % 4) n (bit_of tc 24) then None else Some (begun_of tc root (eqb (root.limit % 4) 3)))
+begin_is tc root n = go (eqb (root.limit % 4) 1) refl (ltb (root.limit % 4) 2) refl
+  where
+    go : (a : Bool) → eqb (root.limit % 4) 1 ≡ a → (b : Bool) → ltb (root.limit % 4) 2 ≡ b
+        → begin_of tc root n ≡ (if no_walk (root.limit % 4) n (bit_of tc 24) then None else Some (begun_of tc root (eqb (root.limit % 4) 3)))
+    go true e b f = let h = eqb-true (root.limit % 4) 1 e in let l : ltb (root.limit % 4) 2 ≡ true = lt-ltb (root.limit % 4) 2 (omega arith) in rw (e, l)
+    go false e true f = rw (e, f)
+    go false e false f = rw (e, f)
 
 steps_length : (address consumed : ℕ) (ws : List ℕ) → length (steps address consumed ws) ≡ length ws
 steps_length address consumed [] = refl
@@ -228,7 +242,7 @@ module _ (m : Memory) (tc : ℕ) (root : Root) (address code limit : ℕ) where
   decided s asked kind field =
       if eqb kind 1
       then ended (Page field s.consumed) (found s asked)
-      else if by_kind kind true false s.target then ended (Invalid s.target) (found s asked) else rest (onward_of (length us) s kind field) asked
+      else if by_kind kind true false s.target then ended (Invalid s.target) (found s asked) else rest (onward_of (length us) s (eqb kind 3) field) asked
 
   lost : (s : Walking030) (asked : List ℕ) (at : ℕ) (x : List ℕ)
       → onward s asked (Lost at x) ≡ ended (BusError at) (found (seen_of (length us) s (shown_read (Lost at x))) (asked ++ x))
@@ -270,7 +284,7 @@ module _ (m : Memory) (tc : ℕ) (root : Root) (address code limit : ℕ) where
       abbrev table_next : Outcome
       table_next = on_table m s.consumed kind field wp sup after (later s) (λ t l f. walk_from m limit (later s) t l f)
 
-      to_target_lem : s.k ≡ length us → table_next ≡ rest (to_target (held s.wp s.sup (s.levels + 1)) kind field) grown
+      to_target_lem : s.k ≡ length us → table_next ≡ rest (to_target (held s.wp s.sup (s.levels + 1)) (eqb kind 3) field) grown
       to_target_lem e =
           rw (drop_of_length-le us {i = s.k} (omega arith)) (target_last s.consumed (field / 4 * 4) (field / 4 * 4) after (read_of m (field / 4 * 4) (eqb kind 3)))
 
@@ -286,11 +300,11 @@ module _ (m : Memory) (tc : ℕ) (root : Root) (address code limit : ℕ) where
           go (step ∷ ss) h = refl
 
       -- with its WP and S, or without
-      adding : adds_of (length us) s kind ≡ true → with_it ≡ held (s.wp || wp) (s.sup || sup) (s.levels + 1)
+      adding : adds_of (length us) s (kind_of kind) ≡ true → with_it ≡ held (s.wp || wp) (s.sup || sup) (s.levels + 1)
       unfolding seen_of
       adding e = rw (e, t)
 
-      keeping : adds_of (length us) s kind ≡ false → with_it ≡ held s.wp s.sup (s.levels + 1)
+      keeping : adds_of (length us) s (kind_of kind) ≡ false → with_it ≡ held s.wp s.sup (s.levels + 1)
       unfolding seen_of
       keeping e = rw (e, t, or-false s.wp, or-false s.sup)
 
@@ -305,8 +319,8 @@ module _ (m : Memory) (tc : ℕ) (root : Root) (address code limit : ℕ) where
           go false hb false hc false he = rw (adding (rw (t, hb, hc, he)), t, hb, hc, he, (a.plain t).0) (to_table_lem (eqb-false s.k (length us) he))
 
       -- the walk goes on
-      goes_on : length x ≤ 2 → whole ≡ rest (onward_of (length us) with_it kind field) grown
-          → Stands (onward_of (length us) with_it kind field) grown × (rank (onward_of (length us) with_it kind field) < r)
+      goes_on : length x ≤ 2 → whole ≡ rest (onward_of (length us) with_it (eqb kind 3) field) grown
+          → Stands (onward_of (length us) with_it (eqb kind 3) field) grown × (rank (onward_of (length us) with_it (eqb kind 3) field) < r)
       unfolding seen_of
       goes_on few e = go (eqb s.k (length us)) refl e
         where
@@ -316,9 +330,9 @@ module _ (m : Memory) (tc : ℕ) (root : Root) (address code limit : ℕ) where
           deep : levels_of s ≡ s.levels + 1
           deep = rw t
 
-          go : (b : Bool) → eqb s.k (length us) ≡ b → whole ≡ rest (if b then to_target with_it kind field else to_table with_it kind field) grown
-              → Stands (if b then to_target with_it kind field else to_table with_it kind field) grown
-              × (rank (if b then to_target with_it kind field else to_table with_it kind field) < r)
+          go : (b : Bool) → eqb s.k (length us) ≡ b → whole ≡ rest (if b then to_target with_it (eqb kind 3) field else to_table with_it (eqb kind 3) field) grown
+              → Stands (if b then to_target with_it (eqb kind 3) field else to_table with_it (eqb kind 3) field) grown
+              × (rank (if b then to_target with_it (eqb kind 3) field else to_table with_it (eqb kind 3) field) < r)
           go true h same = (
             record {
               same = same;
@@ -332,7 +346,7 @@ module _ (m : Memory) (tc : ℕ) (root : Root) (address code limit : ℕ) where
             omega (arith, (a.plain t).1),
           )
           go false h same =
-              let left : rank (to_table with_it kind field) ≡ suc (length (later s)) = rw (t, (a.plain t).0) in (
+              let left : rank (to_table with_it (eqb kind 3) field) ≡ suc (length (later s)) = rw (t, (a.plain t).0) in (
                 record {
                   same = same;
                   count = count;
@@ -352,15 +366,15 @@ module _ (m : Memory) (tc : ℕ) (root : Root) (address code limit : ℕ) where
         go true t = decides_target t
         go false t = decides_level t
 
-  seen_asked : (n : ℕ) (s : Walking030) (d : Read) → (seen_of n s d).asked ≡ s.asked + asked_of d
+  seen_asked : (n : ℕ) (s : Walking030) (d : Result Read Gone) → (seen_of n s d).asked ≡ s.asked + asked_of d
   unfolding seen_of
-  seen_asked n s (given.Whole kind field wp sup x) = refl
-  seen_asked n s (given.Lost at x) = refl
+  seen_asked n s (Ok d) = refl
+  seen_asked n s (Err lost) = refl
 
-  seen_target : (n : ℕ) (s : Walking030) (d : Read) → (seen_of n s d).target ≡ s.target
+  seen_target : (n : ℕ) (s : Walking030) (d : Result Read Gone) → (seen_of n s d).target ≡ s.target
   unfolding seen_of
-  seen_target n s (given.Whole kind field wp sup x) = refl
-  seen_target n s (given.Lost at x) = refl
+  seen_target n s (Ok d) = refl
+  seen_target n s (Err lost) = refl
 
   -- ---- where it begins
   config : (ss : List Step) (b : Bool)
@@ -391,7 +405,7 @@ module _ (m : Memory) (tc : ℕ) (root : Root) (address code limit : ℕ) where
   few_levels true consumed = omega (arith, steps_length address consumed us, widths_few tc)
   few_levels false consumed = omega (arith, steps_length address consumed us, widths_few tc)
 
-  begun : no_walk (root.limit % 4) (length us) (bit_of tc 24) ≡ false → Stands (begin_of tc root) []
+  begun : no_walk (root.limit % 4) (length us) (bit_of tc 24) ≡ false → Stands (begun_of tc root (eqb (root.limit % 4) 3)) []
   begun h =
       let few = few_levels (bit_of tc 24) (is_of tc) in
       record {
@@ -413,18 +427,17 @@ module _ (m : Memory) (tc : ℕ) (root : Root) (address code limit : ℕ) where
     n_is = en ∙ ap (λ (l : List ℕ). length (used l)) ew
 
     -- ---- before the loop
-    module _ {b : Bool} (eb : b ≡ no_walk (root.limit % 4) n (bit_of tc 24)) where
-      no_walk_lem : b ≡ no_walk (root.limit % 4) (length us) (bit_of tc 24)
-      no_walk_lem = eb ∙ ap (λ (n : ℕ). no_walk (root.limit % 4) n (bit_of tc 24)) n_is
+    module _ {o : Option Walking030} (eo : o ≡ begin_of tc root n) where
+      begin_lem : o ≡ (if no_walk (root.limit % 4) (length us) (bit_of tc 24) then None else Some (begun_of tc root (eqb (root.limit % 4) 3)))
+      begin_lem = eo ∙ ap (begin_of tc root) n_is ∙ begin_is tc root (length us)
 
-      -- the way out at a configuration fault
-      pub ends_config : b ≡ true → {w : Walked} → w ≡ misconfigured_of root → w ≡ shown whole
-      ends_config h e =
-          let c : whole ≡ ended Config (start root.address) = begins (bit_of tc 24) (is_of tc) us ∙ rw (sym no_walk_lem ∙ h) in
-          e ∙ rw c
-
-      pub begin : b ≡ false → {s : Walking030} → s ≡ begin_of tc root → Standing s
-      begin h es = record { asked = []; stands = subst (λ (s : Walking030). Stands s []) (sym es) (begun (sym no_walk_lem ∙ h)) }
+      pub begin : {s : Walking030} → o ≡ Some s → Standing s
+      begin {s} h = go (no_walk (root.limit % 4) (length us) (bit_of tc 24)) refl (sym begin_lem ∙ h)
+        where
+          go : (b : Bool) → no_walk (root.limit % 4) (length us) (bit_of tc 24) ≡ b
+              → (if b then None else Some (begun_of tc root (eqb (root.limit % 4) 3))) ≡ Some s → Standing s
+          go true w e = absurd (none-some s e)
+          go false w e = record { asked = []; stands = let same : begun_of tc root (eqb (root.limit % 4) 3) ≡ s = cc in subst (λ (s : Walking030). Stands s []) same (begun w) }
 
     -- ---- a turn
     module _ {s : Walking030} (t : Standing s) where
@@ -437,7 +450,7 @@ module _ (m : Memory) (tc : ℕ) (root : Root) (address code limit : ℕ) where
         pub ends_stop : b ≡ true → {w : Walked} → w ≡ answered s LevelStop → w ≡ shown whole
         ends_stop h ew = ended_so s t.asked LevelStop (stops s t.asked t.stands (sym eb ∙ h)) t.stands.count refl ew
 
-        module _ (h : b ≡ false) {r : Walking030} (e : r ≡ aim_of ws address code s) {w : ℕ} (eat : w ≡ r.last) {l : Bool} (el : l ≡ r.long) {d : Read} (ed : d ≡ shown_read (read_of m w l)) where
+        module _ (h : b ≡ false) {r : Walking030} (e : r ≡ aim_of ws address code s) {d : Result Read Gone} (read : d ≡ shown_read (read_of m r.last r.long)) where
           aims : Aims (rank s) r t.asked
           aims =
               subst (λ (x : Walking030). Aims (rank s) x t.asked) (sym (e ∙ rw ew))
@@ -446,9 +459,6 @@ module _ (m : Memory) (tc : ℕ) (root : Root) (address code limit : ℕ) where
           -- the descriptor that was read, and the longs asked for it
           abbrev it : Descriptor
           it = read_of m r.last r.long
-
-          read : d ≡ shown_read it
-          read = ed ∙ rw (eat, el)
 
           counts_it : asked_of d ≡ length (asked_for it)
           counts_it = ap asked_of read ∙ counted it
@@ -473,58 +483,70 @@ module _ (m : Memory) (tc : ℕ) (root : Root) (address code limit : ℕ) where
                 omega (arith, length-append t.asked (asked_for it), counts_it, aims.count, ap (λ (s : Walking030). s.asked) seen_is, seen_asked (length us) r d)
 
             -- the way out at a bus error
-            pub ends_lost : {at asks : ℕ} → d ≡ given.Lost at asks → {a : Walked} → a ≡ answered q (BusError at) → a ≡ shown whole
-            ends_lost {at} {asks} el ea =
+            pub ends_lost : {l : Gone} → d ≡ Err l → {a : Walked} → a ≡ answered q (BusError l.at) → a ≡ shown whole
+            ends_lost {l} el ea =
                 let is_lost = lost_is it (sym read ∙ el) in
-                ended_so q now (BusError at)
-                (aims.same ∙ ap (onward r t.asked) is_lost ∙ lost r t.asked at (asked_for it)
-                ∙ ap (λ (s : Walking030). ended (BusError at) (found s now)) (sym (seen_is ∙ ap (seen_of (length us) r) (read ∙ ap shown_read is_lost))))
+                ended_so q now (BusError l.at)
+                (aims.same ∙ ap (onward r t.asked) is_lost ∙ lost r t.asked l.at (asked_for it)
+                ∙ ap (λ (s : Walking030). ended (BusError l.at) (found s now)) (sym (seen_is ∙ ap (seen_of (length us) r) (read ∙ ap shown_read is_lost))))
                 counts refl ea
 
-            module _ {kind field asks : ℕ} {wp sup : Bool} (is_whole : d ≡ given.Whole kind field wp sup asks) {p : Bool} (ep : p ≡ eqb kind 1) where
-              it_is : it ≡ Whole kind field wp sup (asked_for it)
+            module _ {x : Read} (is_whole : d ≡ Ok x) where
+              -- its type's number
+              abbrev kind : ℕ
+              kind = type_of it
+
+              it_is : it ≡ Whole kind x.field x.wp x.sup (asked_for it)
               it_is = whole_is it (sym read ∙ is_whole)
 
-              holds : q ≡ seen_of (length us) r (shown_read (Whole kind field wp sup (asked_for it)))
+              type_is : {k : Kind} → x.kind ≡ k → kind_of kind ≡ k
+              type_is h = sym (kind_is it (sym read ∙ is_whole)) ∙ h
+
+              holds : q ≡ seen_of (length us) r (shown_read (Whole kind x.field x.wp x.sup (asked_for it)))
               holds = seen_is ∙ ap (seen_of (length us) r) (read ∙ ap shown_read it_is)
 
-              settles : whole ≡ decided q now kind field
+              settles : whole ≡ decided q now kind x.field
               settles =
-                  aims.same ∙ ap (onward r t.asked) it_is ∙ decides (rank s) r t.asked aims kind field (asked_for it) wp sup
-                  ∙ ap (λ (s : Walking030). decided s now kind field) (sym holds)
+                  aims.same ∙ ap (onward r t.asked) it_is ∙ decides (rank s) r t.asked aims kind x.field (asked_for it) x.wp x.sup
+                  ∙ ap (λ (s : Walking030). decided s now kind x.field) (sym holds)
 
               -- the way out at a page
-              pub ends_page : p ≡ true → {c : ℕ} → c ≡ q.consumed → {a : Walked} → a ≡ answered q (Page field c) → a ≡ shown whole
-              ends_page hp ec ea = ended_so q now (Page field q.consumed) (settles ∙ rw (sym ep ∙ hp)) counts (rw ec) ea
+              pub ends_page : x.kind ≡ given.Page → {a : Walked} → a ≡ answered q (Page x.field q.consumed) → a ≡ shown whole
+              ends_page h ea = ended_so q now (Page x.field q.consumed) (settles ∙ rw (page_is kind (type_is h))) counts refl ea
 
-              module _ (hp : p ≡ false) {i : Bool} (ei : i ≡ by_kind kind true false q.target) where
-                -- the way out at an invalid descriptor
-                pub ends_invalid : i ≡ true → {c : Bool} → c ≡ q.target → {a : Walked} → a ≡ answered q (Invalid c) → a ≡ shown whole
-                ends_invalid hi ec ea =
-                    ended_so q now (Invalid q.target) (settles ∙ rw (sym ei ∙ hi, sym ep ∙ hp)) counts (rw ec) ea
+              -- the ways out at an invalid descriptor, and at a target that is no page
+              pub ends_invalid : x.kind ≡ given.Invalid → {a : Walked} → a ≡ answered q (Invalid q.target) → a ≡ shown whole
+              ends_invalid h ea =
+                  let k = invalid_is kind (type_is h) in
+                  ended_so q now (Invalid q.target) (settles ∙ rw (k.0, k.1)) counts refl ea
+
+              module _ {long : Bool} (is_table : x.kind ≡ given.Table long) where
+                names : (eqb kind 1 ≡ false) × ((ltb kind 2 ≡ false) × (eqb kind 3 ≡ long))
+                names = table_is kind (type_is is_table)
+
+                pub ends_target : q.target ≡ true → {a : Walked} → a ≡ answered q (Invalid q.target) → a ≡ shown whole
+                ends_target t ea = ended_so q now (Invalid q.target) (settles ∙ rw (names.0, names.1.0, t)) counts refl ea
 
                 -- the walk goes on
-                module _ (hi : i ≡ false) {r₂ : Walking030} (e₂ : r₂ ≡ onward_of n q kind field) where
+                module _ (nt : q.target ≡ false) {r₂ : Walking030} (e₂ : r₂ ≡ onward_of n q long x.field) where
                   no_target : r.target ≡ false
-                  no_target = sym (seen_target (length us) r d) ∙ ap (λ (s : Walking030). s.target) (sym seen_is) ∙ go (eqb kind 1) (sym ep ∙ hp) (ltb kind 2) q.target (sym ei ∙ hi)
-                    where
-                      go : (a : Bool) → a ≡ false → (b c : Bool) → (if a then false else if b then true else c) ≡ false → c ≡ false
-                      go true f b c h = absurd (clash f)
-                      go false f true c h = absurd (clash h)
-                      go false f false c h = h
+                  no_target = sym (seen_target (length us) r d) ∙ ap (λ (s : Walking030). s.target) (sym seen_is) ∙ nt
 
-                  onward_is : r₂ ≡ onward_of (length us) (seen_of (length us) r (shown_read (Whole kind field wp sup (asked_for it)))) kind field
-                  onward_is = e₂ ∙ ap (λ (n : ℕ). onward_of n q kind field) n_is ∙ ap (λ (s : Walking030). onward_of (length us) s kind field) holds
+                  plain : r₂ ≡ onward_of (length us) q (eqb kind 3) x.field
+                  plain = e₂ ∙ ap (λ (n : ℕ). onward_of n q long x.field) n_is ∙ ap (λ (b : Bool). onward_of (length us) q b x.field) (sym names.1.1)
+
+                  onward_is : r₂ ≡ onward_of (length us) (seen_of (length us) r (shown_read (Whole kind x.field x.wp x.sup (asked_for it)))) (eqb kind 3) x.field
+                  onward_is = plain ∙ ap (λ (s : Walking030). onward_of (length us) s (eqb kind 3) x.field) holds
 
                   goes : whole ≡ rest r₂ now
                   goes =
-                      settles ∙ rw (sym ei ∙ hi, sym ep ∙ hp)
-                      (ap (λ (s : Walking030). rest s now) (sym (e₂ ∙ ap (λ (n : ℕ). onward_of n q kind field) n_is)))
+                      let i : by_kind kind true false q.target ≡ false = rw (names.0, names.1.0) nt in
+                      settles ∙ rw (i, names.0) (ap (λ (s : Walking030). rest s now) (sym plain))
 
                   turned : Stands r₂ now × (rank r₂ < rank s)
                   turned =
                       subst (λ (x : Walking030). Stands x now × (rank x < rank s)) (sym onward_is)
-                      (goes_on (rank s) r t.asked aims kind field (asked_for it) wp sup no_target few (goes ∙ ap (λ (s : Walking030). rest s now) onward_is))
+                      (goes_on (rank s) r t.asked aims kind x.field (asked_for it) x.wp x.sup no_target few (goes ∙ ap (λ (s : Walking030). rest s now) onward_is))
 
                   pub next : Standing r₂
                   next = record { asked = now; stands = turned.0 }

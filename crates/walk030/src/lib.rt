@@ -6,11 +6,13 @@ mod machine;
 ghost use Rattle.std.specs.Prelude.{◌≡◌};
 ghost use Rattle.definition.specs.Registers.{root_of};
 ghost use Rattle.definition.specs.Walk030.{outcome_of, walk030};
+ghost use Rattle.walk030.specs.Machine.{misconfigured_of};
 ghost use Rattle.walk030.specs.Walked.{shown};
 
 use definition::{End, Range, Registers, Root};
+use machine::{Walking030, level_count};
 use memory::bits::bit;
-use memory::descriptor::{Descriptor, read_desc};
+use memory::descriptor::{Kind, read_desc};
 use memory::page030::widths;
 use memory::tables::Tables;
 
@@ -42,6 +44,20 @@ pub fn root_of(g: Registers, code: u32) -> Root
 // As many levels as there can be: the function code's and four widths.
 pub const EVERY_LEVEL: u32 = 5;
 
+// A configuration fault has the root's address for the last descriptor's.
+fn misconfigured(root: Root) -> Walked
+    ensures { result ≡ misconfigured_of root }
+{
+    Walked {
+        end: End::Config,
+        wp: false,
+        sup: false,
+        levels: 0,
+        last: root.address,
+        asked: 0,
+    }
+}
+
 // The walk from a root ends at the first descriptor that decides. It is handed TC and its root, and no more of the registers: a call that walks
 // on some ways alone then makes no copy of them on the others.
 pub fn walk_030(
@@ -55,42 +71,38 @@ pub fn walk_030(
     ensures { result ≡ shown (outcome_of tables.now tc root address code limit) }
 {
     let ws = widths(tc);
-    let n = machine::level_count(ws);
-    if machine::no_walk(tc, root, n) {
-        return machine::misconfigured(root);
-    }
-    let mut s = machine::begin(tc, root);
+    let n = level_count(ws);
+    let Some(mut s) = Walking030::begin(tc, root, n) else {
+        return misconfigured(root);
+    };
     let end = loop {
-        if machine::is_at_limit(s, limit) {
+        if s.is_at_limit(limit) {
             break End::LevelStop;
         }
-        s = machine::aim(s, ws, address, code);
-        let at = machine::wanted(s);
-        let long = machine::wants_long(s);
-        let d = read_desc(tables, at, long);
-        s = machine::seen(s, n, d);
-        match d {
-            Descriptor::Lost { at, asked: _ } => break End::BusError { at },
-            Descriptor::Whole {
-                kind,
-                field,
-                wp: _,
-                sup: _,
-                asked: _,
-            } => {
-                if machine::is_page(kind) {
-                    let consumed = machine::consumed_of(s);
-                    break End::Page { field, consumed };
+        s = s.aim(ws, address, code);
+        let read = read_desc(tables, s.last, s.long);
+        s = s.seen(n, read);
+        let d = match read {
+            Ok(d) => d,
+            Err(lost) => break End::BusError { at: lost.at },
+        };
+        match d.kind {
+            Kind::Page => {
+                break End::Page {
+                    field: d.field,
+                    consumed: s.consumed,
+                };
+            }
+            Kind::Invalid => break End::Invalid { indirect: s.target },
+            Kind::Table { long } => {
+                if s.target {
+                    break End::Invalid { indirect: s.target };
                 }
-                if machine::is_invalid(s, kind) {
-                    let indirect = machine::is_target(s);
-                    break End::Invalid { indirect };
-                }
-                s = machine::onward(s, n, kind, field);
+                s = s.onward(n, long, d.field);
             }
         }
     };
-    machine::answer(s, end)
+    s.answer(end)
 }
 
 // The walk in a code's space under these registers, of at most `limit` levels.

@@ -1,9 +1,8 @@
 // A row's parts: 12 numbers, the last of them n; n pairs, the address and value of a long; m; m pairs, a range's first and last;
 // then the answers.
-ghost use Rattle.std.specs.Prelude.{◌≤◌, length};
-
 use crate::answers;
 use definition::{Range, Registers, Root};
+use memory::kept::RangeList;
 use memory::tables::Tables;
 use walk030::Walked;
 use walk040::Walked040;
@@ -15,10 +14,9 @@ pub struct Row<'a> {
     longs: &'a [u32],
     ranges: &'a [u32],
     pub answers: &'a [u32],
-    ghost few: { length ranges.now ≤ 32 },
 }
 
-// What a walk is given: the longs from the base on, and of the list as many ranges.
+// What a walk is given.
 #[derive(Drop)]
 pub struct Case {
     pub registers: Registers,
@@ -27,9 +25,7 @@ pub struct Case {
     pub write: bool,
     base: u32,
     longs: [u32; 8192],
-    list: [Range; 16],
-    ranges: usize,
-    ghost room: { ranges ≤ 16 },
+    ranges: RangeList,
 }
 
 impl Case {
@@ -38,7 +34,7 @@ impl Case {
         Tables {
             longs: &self.longs,
             base: self.base,
-            ranges: &self.list[..self.ranges],
+            ranges: self.ranges.as_slice(),
         }
     }
 
@@ -71,7 +67,7 @@ impl<'a> Row<'a> {
         let (longs, rest) = rest.split_at_checked(2 * head[11] as usize)?;
         let (n, rest) = rest.split_first()?;
         let (ranges, answers) = rest.split_at_checked(2 * *n as usize)?;
-        if 16 < *n || 102 < 13 + longs.len() + ranges.len() {
+        if 102 < 13 + longs.len() + ranges.len() {
             return None;
         }
         Some(Row {
@@ -95,20 +91,20 @@ impl<'a> Row<'a> {
         Some(longs)
     }
 
-    // The row's ranges, at the start.
-    fn list(self) -> [Range; 16] {
-        let none = Range { first: 0, last: 0 };
-        let mut list = [none; 16];
-        for (range, pair) in list.iter_mut().zip(self.ranges.chunks_exact(2)) {
-            *range = Range {
+    // The row's ranges. None: there are more than sixteen.
+    fn kept(self) -> Option<RangeList> {
+        let mut kept = RangeList::new();
+        for pair in self.ranges.chunks_exact(2) {
+            let range = Range {
                 first: pair[0],
                 last: pair[1],
             };
+            kept.push(range).ok()?;
         }
-        list
+        Some(kept)
     }
 
-    // The case, if its longs have room: the PMMU is on, and no transparent register is enabled.
+    // The case, if its longs and its ranges have room: the PMMU is on, and no transparent register is enabled.
     pub fn case(self) -> Option<Case> {
         let head = self.head;
         if head[10] != 8192 {
@@ -140,8 +136,7 @@ impl<'a> Row<'a> {
             write: head[8] == 1,
             base: head[9],
             longs: self.stored()?,
-            list: self.list(),
-            ranges: self.ranges.len() / 2,
+            ranges: self.kept()?,
         })
     }
 }

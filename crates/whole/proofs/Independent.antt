@@ -14,8 +14,8 @@ use Rattle.definition.proofs.Turns.{watches_of, Same, Allowed, Kept, ChangesFlus
 use Rattle.definition.proofs.Epochs.{walks_in}
 use Rattle.definition.proofs.Marked.{Marked, record_in, moments_of, turns_from, Under, watched_lines}
 use Rattle.definition.proofs.Files.{lines_of, file_prints, files_independent, files_epochs, files_change}
+use Rattle.std.specs.Prelude.{Ok}
 use Rattle.whole.specs.Shown.{Shows}
-use Rattle.whole.specs.declared.Played.TheVariants as played
 
 -- the first n bytes of the output are `v1`, the lines of the file's records, and `end` where none of them is malformed
 pub record Prints (b out : List ℕ) (n : ℕ) : Type 0 where
@@ -29,11 +29,11 @@ pub record PrintAlike (walks : List Translation) (b b' : List ℕ) (l l' : List 
   pub walked : watched_lines l (lines_of b) ≡ map (translation_line 0) walks
 
 -- what `play` promises of a file with version byte 1
-shown_prints : (b out : List ℕ) (n : ℕ) → Shows (play (1 ∷ b)) out (played.Lines n) → Prints b out n
+shown_prints : (b out : List ℕ) (n : ℕ) → Shows (play (1 ∷ b)) out (Ok n) → Prints b out n
 shown_prints b out n s = record { is = s.1 ∙ file_prints b }
 
 by_lines : (walks : List Translation) (b b' : List ℕ) (l l' : List Marked) (out out' : List ℕ) (n n' : ℕ)
-    → Shows (play (1 ∷ b)) out (played.Lines n) → Shows (play (1 ∷ b')) out' (played.Lines n')
+    → Shows (play (1 ∷ b)) out (Ok n) → Shows (play (1 ∷ b')) out' (Ok n')
     → (watched_lines l (lines_of b) ≡ watched_lines l' (lines_of b')) × (watched_lines l (lines_of b) ≡ map (translation_line 0) walks)
     → PrintAlike walks b b' l l' out out' n n'
 by_lines walks b b' l l' out out' n n' p p' d =
@@ -41,7 +41,7 @@ by_lines walks b b' l l' out out' n n' p p' d =
 
 -- the demand
 pub plays_independent : (g : Registers) (b b' : List ℕ) (l l' : List Marked) (out out' : List ℕ) (n n' : ℕ)
-    → Shows (play (1 ∷ b)) out (played.Lines n) → Shows (play (1 ∷ b')) out' (played.Lines n')
+    → Shows (play (1 ∷ b)) out (Ok n) → Shows (play (1 ∷ b')) out' (Ok n')
     → map record_in l ≡ records_of b → map record_in l' ≡ records_of b'
     → Under g first_state l → Under g first_state l' → watched_of (moments_of first_state l) ≡ watched_of (moments_of first_state l')
     → Steady g (moments_of first_state l ++ moments_of first_state l') → Accepted g (moments_of first_state l ++ moments_of first_state l')
@@ -51,7 +51,7 @@ plays_independent g b b' l l' out out' n n' p p' e e' u u' w s t =
 
 -- request 14: registers are loaded at any place
 pub plays_epochs : (b b' : List ℕ) (l l' : List Marked) (out out' : List ℕ) (n n' : ℕ)
-    → Shows (play (1 ∷ b)) out (played.Lines n) → Shows (play (1 ∷ b')) out' (played.Lines n')
+    → Shows (play (1 ∷ b)) out (Ok n) → Shows (play (1 ∷ b')) out' (Ok n')
     → map record_in l ≡ records_of b → map record_in l' ≡ records_of b'
     → Kept (watches_of (turns_from first_state l)) → Kept (watches_of (turns_from first_state l'))
     → Paired Same (watches_of (turns_from first_state l)) (watches_of (turns_from first_state l'))
@@ -61,7 +61,7 @@ plays_epochs b b' l l' out out' n n' p p' e e' k k' s =
 
 -- and in its own words
 pub plays_change : (b b' : List ℕ) (l l' : List Marked) (out out' : List ℕ) (n n' : ℕ)
-    → Shows (play (1 ∷ b)) out (played.Lines n) → Shows (play (1 ∷ b')) out' (played.Lines n')
+    → Shows (play (1 ∷ b)) out (Ok n) → Shows (play (1 ∷ b')) out' (Ok n')
     → map record_in l ≡ records_of b → map record_in l' ≡ records_of b'
     → ChangesFlushed empty_caches (turns_from first_state l) → ChangesFlushed empty_caches (turns_from first_state l')
     → Paired Same (watches_of (turns_from first_state l)) (watches_of (turns_from first_state l'))

@@ -4,11 +4,9 @@ use mathlib.Core.Path.{◌≡◌, refl, ap, sym, subst, ◌∙◌}
 use mathlib.Core.List.{List, [], ◌∷◌, ◌++◌}
 use mathlib.Core.Logic.{◌⊎◌, inl, inr}
 use native.Mathlib.Omega.{arith}
-use native.Mathlib.Decide.{dec_le}
-use native.Mathlib.Nat.{min-eq_right}
 use borrow.Author.Tests.{ne_eqb, eq-eqb}
-use lib.ListN.{length, get_or, take, drop, replicate, length-append, length-take, length-drop}
-use lib.Seq.{length-take-le, take-append-le, take-append-add, take_all}
+use lib.ListN.{length, get_or, take, drop, replicate, length-append, length-drop}
+use lib.Seq.{take-append-le, take-append-add, take_all}
 use Rattle.definition.specs.Trace.{State, Short, Ended, front_of, first_registers, first_state, play_from, opening, play}
 use Rattle.definition.proofs.Files.{not_ended, plays_bad, plays_short, plays_ended}
 use Rattle.trace.specs.Lines.{Wrote, Put}
@@ -21,26 +19,21 @@ use Rattle.replay.specs.declared.Kept.{Kept}
 use Rattle.replay.proofs.Running.{runs_play}
 use Rattle.replay.specs.declared.run.Why.{Why}
 use Rattle.replay.specs.declared.run.Why.TheVariants as why
+use Rattle.std.specs.Prelude.{Result, Ok, Err, IsErr}
 use Rattle.whole.specs.Shown.{Shows, refused, finished, Closes}
-use Rattle.whole.specs.declared.Played.{Played}
-use Rattle.whole.specs.declared.Played.TheVariants as played
+use Rattle.whole.specs.declared.NoRoom.{NoRoom}
 
 -- ---- one line
 -- a line was written where there was room
-pub put : {most at next : ℕ} {old new bytes : List ℕ} → Put most old at bytes new next → at + most ≤ length old → Shows (take at old ++ bytes) new (played.Lines next)
+pub put : {most at next : ℕ} {old new bytes : List ℕ} → Put most old at bytes new next → at + most ≤ length old → Shows (take at old ++ bytes) new (Ok next)
 put p h =
     let w = p.room h in
     (omega (arith, same_length w, h, next_near w), front w (omega (arith, h, next_near w)))
 
 -- there was no room
-pub crowded : (old bytes : List ℕ) (at : ℕ) → length old < at + 44 → length old < length (take at old ++ bytes) + 44
-crowded old bytes at h = go (dec_le at (length old))
-  where
-    go : Dec (at ≤ length old) → length old < length (take at old ++ bytes) + 44
-    go (yes k) = omega (arith, length-append (take at old) bytes, length-take-le at old k)
-    go (no k) =
-        let j : length old ≤ at = omega arith in
-        omega (arith, length-append (take at old) bytes, length-take at old ∙ min-eq_right j)
+pub none_shown : (lines out : List ℕ) (r : Result ℕ NoRoom) → IsErr r → length out < length lines + 44 → Shows lines out r
+none_shown lines out (Ok n) i h = let z : ◌≡◌ {A = ℕ} 0 1 = cc in absurd (omega arith)
+none_shown lines out (Err e) i h = h
 
 -- ---- the last line
 no_record : (s : State) (rest : List ℕ) → (front_of rest ≡ Short) ⊎ (front_of rest ≡ Ended) → play_from s rest ≡ finished (length rest)
@@ -60,7 +53,7 @@ module _ {b out out' : List ℕ} {s' : State} {read wrote : ℕ} {w : Why} (r : 
       ∙ ap (λ (t : List ℕ). t ++ play_from s' (drop read b)) (sym (front r.going.writes r.going.fits))
 
 pub closed : (w : Why) {b out out' : List ℕ} (out'' : List ℕ) {s' : State} {read wrote : ℕ} → RanIn first_state b out s' read out' wrote w
-    → length out'' ≡ length out' → (p : Played) → Closes w (length b - read) out' wrote out'' p → Shows (play_from first_state b) out'' p
+    → length out'' ≡ length out' → (p : Result ℕ NoRoom) → Closes w (length b - read) out' wrote out'' p → Shows (play_from first_state b) out'' p
 closed why.Input {b} out'' {s' = s'} {read = read} r e p h =
     rw (so_far r, no_record s' (drop read b) r.stops, length-drop read b) h
 closed why.Malformed {b} out'' {s' = s'} {read = read} r e p h = rw (so_far r, bad_record s' (drop read b) r.stops) h
@@ -81,7 +74,7 @@ from_start k (e, f) {b} {out} {out'} {s'} {read} {wrote} {w} h =
     subst (λ (s : State). RanIn s b out s' read out' wrote w) (started k e f) h
 
 -- ---- the version
-pub play_empty : (b : List ℕ) → length b ≡ 0 → play b ≡ refused
+pub play_empty : (b : List ℕ) → length b < 1 → play b ≡ refused
 unfolding play
 play_empty [] e = refl
 play_empty (x ∷ b) e = absurd (omega arith)
@@ -104,10 +97,10 @@ tail_whole b = take_all (length b - 1) (drop 1 b) (omega (arith, length-drop 1 b
 three_bytes : {next : ℕ} {old new : List ℕ} → Wrote 3 old 0 opening new next → 3 ≤ length old → take 3 new ≡ opening
 three_bytes w room = rw w.ends at (front w (omega (arith, w.ends)))
 
-module _ (b : List ℕ) (one : get_or b 0 0 ≡ 1) (ys : List ℕ) (p : Played) (s : Shows (play_from first_state (take (length b - 1) (drop 1 b))) ys p) where
+module _ (b : List ℕ) (one : get_or b 0 0 ≡ 1) (ys : List ℕ) (p : Result ℕ NoRoom) (s : Shows (play_from first_state (take (length b - 1) (drop 1 b))) ys p) where
   -- the records' lines stand behind it
   pub behind_version : {next : ℕ} {old new : List ℕ} (rest : List ℕ) (n : ℕ) → Wrote 3 old 0 opening new next → 3 ≤ length old
-      → p ≡ played.Lines n → Shows (play b) (take 3 new ++ (ys ++ rest)) (played.Lines (n + 3))
+      → p ≡ Ok n → Shows (play b) (take 3 new ++ (ys ++ rest)) (Ok (n + 3))
   behind_version rest n w room e =
       let h = rw (e, tail_whole b) at s in
       let m : n + 3 ≡ 3 + n = omega arith in
@@ -118,7 +111,7 @@ module _ (b : List ℕ) (one : get_or b 0 0 ≡ 1) (ys : List ℕ) (p : Played) 
       )
 
   -- there was no room for them
-  pub no_room_behind : (out : List ℕ) → length out ≡ 3 + length ys → p ≡ played.NoRoom → length out < length (play b) + 44
+  pub no_room_behind : (out : List ℕ) → length out ≡ 3 + length ys → {e : NoRoom} → p ≡ Err e → length out < length (play b) + 44
   no_room_behind out k e =
       let h = rw (e, tail_whole b) at s in
       rw (play_good b one) (omega (arith, h, k))

@@ -8,49 +8,46 @@ ghost use Rattle.whole.specs.Shown.{Shows, refused, finished, Closes};
 use replay::run::Why;
 use trace::Line;
 
-// The lines are so many bytes at the start of the output; or there was no room for them.
+// There was no room for the lines.
 #[derive(Clone, Copy)]
-pub enum Played {
-    Lines(usize),
-    NoRoom,
-}
+pub struct NoRoom;
 
 // Refusal 7, the last line.
-fn malformed(out: &mut [u8], at: usize) -> Played
+fn malformed(out: &mut [u8], at: usize) -> Result<usize, NoRoom>
     ensures { Shows (take at out.old ++ refused) out.new result }
 {
-    if trace::has_room(out, at, 44) {
-        return Played::Lines(trace::put_line(out, at, Line::R { number: 7 }));
+    if !trace::has_room(out, at, 44) {
+        return Err(NoRoom);
     }
-    Played::NoRoom
+    Ok(trace::put_line(out, at, Line::R { number: 7 }))
 }
 
 // At the end of the trace: `end`, or refusal 7 where a part of a record is left.
-fn finish(out: &mut [u8], at: usize, left: usize) -> Played
+fn finish(out: &mut [u8], at: usize, left: usize) -> Result<usize, NoRoom>
     ensures { Shows (take at out.old ++ finished left) out.new result }
 {
     if left != 0 {
         return malformed(out, at);
     }
-    if trace::has_room(out, at, 44) {
-        return Played::Lines(trace::put_end(out, at));
+    if !trace::has_room(out, at, 44) {
+        return Err(NoRoom);
     }
-    Played::NoRoom
+    Ok(trace::put_end(out, at))
 }
 
 // The last line, after a run that left so many bytes.
-fn last_line(out: &mut [u8], at: usize, why: Why, left: usize) -> Played
+fn last_line(out: &mut [u8], at: usize, why: Why, left: usize) -> Result<usize, NoRoom>
     ensures { Closes why left out.old at out.new result }
 {
     match why {
         Why::Input => finish(out, at, left),
         Why::Malformed => malformed(out, at),
-        Why::Room => Played::NoRoom,
+        Why::Room => Err(NoRoom),
     }
 }
 
 // Plays the records of a trace, what comes after its version byte.
-fn play_records(bytes: &[u8], out: &mut [u8]) -> Played
+fn play_records(bytes: &[u8], out: &mut [u8]) -> Result<usize, NoRoom>
     ensures { Shows (play_from first_state bytes.now) out.new result }
 {
     let mut c030 = [0u64; 69];
@@ -64,27 +61,23 @@ fn play_records(bytes: &[u8], out: &mut [u8]) -> Played
         bytes,
         out,
     );
-    let why = ran.why;
-    let left = bytes.len() - ran.read;
-    last_line(out, ran.wrote, why, left)
+    last_line(out, ran.wrote, ran.why, bytes.len() - ran.read)
 }
 
-// Plays a trace: the version's line, the records' lines and the last line.
-pub fn play(bytes: &[u8], out: &mut [u8]) -> Played
+// Plays a trace: the version's line, the records' lines and the last line. It gives how many bytes at the start of the output they are.
+pub fn play(bytes: &[u8], out: &mut [u8]) -> Result<usize, NoRoom>
     ensures { Shows (Trace·play bytes.now) out.new result }
 {
-    if bytes.len() == 0 {
+    let [version, records @ ..] = bytes else {
         return malformed(out, 0);
-    }
-    if bytes[0] != 1 {
+    };
+    if *version != 1 {
         return malformed(out, 0);
     }
     if out.len() < 3 {
-        return Played::NoRoom;
+        return Err(NoRoom);
     }
     trace::put_version(out, 0);
-    match play_records(&bytes[1..], &mut out[3..]) {
-        Played::Lines(n) => Played::Lines(n + 3),
-        Played::NoRoom => Played::NoRoom,
-    }
+    let n = play_records(records, &mut out[3..])?;
+    Ok(n + 3)
 }

@@ -1,4 +1,4 @@
-use Rattle.std.proofs.Common.{◌≡◌, ℕ, ◌+◌, ◌<◌, List, length, drop, refl, arith, rules, ◌∙◌}
+use Rattle.std.proofs.Common.{◌≡◌, ℕ, ◌+◌, ◌<◌, List, length, drop, refl, arith, rules, sym, ◌∙◌}
 use Rattle.definition.specs.Memory.{Memory}
 use Rattle.definition.specs.Walk030.{used}
 use Rattle.definition.specs.List.{entry_at, table_ranges, entry_ranges, ranges_from}
@@ -48,10 +48,10 @@ table-loop-i-init t c =
     let m = c.args.tables.now in
     (refl, law.starts m c.args.ws c.args.level c.args.from c.args.t c.width_at-w.result c.width_at-w.ensures c.entries-n.result (written c.args.out.now c.args.s) c.if-w-eq0.false c.entries-n.ensures)
 
-pub table-returns-then-so : goal.table-returns-then-so
-table-returns-then-so t c =
+pub table-returns-then-is_some : goal.table-returns-then-is_some
+table-returns-then-is_some t c =
     let m = c.args.tables.now in
-    output.stops (each m c.args.ws c.args.level c.args.from c.args.t c.width_at-w.result) c.entries-n.result (whole m c.args.ws c.args.level c.args.from c.args.t (written c.args.out.now c.args.s)) c.loop-i.i (written c.loop-i.out c.loop-i.so) c.loop-i.invariant.1 c.if-so.true
+    output.stops (each m c.args.ws c.args.level c.args.from c.args.t c.width_at-w.result) c.entries-n.result (whole m c.args.ws c.args.level c.args.from c.args.t (written c.args.out.now c.args.s)) c.loop-i.i (written c.loop-i.out c.loop-i.so) c.loop-i.invariant.1 (sym c.is_some.ensures ∙ c.if-is_some.true)
 
 pub table-entry_at-e-requires : goal.table-entry_at-e-requires
 table-entry_at-e-requires t c =

@@ -21,6 +21,3 @@ invariant-table-loop-i l =
     (puts (ranges_from l.from (table_ranges l.tables (used (drop l.level l.ws)) l.t)) (written l.fn.out l.fn.s))
     l.i
     (written l.out l.so)
-
-abbrev pub decreases-table-loop-i : goal.decreases-table-loop-i
-decreases-table-loop-i l = l.n - l.i

@@ -1,11 +1,12 @@
+use Rattle.std.proofs.Common.{arith}
 use Rattle.trace.proofs.Seeing.{seen_none, seen_access, seen_other}
 use Rattle.trace.proofs.look.Goals as goal
 
-pub returns-then-body-eq0 : goal.returns-then-body-eq0
-returns-then-body-eq0 c = seen_none _ c.if-body-eq0.true
+pub returns-in_default : goal.returns-in_default
+returns-in_default c = seen_none _ c.in_default.len_below
 
-pub returns-then-byte_at-eq2 : goal.returns-then-byte_at-eq2
-returns-then-byte_at-eq2 c = seen_access _ c.if-body-eq0.false c.byte_at.ensures.0 c.if-byte_at-eq2.true c.access_of.ensures
+pub returns-in-2 : goal.returns-in-2
+returns-in-2 c = seen_access _ c.in-len1-up.len_at_least c.in-2.is c.access_of.ensures
 
-pub returns : goal.returns
-returns c = seen_other _ c.if-body-eq0.false c.byte_at.ensures.0 c.if-byte_at-eq2.false
+pub returns-in_default-kind : goal.returns-in_default-kind
+returns-in_default-kind c = seen_other _ c.in-len1-up.len_at_least (λ e. omega (arith, e))

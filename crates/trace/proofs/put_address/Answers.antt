@@ -6,5 +6,5 @@ use Rattle.trace.proofs.put_address.Goals as goal
 pub returns : goal.returns
 returns c =
     simp append_assoc
-    (then c.put_byte-high.ensures
+    (then c.put-high.ensures
     (then (rw (hex_eight c.args.address) at (then c.put_hex-low.ensures c.put_hex-end.ensures)) c.put_count.ensures))

@@ -1,16 +1,17 @@
 use Rattle.std.proofs.Common.{arith}
-use Rattle.whole.proofs.Showing.{play_empty, play_other, behind_version, no_room_behind}
+use Rattle.whole.proofs.Showing.{play_empty, play_other, behind_version, no_room_behind, none_shown}
 use Rattle.whole.proofs.play.Goals as goal
 
-pub returns-then-bytes-eq0 : goal.returns-then-bytes-eq0
-returns-then-bytes-eq0 c = rw (play_empty _ c.if-bytes-eq0.true) c.malformed.ensures
+pub returns-in_default : goal.returns-in_default
+returns-in_default c = rw (play_empty _ c.in_default.len_below) c.malformed.ensures
 
-pub returns-then-bytes-ne1 : goal.returns-then-bytes-ne1
-returns-then-bytes-ne1 c = rw (play_other _ c.if-bytes-ne1.true) c.malformed-then-bytes-ne1.ensures
+pub returns-then-version-ne1 : goal.returns-then-version-ne1
+returns-then-version-ne1 c = rw (play_other _ c.if-version-ne1.true) c.malformed-then-version-ne1.ensures
 
-pub returns-in-Lines : goal.returns-in-Lines
-returns-in-Lines c =
-    behind_version _ c.if-bytes-ne1.false _ _ c.play_records.ensures _ _ (c.put_version.ensures.room (omega arith)) (omega arith) c.in-Lines.is
+pub returns-in_err-n : goal.returns-in_err-n
+returns-in_err-n c =
+    none_shown _ _ _ c.from_residual.ensures.0 (no_room_behind _ c.if-version-ne1.false _ _ c.play_records.ensures _ (grind arith) c.in_err-n.was)
 
-pub returns-in-NoRoom : goal.returns-in-NoRoom
-returns-in-NoRoom c = no_room_behind _ c.if-bytes-ne1.false _ _ c.play_records.ensures _ (grind arith) c.in-NoRoom.is
+pub returns : goal.returns
+returns c =
+    behind_version _ c.if-version-ne1.false _ _ c.play_records.ensures _ _ (c.put_version.ensures.room (omega arith)) (omega arith) c.in_ok-n.was

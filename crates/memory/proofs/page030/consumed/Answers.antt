@@ -1,22 +1,18 @@
-use Rattle.std.proofs.Common.{◌≡◌, ℕ, ◌<◌, List, get_or, ap, arith}
+use Rattle.std.proofs.Common.{◌≡◌, ℕ, ◌<◌, List, length, get_or, ap, arith}
 use Rattle.definition.specs.Walk030.{sum_of, widths_of}
 use Rattle.memory.proofs.Widths.{used_more, width_small}
 use Rattle.memory.proofs.page030.consumed.Goals as goal
 
--- the width that a turn adds
-width : (ws : List ℕ) (tc k : ℕ) → ws ≡ widths_of tc → get_or ws k 0 < 16
-width ws tc k e = rw e (width_small tc k)
-
 pub overflow_add-sum : goal.overflow_add-sum
-overflow_add-sum c = record { fits = omega (arith, width c.widths-ws.result c.args.tc c.loop-k.k c.loop-k.invariant.0) }
+overflow_add-sum c =
+    let w : get_or c.widths.result c.loop-w.w-index 0 < 16 = rw c.widths.ensures (width_small c.args.tc c.loop-w.w-index) in
+    record { fits = omega (arith, w) }
 
-pub loop-k-preserved : goal.loop-k-preserved
-loop-k-preserved c =
-    let inv = c.loop-k.invariant in
-    let ws = c.widths-ws.result in (
-      inv.0,
-      inv.1,
-      omega arith,
-      omega (arith, width ws c.args.tc c.loop-k.k inv.0),
-      omega (arith, ap sum_of (used_more ws c.loop-k.k (omega arith) c.if-ws-k-eq0.false), inv.4),
-    )
+pub loop-w-preserved : goal.loop-w-preserved
+unfolding widths_of
+loop-w-preserved c =
+    let k = c.loop-w.w-index in
+    let same : get_or c.widths.result k 0 ≡ get_or (widths_of c.args.tc) k 0 = ap (λ (l : List ℕ). get_or l k 0) c.widths.ensures in
+    let few : k < length (widths_of c.args.tc) = omega arith in
+    let more = used_more (widths_of c.args.tc) k few (λ z. c.if-w-eq0.false (omega (arith, same))) in
+    record { small = omega (arith, same, width_small c.args.tc k); same = omega (arith, same, ap sum_of more, c.loop-w.invariant.same) }
