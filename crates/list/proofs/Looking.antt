@@ -39,7 +39,6 @@ module _ (m : Memory) (last : Bool) (e : Node) {r : Result Read Gone} (read : r 
   lost {l} h q = let is : here ≡ Lost l.at (asked_for here) = lost_is here (sym read ∙ h) in rw (is, q)
 
   module _ {d : Read} (h : r ≡ Ok d) where
-
     is : seen_of m last e ≡ seen_by m last e (Whole (type_of here) d.field d.wp d.sup (asked_for here))
     unfolding seen_of
     is = ap (seen_by m last e) (whole_is here (sym read ∙ h))

@@ -39,7 +39,12 @@ fn not_taken(g: Registers, code: u32) -> bool
     let known = is_access_code(code);
     let sum = sum_of_levels(g.tc);
     let root = walk030::root_of(g, code);
-    (g.family != 30) | !known | ((g.tc >> 16) % 16 != 0) | (sum == 0) | (32 < sum) | (root.limit % 4 < 2)
+    (g.family != 30)
+        | !known
+        | ((g.tc >> 16) % 16 != 0)
+        | (sum == 0)
+        | (32 < sum)
+        | (root.limit % 4 < 2)
 }
 
 // The number of the first that applies, and 0 where none does.
