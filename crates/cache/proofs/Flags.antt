@@ -27,11 +27,11 @@ low_bit n = go (odd n) refl
 pub odd_bit : (b : Bool) (n : ℕ) → odd n ≡ b → n % 2 ≡ bit b
 odd_bit b n e = sym (rw e at (low_bit n))
 
-pub even_true : (n : ℕ) → n % 2 ≡ 0 → not (odd n) ≡ true
-even_true n h = rw (odd_is false n h)
+pub odd_valid : (n : ℕ) → n % 2 ≡ 1 → not (odd n) ≡ false
+odd_valid n h = rw (odd_is true n h)
 
-pub even_false : (n : ℕ) → (n % 2 ≡ 0 → ⊥) → not (odd n) ≡ false
-even_false n h = rw (odd_is true n (omega arith))
+pub even_invalid : (n : ℕ) → (n % 2 ≡ 1 → ⊥) → not (odd n) ≡ true
+even_invalid n h = rw (odd_is false n (omega arith))
 
 -- a number of 32 bits that is shifted right by 32 or more
 pub shifted_out : (x s : ℕ) → 32 ≤ s → x < 2 ^ 32 → 0 ≡ x / 2 ^ s

@@ -5,7 +5,7 @@ use mathlib.Core.Path.{◌≡◌, refl, sym, ◌∙◌}
 use mathlib.Core.Bool.{Bool, true, false, ◌&&◌, ◌||◌, not, and-true, and-false}
 use mathlib.Core.List.{List, map}
 use native.Mathlib.Omega.{arith}
-use borrow.Author.Tests.{eq-eqb, ne_eqb, eqb-false, lt-ltb, le-ltb}
+use borrow.Author.Tests.{eq-eqb, ne_eqb, lt-ltb, le-ltb}
 use lib.Dec.{eqb, ltb}
 use lib.Bits.{bit_xor, and_zero_r}
 use lib.ListN.{length, get_or, set, length-map}
@@ -16,10 +16,6 @@ use Rattle.cache.specs.Packed.{bit, odd, drop_tag}
 use Rattle.cache.specs.Atc030.{recent_in, clock_in, shift_in, entry_of, entries_of, tags_of, pages_of, stamps_of, cache_of, Stepped, Looked, key_of, match_in, held_in, place_of, ranked, rest_stamps, rest_clock, used_stamps, Parts, Used}
 use Rattle.cache.proofs.Parts.{part_length, part_get, tags_22, stamps_22, parts_of, put_tag, put_page, put_shift}
 use Rattle.cache.proofs.Entries.{Level, key_matches, key_entry, drop_tag_lem, entries_length, entries_get, entries_set, entries_first, entries_stamps, entries_tags, smaller_is, oldest_is}
-
--- a clock that is not at its end has a next
-pub has_next : {k n : ℕ} → n ≡ k → n < 2 ^ 64 → eqb k (2 ^ 64 - 1) ≡ false → n + 1 < 2 ^ 64
-has_next {k} e h f = omega (arith, eqb-false k (2 ^ 64 - 1) f)
 
 -- ---- lengths
 pub length_ranked : (ss : List ℕ) → length (ranked ss) ≡ length ss

@@ -4,7 +4,7 @@ use Prim.Native.Nat.{ℕ, zero, suc, ◌+◌, ◌-◌, ◌≤◌, ◌<◌, zero-
 use mathlib.Core.Path.{◌≡◌, refl, ap, sym, ◌∙◌}
 use mathlib.Core.Bool.{Bool, true, false, and-false}
 use mathlib.Core.List.{List, [], ◌∷◌, map}
-use native.Mathlib.Nat.{le_of_suc-le-suc, not-suc-le-zero, le_trans, zero-add}
+use native.Mathlib.Nat.{le_of_suc-le-suc, not-suc-le-zero}
 use native.Mathlib.Omega.{arith}
 use native.Mathlib.Numerals.{add-one}
 use borrow.Author.Tests.{le-leb, lt-leb}
@@ -12,6 +12,9 @@ use borrow.Author.Count.{below_none, below_more}
 use lib.Dec.{leb}
 use lib.ListN.{length, get_or, set, drop, drop_of_length-le}
 use lib.Seq.{drop-cons}
+use Rattle.std.specs.List.{count_by, position_or_len}
+use Rattle.std.proofs.lemmas.List.Recursion.{is_count_by, is_position_or_len}
+use Rattle.std.proofs.lemmas.List.Sums.{position_or_len_is}
 use Rattle.definition.specs.Words.{first_of, count_of, all_of}
 
 -- ---- a test that goes by a number of each element
@@ -33,24 +36,17 @@ module _ {A : Type 0} (q : ℕ → Bool) (g : A → ℕ) where
 
 -- ---- searches and counts
 module _ (p : ℕ → Bool) where
-  first_at : (l : List ℕ) (r : ℕ) → r < length l → p (get_or l r 0) ≡ true → ((k : ℕ) → k < r → p (get_or l k 0) ≡ false) → first_of p l ≡ r
+  first_is_position : (l : List ℕ) → first_of p l ≡ position_or_len p l
   unfolding first_of
-  first_at [] r h t f = absurd (not-suc-le-zero h)
-  first_at (x ∷ xs) zero h t f = rw t
-  first_at (x ∷ xs) (suc r) h t f =
-      rw (f 0 (suc-le-suc zero-le))
-      (ap suc (first_at xs r (le_of_suc-le-suc h) t (λ k q. f (suc k) (suc-le-suc q))))
-
-  first_no : (l : List ℕ) → ((k : ℕ) → k < length l → p (get_or l k 0) ≡ false) → first_of p l ≡ length l
-  unfolding first_of
-  first_no [] f = refl
-  first_no (x ∷ xs) f =
-      rw (f 0 (suc-le-suc zero-le))
-      (ap suc (first_no xs (λ k q. f (suc k) (suc-le-suc q))))
+  first_is_position l = is_position_or_len (first_of p) p refl (λ x xs. go (p x) (first_of p xs)) l
+    where
+      go : (b : Bool) (n : ℕ) → (if b then zero else suc n) ≡ (if b then 0 else 1 + n)
+      go true n = refl
+      go false n = omega arith
 
   -- r is the first of n that passes
   pub first_is : (l : List ℕ) (n r y : ℕ) → length l ≡ n → r < n → y ≡ get_or l r 0 → p y ≡ true → ((k : ℕ) → k < r → p (get_or l k 0) ≡ false) → r ≡ first_of p l
-  first_is l n r y e h a t f = sym (first_at l r (rw e h) (rw a at t) f)
+  first_is l n r y e h a t f = sym (first_is_position l ∙ position_or_len_is p l r 0 (omega arith) f (λ _. rw a at t))
 
   -- one more does not pass
   pub first_past : (l : List ℕ) (i y : ℕ) → y ≡ get_or l i 0 → p y ≡ false → ((k : ℕ) → k < i → p (get_or l k 0) ≡ false) → (k : ℕ) → k < i + 1 → p (get_or l k 0) ≡ false
@@ -58,7 +54,7 @@ module _ (p : ℕ → Bool) where
 
   -- none of n passes
   pub first_none : (l : List ℕ) (n i : ℕ) → length l ≡ n → n ≤ i → ((k : ℕ) → k < i → p (get_or l k 0) ≡ false) → n ≡ first_of p l
-  first_none l n i e h f = sym (first_no l (λ k q. f k (le_trans (rw e at q) h)) ∙ e)
+  first_none l n i e h f = sym (first_is_position l ∙ position_or_len_is p l n 0 (omega arith) (λ k q. f k (omega arith)) (λ q. absurd (omega arith)))
 
   -- a search from the end: what the elements from i - 1 on say, by those from i on
   pub down_none : (l : List ℕ) (n : ℕ) → length l ≡ n → n ≡ n + first_of p (drop n l)
@@ -79,11 +75,6 @@ module _ (p : ℕ → Bool) where
     unfolding first_of
     down_past found y a t e = rw (down_cons, ← a, t) (omega arith)
 
-  pub down_all : (l : List ℕ) (i found : ℕ) → i ≤ 0 → found ≡ i + first_of p (drop i l) → found ≡ first_of p l
-  down_all l i found h e =
-      let z : i ≡ 0 = omega arith in
-      (rw z at e) ∙ zero-add (first_of p l)
-
   all_true : (l : List ℕ) → ((k : ℕ) → k < length l → p (get_or l k 0) ≡ true) → all_of p l ≡ true
   unfolding all_of
   all_true [] f = refl
@@ -95,34 +86,14 @@ module _ (p : ℕ → Bool) where
   all_false (x ∷ xs) zero h e = rw e
   all_false (x ∷ xs) (suc k) h e = rw (all_false xs k (le_of_suc-le-suc h) e) (and-false (p x))
 
-  -- a count up to i: n so far
-  pub record Counted (l : List ℕ) (i n : ℕ) : Type 0 where
-    pub at_most : n ≤ i
-    pub rest : n + count_of p (drop i l) ≡ count_of p l
-
-  count_step : (l : List ℕ) (i : ℕ) → i < length l → count_of p (drop i l) ≡ (if p (get_or l i 0) then suc (count_of p (drop (i + 1) l)) else count_of p (drop (i + 1) l))
-  unfolding count_of
-  count_step l i h = rw (add-one, drop-cons l i 0)
-
-  count_end : (l : List ℕ) (i : ℕ) → length l ≤ i → count_of p (drop i l) ≡ 0
-  unfolding count_of
-  count_end l i e = rw (drop_of_length-le l e)
-
-  pub count_start : (l : List ℕ) → Counted l 0 0
-  count_start l = record { at_most = zero-le; rest = zero-add (count_of p l) }
-
-  pub count_one : (l : List ℕ) (i n y : ℕ) → i < length l → y ≡ get_or l i 0 → p y ≡ true → Counted l i n → Counted l (i + 1) (n + 1)
-  count_one l i n y h a t r =
-      let e = rw (← a, t) at (count_step l i h) in
-      record { at_most = omega (arith, r.at_most); rest = omega (arith, r.rest, e) }
-
-  pub count_skip : (l : List ℕ) (i n y : ℕ) → i < length l → y ≡ get_or l i 0 → p y ≡ false → Counted l i n → Counted l (i + 1) n
-  count_skip l i n y h a t r =
-      let e = rw (← a, t) at (count_step l i h) in
-      record { at_most = omega (arith, r.at_most); rest = omega (arith, r.rest, e) }
-
-  pub count_is : (l : List ℕ) (i n : ℕ) → length l ≤ i → Counted l i n → n ≡ count_of p l
-  count_is l i n h r = omega (arith, r.rest, count_end l i h)
+-- a count, as the library says it
+pub count_by_is : (p : ℕ → Bool) (l : List ℕ) → count_of p l ≡ count_by p l
+unfolding count_of
+count_by_is p l = is_count_by (count_of p) p refl (λ x xs. go (p x) (count_of p xs)) l
+  where
+    go : (b : Bool) (n : ℕ) → (if b then suc n else n) ≡ (if b then 1 + n else n)
+    go true n = omega arith
+    go false n = refl
 
 -- ---- the smallest
 -- x stands at b, is at most each of the first i, and less than each before b

@@ -1,9 +1,12 @@
 -- Laws of the parts of an array: what a read or a write at a place of the whole is in each part.
 use Prim.Native.Nat.{ℕ, ◌+◌, ◌-◌, ◌<◌, ◌≤◌}
 use mathlib.Core.Path.{◌≡◌, refl, ap, sym, ◌∙◌}
-use mathlib.Core.List.{List, map}
+use mathlib.Core.List.{List, ◌++◌, map}
 use native.Mathlib.Omega.{arith}
-use lib.ListN.{length, get_or, set, drop, length-drop, length-set}
+use lib.ListN.{length, get_or, set, take, drop, length-drop, length-set}
+use Rattle.std.proofs.Math.Seq.{take-append_seam}
+use Rattle.std.proofs.lemmas.List.{length-append, get_or-append_right}
+use Rattle.std.proofs.lemmas.Slice.{drop-append-drop}
 use lib.Seq.{length-take-le, take-set-le, take-set-lt, drop-set-lt, drop-set-add, get_or-take, get_or-drop, get_or-set_same, get_or-set_other}
 use Rattle.cache.specs.Packed.{part}
 use Rattle.cache.specs.Atc030.{recent_in, clock_in, shift_in, tags_of, pages_of, stamps_of, Parts}
@@ -131,24 +134,38 @@ module _ {l ts ps ss : List ℕ} {r k s : ℕ} (p : Parts l ts ps ss r k s) wher
         shift = get_or-set_same l 68 v 0 (omega (arith, p.size));
       }
 
--- a loop that puts f of each tag in its place: a turn, and the end; and one that does so with the stamps of l₀
-module _ (f : ℕ → ℕ) (l ps : List ℕ) (r k s i v : ℕ) where
-  pub next_tag : (ts ss : List ℕ) → i < 22 → Parts l (map_to f i ts) ps ss r k s → v ≡ f (get_or l i 0) → Parts (set l i v) (map_to f (i + 1) ts) ps ss r k s
-  next_tag ts ss h p e =
-      let g : v ≡ f (get_or (map_to f i ts) i 0) = e ∙ ap f (tag_get l i h ∙ rw p.tags) in
-      rw (← map_to_put f ts (map_to f i ts) i v refl g) (put_tag p i v h)
+-- a loop that puts f of each of the first n numbers in its place: a turn, and the end
+module _ (f : ℕ → ℕ) (n : ℕ) (l : List ℕ) where
+  pub next_first : (xs : List ℕ) (i v : ℕ) → xs ≡ map_to f i (part 0 n l) → v ≡ f (get_or xs i 0) → set xs i v ≡ map_to f (i + 1) (part 0 n l)
+  next_first xs i v e h = map_to_put f (part 0 n l) xs i v e h
 
-  pub next_stamp : (ts l₀ : List ℕ) → i < 22 → Parts l ts ps (map_to f i (stamps_of l₀)) r k s → v ≡ f (get_or l₀ (44 + i) 0) → Parts (set l (44 + i) v) ts ps (map_to f (i + 1) (stamps_of l₀)) r k s
-  next_stamp ts l₀ h p e =
+  pub all_first : (xs : List ℕ) (i : ℕ) → i ≡ length (take n l) → xs ≡ map_to f i (part 0 n l) → xs ≡ map f (part 0 n l)
+  unfolding part
+  all_first xs i h e = e ∙ map_to_all f (take n l) i i (sym h) refl
+
+-- the tags are others, and all behind them is as it was
+pub tags_put : (l ts : List ℕ) → length l ≡ 69 → length ts ≡ 22 → Parts (ts ++ drop 22 l) ts (pages_of l) (stamps_of l) (recent_in l) (clock_in l) (shift_in l)
+unfolding part
+tags_put l ts e n =
+    record {
+      size = omega (arith, length-append ts (drop 22 l), length-drop 22 l);
+      tags = rw n at (take-append_seam ts (drop 22 l));
+      pages = ap (take 22) (drop-append-drop 22 l ts 22 (omega arith) n);
+      stamps = ap (take 22) (drop-append-drop 22 l ts 44 (omega arith) n);
+      recent = get_or-append_right ts (drop 22 l) 22 66 0 n (omega arith) ∙ get_or-drop 22 l 44 0;
+      clock = get_or-append_right ts (drop 22 l) 22 67 0 n (omega arith) ∙ get_or-drop 22 l 45 0;
+      shift = get_or-append_right ts (drop 22 l) 22 68 0 n (omega arith) ∙ get_or-drop 22 l 46 0;
+    }
+
+-- a loop that puts f of each stamp of l₀ in its place: a turn, and the end
+module _ (f : ℕ → ℕ) (l₀ l ts ps : List ℕ) (r k s i : ℕ) where
+  pub next_stamp : (v : ℕ) → i < 22 → Parts l ts ps (map_to f i (stamps_of l₀)) r k s → v ≡ f (get_or l₀ (44 + i) 0) → Parts (set l (44 + i) v) ts ps (map_to f (i + 1) (stamps_of l₀)) r k s
+  next_stamp v h p e =
       let g : v ≡ f (get_or (map_to f i (stamps_of l₀)) i 0) = e ∙ ap f (stamp_get l₀ i h ∙ sym (map_to_next f (stamps_of l₀) i)) in
       rw (← map_to_put f (stamps_of l₀) (map_to f i (stamps_of l₀)) i v refl g) (put_stamp p i v h)
 
-module _ (f : ℕ → ℕ) (l l₀ : List ℕ) (r k s i : ℕ) (e : length l₀ ≡ 69) (h : i ≡ 22) where
-  pub all_tags : (ps ss : List ℕ) → Parts l (map_to f i (tags_of l₀)) ps ss r k s → Parts l (map f (tags_of l₀)) ps ss r k s
-  all_tags ps ss p = rw (← map_to_all f (tags_of l₀) 22 i (tags_22 l₀ e) h) p
-
-  pub all_stamps : (ts ps : List ℕ) → Parts l ts ps (map_to f i (stamps_of l₀)) r k s → Parts l ts ps (map f (stamps_of l₀)) r k s
-  all_stamps ts ps p = rw (← map_to_all f (stamps_of l₀) 22 i (stamps_22 l₀ e) h) p
+  pub all_stamps : length l₀ ≡ 69 → i ≡ 22 → Parts l ts ps (map_to f i (stamps_of l₀)) r k s → Parts l ts ps (map f (stamps_of l₀)) r k s
+  all_stamps e h p = rw (← map_to_all f (stamps_of l₀) 22 i (stamps_22 l₀ e) h) p
 
 -- ---- the 68040's array
 pub parts_040 : (l : List ℕ) → length l ≡ 128 → Parts040 l (keys_of l) (bases_of l)
@@ -171,10 +188,12 @@ module _ {l ks bs : List ℕ} (p : Parts040 l ks bs) where
         bases = part_set 64 64 l i (64 + i) v refl h ∙ rw p.bases;
       }
 
-pub next_key : (f : ℕ → ℕ) (l ks bs : List ℕ) (i v : ℕ) → i < 64 → Parts040 l (map_to f i ks) bs → v ≡ f (get_or l i 0) → Parts040 (set l i v) (map_to f (i + 1) ks) bs
-next_key f l ks bs i v h p e =
-    let g : v ≡ f (get_or (map_to f i ks) i 0) = e ∙ ap f (part_get 0 64 l i i (omega arith) h ∙ rw p.keys) in
-    rw (← map_to_put f ks (map_to f i ks) i v refl g) (put_key p i v h)
-
-pub all_keys : (f : ℕ → ℕ) (l l₀ bs : List ℕ) (i : ℕ) → length l₀ ≡ 128 → i ≡ 64 → Parts040 l (map_to f i (keys_of l₀)) bs → Parts040 l (map f (keys_of l₀)) bs
-all_keys f l l₀ bs i e h p = rw (← map_to_all f (keys_of l₀) 64 i (part_length 0 64 l₀ (omega arith)) h) p
+-- the keys are others
+pub keys_put : (l ks : List ℕ) → length l ≡ 128 → length ks ≡ 64 → Parts040 (ks ++ drop 64 l) ks (bases_of l)
+unfolding part
+keys_put l ks e n =
+    record {
+      size = omega (arith, length-append ks (drop 64 l), length-drop 64 l);
+      keys = rw n at (take-append_seam ks (drop 64 l));
+      bases = ap (take 64) (drop-append-drop 64 l ks 64 (omega arith) n);
+    }

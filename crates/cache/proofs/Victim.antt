@@ -1,6 +1,8 @@
 -- The place that an insert takes: what the loop has seen after i entries, by one law for each way through a turn, and what follows at the end.
+use Rattle.std.specs.Prelude.{Option, Some, None, MatchOption, is_some, unwrap_or}
+use Rattle.std.proofs.lemmas.Bool.{false≢true}
 use Prim.Native.Nat.{ℕ, ◌+◌, ◌≤◌, ◌<◌}
-use mathlib.Core.Path.{◌≡◌, refl}
+use mathlib.Core.Path.{◌≡◌, refl, sym}
 use mathlib.Core.Bool.{true, false, not}
 use mathlib.Core.List.{List}
 use native.Mathlib.Omega.{arith}
@@ -16,101 +18,69 @@ module _ (ts ss : List ℕ) (key : ℕ) where
   abbrev Valid : ℕ → Type 0
   Valid k = not (odd (get_or ts k 0)) ≡ false
 
-  -- none of the first i entries has the key; the first invalid of them is v, and 22 says that there is none;
-  -- then x is their smallest stamp, and stands at b first
-  pub record Seen (i v b x : ℕ) : Type 0 where
+  -- none of the first i entries has the key; the first invalid of them is v, and where there is none
+  -- x is their smallest stamp, and stands at b first
+  pub record Seen (i : ℕ) (v : Option ℕ) (b x : ℕ) : Type 0 where
     pub others : (k : ℕ) → k < i → eqb key (get_or ts k 0) ≡ false
-    pub at_most : v ≤ 22
-    pub one : v < 22 → (not (odd (get_or ts v 0)) ≡ true) × ((k : ℕ) → k < v → Valid k)
-    pub none : v ≡ 22 → ((k : ℕ) → k < i → Valid k) × Least ss i b x
+    pub invalid : MatchOption v (((k : ℕ) → k < i → Valid k) × Least ss i b x) (λ n. (n < 22) × (not (odd (get_or ts n 0)) ≡ true) × ((k : ℕ) → k < n → Valid k))
     pub within : b < 22
 
-  pub seen_start : (x : ℕ) → x ≡ get_or ss 0 0 → Seen 0 22 0 x
-  seen_start x a =
-      record {
-        others = below_none _;
-        at_most = omega arith;
-        one = λ h. absurd (omega arith);
-        none = λ e. (below_none _, least_start ss x a);
-        within = omega arith;
-      }
+  pub seen_start : (x : ℕ) → x ≡ get_or ss 0 0 → Seen 0 None 0 x
+  seen_start x a = record { others = below_none _; invalid = (below_none _, least_start ss x a); within = omega arith }
 
   -- entry i, which has another key
-  module _ (i v b x t : ℕ) (h : i < 22) (a : t ≡ get_or ts i 0) (o : eqb key t ≡ false) (s : Seen i v b x) where
-    others_next : (k : ℕ) → k < i + 1 → eqb key (get_or ts k 0) ≡ false
-    others_next = first_past (eqb key) ts i t a o s.others
+  module _ (i b x t : ℕ) (h : i < 22) (a : t ≡ get_or ts i 0) (o : eqb key t ≡ false) where
+    others_next : {v : Option ℕ} → Seen i v b x → (k : ℕ) → k < i + 1 → eqb key (get_or ts k 0) ≡ false
+    others_next s = first_past (eqb key) ts i t a o s.others
 
-    pub first_invalid : not (odd t) ≡ true → v ≡ 22 → Seen (i + 1) i b x
-    first_invalid e n =
+    pub first_invalid : (v : Option ℕ) → is_some v ≡ false → not (odd t) ≡ true → Seen i v b x → Seen (i + 1) (Some i) b x
+    first_invalid None q e s = record { others = others_next s; invalid = (h, rw a at e, s.invalid.0); within = s.within }
+    first_invalid (Some n) q e s = absurd (false≢true (sym q))
+
+    pub later_invalid : (v : Option ℕ) → is_some v ≡ true → Seen i v b x → Seen (i + 1) v b x
+    later_invalid None q s = absurd (false≢true q)
+    later_invalid (Some n) q s = record { others = others_next s; invalid = s.invalid; within = s.within }
+
+    -- a valid one: its stamp decides, where none before is invalid
+    pub valid_older : (v : Option ℕ) (y : ℕ) → not (odd t) ≡ false → y ≡ get_or ss i 0 → y < x → Seen i v b x → Seen (i + 1) v i y
+    valid_older None y e d l s =
         record {
-          others = others_next;
-          at_most = omega arith;
-          one = λ q. (rw a at e, (s.none n).0);
-          none = λ q. absurd (omega arith);
-          within = s.within;
-        }
-
-    pub later_invalid : (v ≡ 22 → ⊥) → Seen (i + 1) v b x
-    later_invalid n =
-        record { others = others_next; at_most = s.at_most; one = s.one; none = λ q. absurd (n q); within = s.within }
-
-    valid_next : not (odd t) ≡ false → v ≡ 22 → (k : ℕ) → k < i + 1 → Valid k
-    valid_next e n = first_past (λ (t : ℕ). not (odd t)) ts i t a e (s.none n).0
-
-    pub valid_older : (y : ℕ) → not (odd t) ≡ false → y ≡ get_or ss i 0 → y < x → Seen (i + 1) v i y
-    valid_older y e d l =
-        record {
-          others = others_next;
-          at_most = s.at_most;
-          one = s.one;
-          none = λ n. (valid_next e n, least_new ss i b x y d l (s.none n).1);
+          others = others_next s;
+          invalid = (first_past (λ (t : ℕ). not (odd t)) ts i t a e s.invalid.0, least_new ss i b x y d l s.invalid.1);
           within = h;
         }
+    valid_older (Some n) y e d l s = record { others = others_next s; invalid = s.invalid; within = h }
 
-    pub valid_kept : (y : ℕ) → not (odd t) ≡ false → y ≡ get_or ss i 0 → x ≤ y → Seen (i + 1) v b x
-    valid_kept y e d l =
+    pub valid_kept : (v : Option ℕ) (y : ℕ) → not (odd t) ≡ false → y ≡ get_or ss i 0 → x ≤ y → Seen i v b x → Seen (i + 1) v b x
+    valid_kept None y e d l s =
         record {
-          others = others_next;
-          at_most = s.at_most;
-          one = s.one;
-          none = λ n. (valid_next e n, least_keep ss i b x y d l (s.none n).1);
+          others = others_next s;
+          invalid = (first_past (λ (t : ℕ). not (odd t)) ts i t a e s.invalid.0, least_keep ss i b x y d l s.invalid.1);
           within = s.within;
         }
+    valid_kept (Some n) y e d l s = record { others = others_next s; invalid = s.invalid; within = s.within }
 
-  -- the loop's end: m has the key, or is 22 after all entries
-  pub record Ended (m v b x : ℕ) : Type 0 where
-    pub same : m < 22 → m ≡ place_of ts ss key
-    pub all : 22 ≤ m → Seen 22 v b x
+  -- an entry has the key
+  pub same_place : length ts ≡ 22 → (i t : ℕ) → i < 22 → t ≡ get_or ts i 0 → eqb key t ≡ true → ((k : ℕ) → k < i → eqb key (get_or ts k 0) ≡ false) → i ≡ place_of ts ss key
+  unfolding place_of
+  same_place w i t h a e s = rw (← first_is (eqb key) ts 22 i t w h a e s, lt-ltb i 22 h)
 
-  pub at_end : (v b x : ℕ) → Seen 22 v b x → Ended 22 v b x
-  at_end v b x s = record { same = λ h. absurd (omega arith); all = λ h. s }
+  -- no entry has the key
+  pub last_place : length ts ≡ 22 → length ss ≡ 22 → (v : Option ℕ) (b x : ℕ) → Seen 22 v b x → unwrap_or v b ≡ place_of ts ss key
+  unfolding place_of least_of
+  last_place w w' (Some n) b x s =
+      rw (
+        ← first_none (eqb key) ts 22 22 w (omega arith) s.others,
+        ← first_is (λ (t : ℕ). not (odd t)) ts 22 n (get_or ts n 0) w s.invalid.0 refl s.invalid.1 s.invalid.2,
+        lt-ltb n 22 s.invalid.0,
+      )
+  last_place w w' None b x s =
+      rw (
+        ← first_none (eqb key) ts 22 22 w (omega arith) s.others,
+        ← first_none (λ (t : ℕ). not (odd t)) ts 22 22 w (omega arith) s.invalid.0,
+      )
+      (least_is ss 22 b x w' s.within s.invalid.1)
 
-  module _ (w : length ts ≡ 22) where
-    pub at_same : (i v b x v' b' x' t : ℕ) → i < 22 → t ≡ get_or ts i 0 → eqb key t ≡ true → Seen i v b x → Ended i v' b' x'
-    unfolding place_of
-    at_same i v b x v' b' x' t h a e s =
-        record {
-          same = λ q. rw (← first_is (eqb key) ts 22 i t w h a e s.others, lt-ltb i 22 h);
-          all = λ q. absurd (omega arith);
-        }
-
-    -- no entry has the key
-    module _ (v b x : ℕ) (s : Seen 22 v b x) where
-      pub invalid_place : v < 22 → v ≡ place_of ts ss key
-      unfolding place_of
-      invalid_place h =
-          rw (
-            ← first_none (eqb key) ts 22 22 w (omega arith) s.others,
-            ← first_is (λ (t : ℕ). not (odd t)) ts 22 v (get_or ts v 0) w h refl (s.one h).0 (s.one h).1,
-            lt-ltb v 22 h,
-          )
-
-      pub oldest_place : length ss ≡ 22 → 22 ≤ v → b ≡ place_of ts ss key
-      unfolding place_of least_of
-      oldest_place w' h =
-          let n = s.none (omega (arith, s.at_most)) in
-          rw (
-            ← first_none (eqb key) ts 22 22 w (omega arith) s.others,
-            ← first_none (λ (t : ℕ). not (odd t)) ts 22 22 w (omega arith) n.0,
-          )
-          (least_is ss 22 b x w' s.within n.1)
+  pub last_within : (v : Option ℕ) (b x : ℕ) → Seen 22 v b x → unwrap_or v b < 22
+  last_within (Some n) b x s = s.invalid.0
+  last_within None b x s = s.within

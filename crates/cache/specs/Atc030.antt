@@ -1,6 +1,6 @@
 -- The 68030's cache in one array of 69 numbers, for every content of it:
 -- 22 tags page * 16 + code * 2 + valid; 22 pages base * 2 + WP; 22 stamps; the most recent index, the clock, the shift.
-use Rattle.std.specs.Prelude.{ℕ, ◌+◌, ◌*◌, ◌-◌, ◌/◌, ◌%◌, ◌^◌, ◌≡◌, Bool, not, List, [], ◌∷◌, map, eqb, ltb, leb, length, get_or, set, if◌then◌else◌, Option}
+use Rattle.std.specs.Prelude.{ℕ, ◌+◌, ◌*◌, ◌-◌, ◌/◌, ◌%◌, ◌^◌, ◌≡◌, Bool, not, List, [], ◌∷◌, map, eqb, ltb, leb, length, get_or, set, ◌<◌, ◌≤◌, Option, MatchOption, if◌then◌else◌}
 use Rattle.definition.specs.Words.{first_of, count_of, all_of}
 use Rattle.definition.specs.Cache030.{Entry, Cache030, hit_of, after_hit}
 use Rattle.cache.specs.Packed.{odd, part}
@@ -60,6 +60,10 @@ match_in ts recent key = if eqb key (get_or ts recent 0) then recent else first_
 -- the same for a look at a shift
 unfoldable pub held_in : List ℕ → ℕ → ℕ → ℕ
 held_in l key shift = if eqb (shift_in l) shift then match_in (tags_of l) (recent_in l) key else 22
+
+-- r is the place i of an entry, and none where i is past the last
+abbrev pub IsPlace : ℕ → Option ℕ → Type 0
+IsPlace i r = MatchOption r (22 ≤ i) (λ k. (k ≡ i) × (k < 22))
 
 -- the place of the smallest number, the lowest among equals
 unfoldable pub least_of : List ℕ → ℕ

@@ -4,9 +4,7 @@ ghost use Rattle.definition.specs.Words.{agrees, first_of, count_of};
 ghost use Rattle.definition.specs.Refusal.{bad_cache};
 ghost use Rattle.definition.specs.Cache030.{Cache030, touched, hit_of, shifted, inserted, flushed_all, flushed_code, flushed_page};
 ghost use Rattle.cache.specs.Packed.{odd, drop_tag};
-ghost use Rattle.cache.specs.Atc030.{tags_of, pages_of, stamps_of, recent_in, clock_in, shift_in, cache_of, Parts, Stepped, Looked, key_of, held_in, place_of, ranked, Used};
-
-use crate::packed::{flag, sized, word};
+ghost use Rattle.cache.specs.Atc030.{tags_of, pages_of, stamps_of, recent_in, clock_in, shift_in, cache_of, Parts, Stepped, Looked, key_of, held_in, IsPlace, place_of, ranked, Used};
 
 pub type Atc030 = [u64; 69];
 
@@ -23,65 +21,42 @@ pub const SHIFT: usize = 68;
 
 // ---- searches
 
-// The lowest index that has this tag, or 22. It is sought from the end, so that no branch depends on where it stands.
-fn first_with(c030: &Atc030, key: u64) -> usize
-    requires { length c030.now ≡ 69 }
-    ensures { result ≡ first_of (eqb key) (tags_of c030.now) }
+// The lowest index that has this tag. It is sought from the end, so that no branch depends on where it stands: with `position` a hit took
+// 1.4 times as long, and with an `Option` in the loop too.
+fn first_with(c030: &Atc030, key: u64) -> Option<usize>
+    ensures { IsPlace (first_of (eqb key) (tags_of c030.now)) result }
 {
-    let mut found: usize = 22;
-    let mut i: usize = 22;
-    while 0 < i {
-        i -= 1;
+    let mut found = 22;
+    for i in (0..22).rev() {
         if c030[i] == key {
             found = i;
         }
     }
-    found
+    (found < 22).then_some(found)
 }
 
 // ---- a use
 
 // The number of smaller stamps.
 fn smaller(c030: &Atc030, x: u64) -> u64
-    requires { length c030.now ≡ 69 }
     ensures { result ≡ count_of (λ (y : ℕ). ltb y x) (stamps_of c030.now) }
 {
-    let mut n: u64 = 0;
-    let mut i: usize = 0;
-    while i < 22 {
-        if c030[STAMPS + i] < x {
-            n += 1;
-        }
-        i += 1;
-    }
-    n
+    c030[STAMPS..RECENT].iter().filter(|&&y| y < x).count() as u64
 }
 
 // Each stamp becomes the number of smaller stamps.
 fn rank(c030: &mut Atc030)
-    requires { length c030.old ≡ 69 }
     ensures { Parts c030.new (tags_of c030.old) (pages_of c030.old) (ranked (stamps_of c030.old)) (recent_in c030.old) (clock_in c030.old) (shift_in c030.old) }
 {
     let old = *c030;
-    let mut i: usize = 0;
-    while i < 22 {
-        let x = old[STAMPS + i];
-        c030[STAMPS + i] = smaller(&old, x);
-        i += 1;
+    for i in 0..22 {
+        c030[STAMPS + i] = smaller(&old, old[STAMPS + i]);
     }
-}
-
-// Whether the clock stands at 2^64 - 1.
-fn is_last(c030: &Atc030) -> bool
-    requires { length c030.now ≡ 69 }
-    ensures { result ≡ eqb (clock_in c030.now) 18446744073709551615 }
-{
-    c030[CLOCK] == 18446744073709551615
 }
 
 // The clock becomes `n`, the entry is stamped with it and is most recent.
 fn put(c030: &mut Atc030, i: usize, n: u64)
-    requires { (length c030.old ≡ 69) × (i < 22) }
+    requires { i < 22 }
     ensures { Parts c030.new (tags_of c030.old) (pages_of c030.old) (set (stamps_of c030.old) i n) i n (shift_in c030.old) }
 {
     c030[CLOCK] = n;
@@ -89,38 +64,35 @@ fn put(c030: &mut Atc030, i: usize, n: u64)
     c030[RECENT] = i as u64;
 }
 
-// A use raises the clock by 1, stamps the entry with it and makes it most recent.
-fn stamp(c030: &mut Atc030, i: usize)
-    requires { (length c030.old ≡ 69) × (i < 22) × (eqb (clock_in c030.old) 18446744073709551615 ≡ false) }
-    ensures { Used c030.old i c030.new }
-{
-    let clock = word(c030[CLOCK]);
-    put(c030, i, clock + 1);
-}
-
-// The same at 2^64 - 1: the stamps are ranked first, and the clock becomes 22. A use that has room for its stamp does not come here,
+// A use at 2^64 - 1: the stamps are ranked first, and the clock becomes 22. A use that has room for its stamp does not come here,
 // so that the ranking is not in its code.
+#[inline(never)]
 fn stamp_last(c030: &mut Atc030, i: usize)
-    requires { (length c030.old ≡ 69) × (i < 22) × (eqb (clock_in c030.old) 18446744073709551615 ≡ true) }
+    requires at { i < 22 }
+    requires last { clock_in c030.old ≡ 18446744073709551615 }
     ensures { Used c030.old i c030.new }
 {
     rank(c030);
     put(c030, i, 23);
 }
 
+// A use raises the clock by 1, stamps the entry with it and makes it most recent.
+fn stamp(c030: &mut Atc030, i: usize)
+    requires { i < 22 }
+    ensures { Used c030.old i c030.new }
+{
+    match c030[CLOCK].checked_add(1) {
+        Some(n) => put(c030, i, n),
+        None => stamp_last(c030, i),
+    }
+}
+
 // A hit on entry i: a recorded one, on another than the most recent entry, is a use.
 fn touch(c030: &mut Atc030, i: usize, recorded: bool)
-    requires { (length c030.old ≡ 69) × (i < 22) }
+    requires { i < 22 }
     ensures { Stepped (λ (c : Cache030). if recorded then touched c i else c) c030.old c030.new }
 {
-    if recorded {
-        if c030[RECENT] == i as u64 {
-            return;
-        }
-        if is_last(c030) {
-            stamp_last(c030, i);
-            return;
-        }
+    if recorded && c030[RECENT] != i as u64 {
         stamp(c030, i);
     }
 }
@@ -131,7 +103,6 @@ fn touch(c030: &mut Atc030, i: usize, recorded: bool)
 pub fn bad_cache(c030: &Atc030) -> bool
     ensures { result ≡ bad_cache (cache_of c030.now) }
 {
-    sized(c030);
     c030[RECENT] > 21 || c030[SHIFT] > 31
 }
 
@@ -144,28 +115,17 @@ fn key_of(code: u32, page: u32) -> u64
     (page as u64) * 16 + (code as u64) * 2 + 1
 }
 
-// The tag at i, and 0 where there is no entry i.
-fn tag_at(c030: &Atc030, i: usize) -> u64
-    requires { length c030.now ≡ 69 }
-    ensures { result ≡ get_or (tags_of c030.now) i 0 }
-{
-    if i < 22 {
-        return c030[i];
-    }
-    0
-}
-
-// Matching tries the most recent entry, then the lowest index; a different shift misses. 22: none.
-fn held(c030: &Atc030, key: u64, shift: u32) -> usize
-    requires { length c030.now ≡ 69 }
-    ensures { result ≡ held_in c030.now key shift }
+// Matching tries the most recent entry, then the lowest index; a different shift misses.
+fn held(c030: &Atc030, code: u32, page: u32, shift: u32) -> Option<usize>
+    ensures { IsPlace (held_in c030.now (key_of (code % 8) page) shift) result }
 {
     if c030[SHIFT] != shift as u64 {
-        return 22;
+        return None;
     }
+    let key = key_of(code % 8, page);
     let recent = c030[RECENT] as usize;
-    if tag_at(c030, recent) == key {
-        return recent;
+    if recent < 22 && c030[recent] == key {
+        return Some(recent);
     }
     first_with(c030, key)
 }
@@ -181,14 +141,17 @@ pub fn permitted(p: u64, write: bool) -> Option<u64>
 }
 
 // A look: the base of the page's entry, and a recorded hit is a use. A code has three bits, here and below.
-pub fn look(c030: &mut Atc030, code: u32, page: u32, shift: u32, write: bool, recorded: bool) -> Option<u64>
+pub fn look(
+    c030: &mut Atc030,
+    code: u32,
+    page: u32,
+    shift: u32,
+    write: bool,
+    recorded: bool,
+) -> Option<u64>
     ensures { Looked c030.old (code % 8) page shift write recorded result c030.new }
 {
-    sized(c030);
-    let i = held(c030, key_of(code % 8, page), shift);
-    if 22 <= i {
-        return None;
-    }
+    let i = held(c030, code, page, shift)?;
     let p = c030[PAGES + i];
     touch(c030, i, recorded);
     permitted(p, write)
@@ -198,11 +161,7 @@ pub fn look(c030: &mut Atc030, code: u32, page: u32, shift: u32, write: bool, re
 pub fn probe(c030: &Atc030, code: u32, page: u32, shift: u32, write: bool) -> Option<u64>
     ensures { result ≡ hit_of (cache_of c030.now) (code % 8) page shift write }
 {
-    sized(c030);
-    let i = held(c030, key_of(code % 8, page), shift);
-    if 22 <= i {
-        return None;
-    }
+    let i = held(c030, code, page, shift)?;
     permitted(c030[PAGES + i], write)
 }
 
@@ -221,14 +180,10 @@ fn without(t: u64, code: u32, mask: u32, every: bool, page: u64) -> u64
 
 // The same of every tag, in place.
 fn drop_tags(c030: &mut Atc030, code: u32, mask: u32, every: bool, page: u64)
-    requires { length c030.old ≡ 69 }
     ensures { Parts c030.new (map (λ (t : ℕ). drop_tag (agrees (t / 2 % 8) code mask && (every || eqb (t / 16) page)) t) (tags_of c030.old)) (pages_of c030.old) (stamps_of c030.old) (recent_in c030.old) (clock_in c030.old) (shift_in c030.old) }
 {
-    let mut at: usize = 0;
-    while at < 22 {
-        let t = c030[at];
-        c030[at] = without(t, code, mask, every, page);
-        at += 1;
+    for t in &mut c030[..22] {
+        *t = without(*t, code, mask, every, page);
     }
 }
 
@@ -236,7 +191,6 @@ fn drop_tags(c030: &mut Atc030, code: u32, mask: u32, every: bool, page: u64)
 pub fn flush_all(c030: &mut Atc030)
     ensures { Stepped flushed_all c030.old c030.new }
 {
-    sized(c030);
     drop_tags(c030, 0, 0, true, 0);
 }
 
@@ -244,7 +198,6 @@ pub fn flush_all(c030: &mut Atc030)
 pub fn flush_code(c030: &mut Atc030, code: u32, mask: u32)
     ensures { Stepped (λ (c : Cache030). flushed_code c code mask) c030.old c030.new }
 {
-    sized(c030);
     drop_tags(c030, code, mask, true, 0);
 }
 
@@ -262,7 +215,6 @@ fn page_at(address: u32, shift: u64) -> u64
 pub fn flush_page(c030: &mut Atc030, code: u32, mask: u32, address: u32)
     ensures { Stepped (λ (c : Cache030). flushed_page c code mask address) c030.old c030.new }
 {
-    sized(c030);
     let shift = c030[SHIFT];
     if shift == 0 {
         return;
@@ -274,50 +226,37 @@ pub fn flush_page(c030: &mut Atc030, code: u32, mask: u32, address: u32)
 
 // The lowest index of the same key, else the first invalid, else the smallest stamp, lowest index among equals: in one pass.
 // Where an entry is invalid no stamp decides, so an invalid entry's stamp is not looked at.
-// The end is asked for at the end of a turn: in a `while` the compiler kept a second counter.
+// With a `for` the compiler made a branch of the smallest stamp, and an insert at a miss took 1.3 times as long; as three searches too.
 fn place(c030: &Atc030, key: u64) -> usize
-    requires { length c030.now ≡ 69 }
     ensures { (result ≡ place_of (tags_of c030.now) (stamps_of c030.now) key) × (result < 22) }
 {
-    let mut same: usize = 22;
-    let mut invalid: usize = 22;
-    let mut oldest: usize = 0;
+    let mut invalid = None;
+    let mut oldest = 0;
     let mut low = c030[STAMPS];
-    let mut i: usize = 0;
+    let mut i = 0;
     loop {
         let t = c030[i];
         if t == key {
-            same = i;
-            break;
+            return i;
         }
-        if t % 2 == 0 {
-            if invalid == 22 {
-                invalid = i;
-            }
-        } else {
+        if t % 2 == 1 {
             let x = c030[STAMPS + i];
             if x < low {
                 low = x;
                 oldest = i;
             }
+        } else if invalid.is_none() {
+            invalid = Some(i);
         }
         if i == 21 {
-            break;
+            return invalid.unwrap_or(oldest);
         }
         i += 1;
     }
-    if same < 22 {
-        return same;
-    }
-    if invalid < 22 {
-        return invalid;
-    }
-    oldest
 }
 
 // At a different shift an insert empties first.
 fn fit(c030: &mut Atc030, shift: u32)
-    requires { length c030.old ≡ 69 }
     ensures { Stepped (λ (c : Cache030). shifted c shift) c030.old c030.new }
 {
     if c030[SHIFT] == shift as u64 {
@@ -331,15 +270,10 @@ fn fit(c030: &mut Atc030, shift: u32)
 pub fn insert(c030: &mut Atc030, code: u32, page: u32, shift: u32, base: u32, wp: bool)
     ensures { Stepped (λ (c : Cache030). inserted c (code % 8) page shift base wp) c030.old c030.new }
 {
-    sized(c030);
     fit(c030, shift);
     let key = key_of(code % 8, page);
     let i = place(c030, key);
     c030[i] = key;
-    c030[PAGES + i] = (base as u64) * 2 + flag(wp);
-    if is_last(c030) {
-        stamp_last(c030, i);
-        return;
-    }
+    c030[PAGES + i] = (base as u64) * 2 + u64::from(wp);
     stamp(c030, i);
 }

@@ -4,8 +4,6 @@ ghost use Rattle.definition.specs.Cache040.{Cache040, hit040, inserted040, flush
 ghost use Rattle.cache.specs.Packed.{odd};
 ghost use Rattle.cache.specs.Atc040.{cache040_of, Stepped040, key_of040};
 
-use crate::packed::{flag, sized};
-
 pub type Atc040 = [u64; 128];
 
 // Where the bases stand.
@@ -22,7 +20,7 @@ fn slot_of(frame: u32) -> usize
 fn key_of(frame: u32, supervisor: bool) -> u64
     ensures { result ≡ key_of040 frame supervisor }
 {
-    (frame as u64) * 4 + flag(supervisor) * 2 + 1
+    (frame as u64) * 4 + u64::from(supervisor) * 2 + 1
 }
 
 // The base of a cached page. A hit that protection forbids is a miss.
@@ -42,7 +40,6 @@ pub fn permitted(b: u64, supervisor: bool, write: bool) -> Option<u64>
 pub fn look_040(c040: &Atc040, frame: u32, supervisor: bool, write: bool) -> Option<u64>
     ensures { result ≡ hit040 (cache040_of c040.now) frame supervisor write }
 {
-    sized(c040);
     let i = slot_of(frame);
     if c040[i] != key_of(frame, supervisor) {
         return None;
@@ -54,22 +51,17 @@ pub fn look_040(c040: &Atc040, frame: u32, supervisor: bool, write: bool) -> Opt
 pub fn insert_040(c040: &mut Atc040, frame: u32, supervisor: bool, base: u32, wp: bool, sup: bool)
     ensures { Stepped040 (λ (c : Cache040). inserted040 c frame supervisor base wp sup) c040.old c040.new }
 {
-    sized(c040);
     let i = slot_of(frame);
     c040[i] = key_of(frame, supervisor);
-    c040[BASES + i] = (base as u64) * 4 + flag(wp) * 2 + flag(sup);
+    c040[BASES + i] = (base as u64) * 4 + u64::from(wp) * 2 + u64::from(sup);
 }
 
 // A flush of everything only marks invalid.
 pub fn flush_all_040(c040: &mut Atc040)
     ensures { Stepped040 flushed_all040 c040.old c040.new }
 {
-    sized(c040);
-    let mut i: usize = 0;
-    while i < 64 {
-        let k = c040[i];
-        c040[i] = k - k % 2;
-        i += 1;
+    for k in &mut c040[..64] {
+        *k -= *k % 2;
     }
 }
 
@@ -77,7 +69,6 @@ pub fn flush_all_040(c040: &mut Atc040)
 pub fn flush_frame(c040: &mut Atc040, frame: u32)
     ensures { Stepped040 (λ (c : Cache040). flushed_frame c frame) c040.old c040.new }
 {
-    sized(c040);
     let i = slot_of(frame);
     let k = c040[i];
     if k / 4 != frame as u64 {

@@ -3,7 +3,6 @@
 
 pub mod atc030;
 pub mod atc040;
-mod packed;
 
 ghost use Rattle.std.specs.Prelude.{◌≡◌};
 ghost use Rattle.definition.specs.Translate.{empty_caches};

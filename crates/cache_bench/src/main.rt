@@ -190,9 +190,10 @@ fn one_run<S: Env + Print>(rt: &S, i: usize) -> io::Result<bool>
 }
 
 fn main(rt: HostRuntime) -> io::Result<()> {
-    let mut i = 1;
-    while i < 100 && one_run(&rt, i)? {
-        i += 3;
+    for run in 0..33 {
+        if !one_run(&rt, 1 + 3 * run)? {
+            break;
+        }
     }
     Ok(())
 }

@@ -55,15 +55,10 @@ fn on_040(row: &[u32; 9], c040: &mut Atc040) -> Option<u64> {
     }
 }
 
-// A number of the row as the caches have it.
-fn wide(x: u32) -> u64 {
-    x as u64
-}
-
 // Whether the row has this answer and this sum.
 fn has(row: &[u32; 9], answer: Option<u64>, sum: u32) -> bool {
     match answer {
-        Some(base) => (row[6] == 1) & (wide(row[7]) == base) & (row[8] == sum),
+        Some(base) => (row[6] == 1) & (u64::from(row[7]) == base) & (row[8] == sum),
         None => (row[6] == 0) & (row[7] == 0) & (row[8] == sum),
     }
 }

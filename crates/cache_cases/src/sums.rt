@@ -16,10 +16,8 @@ fn with_entry(sum: u32, tag: u64, page: u64, stamp: u64) -> u32 {
 // The 68030 cache: most recent index, clock, page shift, then each entry.
 pub fn sum_030(c030: &Atc030) -> u32 {
     let mut sum = mix(mix(mix(2166136261, c030[RECENT]), c030[CLOCK]), c030[SHIFT]);
-    let mut i: usize = 0;
-    while i < 22 {
+    for i in 0..22 {
         sum = with_entry(sum, c030[i], c030[PAGES + i], c030[STAMPS + i]);
-        i += 1;
     }
     sum
 }
@@ -33,10 +31,8 @@ fn with_slot(sum: u32, key: u64, base: u64) -> u32 {
 // The 68040 cache: each slot.
 pub fn sum_040(c040: &Atc040) -> u32 {
     let mut sum = 2166136261;
-    let mut i: usize = 0;
-    while i < 64 {
-        sum = with_slot(sum, c040[i], c040[BASES + i]);
-        i += 1;
+    for (key, base) in c040[..BASES].iter().zip(&c040[BASES..]) {
+        sum = with_slot(sum, *key, *base);
     }
     sum
 }

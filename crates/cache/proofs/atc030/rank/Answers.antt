@@ -5,11 +5,11 @@ use Rattle.cache.proofs.Lists.{map_to_none}
 use Rattle.cache.proofs.atc030.rank.Goals as goal
 
 pub loop-i-init : goal.loop-i-init
-loop-i-init c = (omega arith, rw map_to_none (parts_of _ c.requires))
+loop-i-init c = rw map_to_none (parts_of _ c.told-c030)
 
 pub loop-i-preserved : goal.loop-i-preserved
-loop-i-preserved c = (omega arith, next_stamp _ _ _ _ _ _ _ _ _ _ (search rules) c.loop-i.invariant.1 c.smaller.ensures)
+loop-i-preserved c = next_stamp _ _ _ _ _ _ _ _ _ _ (search rules) c.loop-i.invariant c.smaller.ensures
 
 pub returns : goal.returns
 unfolding ranked
-returns c = all_stamps _ _ _ _ _ _ _ c.requires (omega arith) _ _ c.loop-i.invariant.1
+returns c = all_stamps _ _ _ _ _ _ _ _ _ c.told-c030 (omega arith) c.loop-i.invariant

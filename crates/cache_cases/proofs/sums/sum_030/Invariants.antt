@@ -1,8 +1,0 @@
-use Rattle.std.proofs.Common.{◌-◌, ◌≤◌}
-use Rattle.cache_cases.proofs.sums.sum_030.Given as goal
-
-abbrev pub invariant-loop-i : goal.invariant-loop-i
-invariant-loop-i l = l.i ≤ 22
-
-abbrev pub decreases-loop-i : goal.decreases-loop-i
-decreases-loop-i l = 22 - l.i
