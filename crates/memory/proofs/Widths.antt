@@ -5,16 +5,12 @@ use mathlib.Core.List.{List, [], ◌∷◌}
 use mathlib.Core.Bool.{Bool, true, false}
 use native.Mathlib.Omega.{arith}
 use native.Mathlib.Numerals.{add-one}
-use borrow.Author.Tests.{eq-eqb, ne_eqb, eqb-false}
+use borrow.Author.Tests.{ne_eqb, eqb-false}
 use lib.Dec.{eqb}
 use lib.ListN.{length, get_or, drop}
 use lib.Seq.{drop-cons}
 use Rattle.std.specs.Prelude.{if◌then◌else◌}
 use Rattle.definition.specs.Walk030.{widths_of, used}
-
--- the levels end at the first zero
-pub used_stop : (l : List ℕ) (n : ℕ) → n < length l → get_or l n 0 ≡ 0 → used (drop n l) ≡ []
-used_stop l n h z = rw (drop-cons l n 0, eq-eqb (get_or l n 0) 0 z)
 
 pub used_more : (l : List ℕ) (n : ℕ) → n < length l → (get_or l n 0 ≡ 0 → ⊥) → used (drop n l) ≡ get_or l n 0 ∷ used (drop (n + 1) l)
 used_more l n h z = rw (drop-cons l n 0, ne_eqb (get_or l n 0) 0 z, add-one)
