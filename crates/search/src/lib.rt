@@ -1,7 +1,7 @@
 // What the end of a 68030 walk gives, in place: translate and load share it. A code has three bits.
 #![tactic(auto)]
 
-ghost use Rattle.std.specs.Prelude.{length, ◌≡◌, ◌%◌, ◌<◌};
+ghost use Rattle.std.specs.Prelude.{◌≡◌, ◌%◌, ◌<◌};
 ghost use Rattle.std.specs.Prelude.{if◌then◌else◌};
 ghost use Rattle.definition.specs.Walk030.{shift_of};
 ghost use Rattle.definition.specs.Cache030.{Cache030};
@@ -58,7 +58,7 @@ fn missing_cause(indirect: bool) -> FaultCause
 
 // The page's base is cached, where there is a page shift.
 fn cache_page(c030: &mut Atc030, tc: u32, code: u32, address: u32, physical: u32, wp: bool)
-    requires { (code < 8) × (length c030.old ≡ 69) }
+    requires { code < 8 }
     ensures { Stepped (λ (c : Cache030). cached (shift_of tc) c code address physical wp) c030.old c030.new }
 {
     match memory::page030::page_shift(tc) {
@@ -81,7 +81,7 @@ fn cache_unless(
     physical: u32,
     wp: bool,
 )
-    requires { (code < 8) × (length c030.old ≡ 69) }
+    requires { code < 8 }
     ensures { Stepped (λ (c : Cache030). if forbidden then c else cached (shift_of tc) c code address physical wp) c030.old c030.new }
 {
     if forbidden {
@@ -114,7 +114,7 @@ fn page_found(
     sup: bool,
     physical: u32,
 ) -> Translation
-    requires { (code < 8) × (length c030.old ≡ 69) }
+    requires { code < 8 }
     ensures { Ended (page030 tc (cache_of c030.old) code address write wp sup physical) result c030.new }
 {
     let forbidden = sup & !((code >> 2) % 2 == 1);

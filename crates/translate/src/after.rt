@@ -1,5 +1,5 @@
 // What a walk's end gives an access: the answer, its count, and what is cached.
-ghost use Rattle.std.specs.Prelude.{◌≡◌, length};
+ghost use Rattle.std.specs.Prelude.{◌≡◌};
 ghost use Rattle.cache.specs.Atc030.{cache_of};
 ghost use Rattle.cache.specs.Atc040.{cache040_of};
 ghost use Rattle.cache.specs.Pair.{caches_of};
@@ -24,7 +24,6 @@ fn resident(
     wp: bool,
     sup: bool,
 ) -> Translation
-    requires { length c040.old ≡ 128 }
     ensures { Ended040 (resident040 tc (cache040_of c040.old) address supervisor write field wp sup) result c040.new }
 {
     if write & wp {
@@ -49,7 +48,6 @@ fn end_040(
     write: bool,
     end: End040,
 ) -> Translation
-    requires { length c040.old ≡ 128 }
     ensures { Ended040 (end040 tc (cache040_of c040.old) address supervisor write end) result c040.new }
 {
     match end {
@@ -74,7 +72,6 @@ fn by_030(c030: &mut Atc030, g: Registers, code: u32, a: Access, w: Walked) -> O
 
 // What a 68040 walk gives, and the longs that it asked for.
 fn by_040(c040: &mut Atc040, g: Registers, supervisor: bool, a: Access, w: Walked040) -> Outcome
-    requires { length c040.old ≡ 128 }
     ensures { Gave040 g a (cache040_of c040.old) supervisor w result.answer result.count c040.new }
 {
     let end = w.end;
