@@ -2,7 +2,7 @@
 ghost use Rattle.list.specs.Numbers.{pairs_of};
 
 use definition::Range;
-use memory::ranges::Ranges;
+use memory::ranges::{NOWHERE, Ranges};
 
 // A number alone at the end is no range.
 #[derive(Clone, Copy)]
@@ -18,6 +18,9 @@ impl<'a> Ranges for Numbers<'a> {
 
     #[tactic(auto, using(crate::proofs::Pairs::length_pairs, crate::proofs::Pairs::pairs_at))]
     fn range(self, i: usize) -> Range {
+        if self.count() <= i {
+            return NOWHERE;
+        }
         Range {
             first: self.0[i * 2],
             last: self.0[i * 2 + 1],

@@ -19,11 +19,11 @@ or_false false = refl
 
 module _ (p : Range → Bool) (xs : List Range) (i : ℕ) (hit : Bool) (same : any_of p xs ≡ (hit || any_of p (drop i xs))) where
   -- one range more, where y is whether the test holds of it
-  pub next_same : (r : Range) → i < length xs → r ≡ get_or xs i r → (y : Bool) → y ≡ p r → any_of p xs ≡ ((hit || y) || any_of p (drop (i + 1) xs))
+  pub next_same : (r d : Range) → i < length xs → r ≡ get_or xs i d → (y : Bool) → y ≡ p r → any_of p xs ≡ ((hit || y) || any_of p (drop (i + 1) xs))
   unfolding any_of
-  next_same r h er y ey =
-      let e : y ≡ p (get_or xs i r) = ey ∙ ap p er in
-      same ∙ rw (e, add-one, drop-cons xs i r h) (or_assoc hit _ _)
+  next_same r d h er y ey =
+      let e : y ≡ p (get_or xs i d) = ey ∙ ap p er in
+      same ∙ rw (e, add-one, drop-cons xs i d h) (or_assoc hit _ _)
 
   -- no range left
   pub ends : length xs ≤ i → hit ≡ any_of p xs

@@ -3,7 +3,7 @@ use Prim.Native.Nat.{ℕ}
 use mathlib.Core.Path.{◌≡◌, refl, ap}
 use mathlib.Core.Bool.{Bool, true, false}
 use lib.Dec.{eqb, ltb}
-use Rattle.std.specs.Prelude.{if◌then◌else◌, length, Result, Ok, Err}
+use Rattle.std.specs.Prelude.{if◌then◌else◌, length, Ok, Err}
 use Rattle.definition.specs.Walk030.{Descriptor, Whole, Lost}
 use Rattle.definition.proofs.Asked030.{asked_for}
 use Rattle.memory.specs.Descriptors.{kind_of, shown_read}

@@ -26,8 +26,7 @@ impl From<u32> for Kind {
         match first % 4 {
             0 => Kind::Invalid,
             1 => Kind::Page,
-            2 => Kind::Table { long: false },
-            _ => Kind::Table { long: true },
+            n @ 2.. => Kind::Table { long: n == 3 },
         }
     }
 }

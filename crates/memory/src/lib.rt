@@ -5,6 +5,7 @@
 pub mod bits;
 pub mod descriptor;
 pub mod kept;
+pub mod longs;
 pub mod page030;
 pub mod page040;
 pub mod ranges;

@@ -1,12 +1,15 @@
 // The bus-error ranges: which of them a long touches, and whether one is crossed.
-ghost use Rattle.std.specs.Prelude.{◌≡◌, ◌<◌, List, length, slice_index_or};
+ghost use Rattle.std.specs.Prelude.{◌≡◌, List, length, slice_index_or};
 ghost use Rattle.definition.specs.Memory.{touches_of, in_ranges};
 ghost use Rattle.definition.specs.Refusal.{crossed};
 ghost use Rattle.definition.specs.Words.{any_of};
 ghost use Rattle.definition.specs.declared.Range.{Range};
-ghost use Rattle.memory.specs.Ranges.{last_byte};
+ghost use Rattle.memory.specs.Ranges.{nowhere, last_byte};
 
 use definition::Range;
+
+// What stands past the last range: nothing asks for it.
+pub const NOWHERE: Range = Range { first: 0, last: 0 };
 
 // What bus-error ranges are lent as: their number, and each of them.
 pub trait Ranges: Copy {
@@ -16,8 +19,7 @@ pub trait Ranges: Copy {
         ensures { result ≡ length (ranges_of self) };
 
     fn range(self, i: usize) -> Range
-        requires { i < length (ranges_of self) }
-        ensures { result ≡ slice_index_or (ranges_of self) i result };
+        ensures { result ≡ slice_index_or (ranges_of self) i nowhere };
 }
 
 impl<'a> Ranges for &'a [Range] {
@@ -29,10 +31,26 @@ impl<'a> Ranges for &'a [Range] {
 
     // Field by field: so the compiler takes several ranges at once.
     fn range(self, i: usize) -> Range {
+        if self.len() <= i {
+            return NOWHERE;
+        }
         Range {
             first: self[i].first,
             last: self[i].last,
         }
+    }
+}
+
+// An array of them, as the slice that it is.
+impl<'a, const N: usize> Ranges for &'a [Range; N] {
+    ghost ranges_of = { λ a. a.now };
+
+    fn count(self) -> usize {
+        N
+    }
+
+    fn range(self, i: usize) -> Range {
+        self.as_slice().range(i)
     }
 }
 

@@ -4,6 +4,7 @@ ghost use Rattle.definition.specs.Memory.{fetch_of};
 ghost use Rattle.definition.specs.Refusal.{bad_base, crossed};
 ghost use Rattle.definition.specs.Words.{any_of};
 
+use crate::longs;
 use crate::ranges::{Ranges, any_crossed, hits};
 use std::marker::Model;
 
@@ -28,11 +29,7 @@ impl<'a, R: Ranges> Tables<'a, R> {
     pub fn is_bad_base(&self) -> bool
         ensures { result ≡ bad_base self.now }
     {
-        let count = self.longs.len();
-        if count > 1073741824 {
-            return true;
-        }
-        !((self.base % 4 == 0) & (self.base as u64 + 4 * count as u64 <= 4294967296))
+        longs::bad_base(self.longs.len(), self.base)
     }
 
     // Refusal 3: whether a range has its first above its last.
@@ -47,20 +44,6 @@ impl<'a, R: Ranges> Tables<'a, R> {
         ensures { result ≡ fetch_of self.now at }
     {
         let hit = hits(self.ranges, at);
-        if at < self.base {
-            return None;
-        }
-        let off = at - self.base;
-        if off % 4 != 0 {
-            return None;
-        }
-        let i = (off / 4) as usize;
-        if self.longs.len() <= i {
-            return None;
-        }
-        if hit {
-            return None;
-        }
-        Some(self.longs[i])
+        longs::long_unless(self.longs, self.base, at, hit)
     }
 }

@@ -339,7 +339,7 @@ pub fn decode(body: &[u8]) -> Result<Record, Malformed>
         9 => store_of(b),
         10 => range_of(b),
         11 => probe_of(b),
-        _ => Err(Malformed),
+        0 | 2 | 12.. => Err(Malformed),
     }
 }
 

@@ -28,7 +28,7 @@ use Rattle.memory.specs.declared.descriptor.Kind.TheVariants as given
 use Rattle.definition.specs.declared.End.{End}
 use Rattle.definition.specs.declared.End.TheVariants.{Page, Invalid, LevelStop, BusError, Config}
 use Rattle.walk030.specs.Walked.{shown}
-use Rattle.walk030.specs.Machine.{no_walk, misconfigured_of, begun_of, begin_of, at_limit, aimed_of, next_k, aim_of, adds_of, asked_of, levels_of, held_of, seen_of, to_target, to_table, onward_of, answered}
+use Rattle.walk030.specs.Machine.{no_walk, begun_of, begin_of, at_limit, aimed_of, next_k, aim_of, adds_of, asked_of, levels_of, held_of, seen_of, to_target, to_table, onward_of, answered}
 use Rattle.walk030.specs.declared.Walked.{Walked}
 use Rattle.walk030.specs.declared.machine.Walking030.{Walking030}
 use Rattle.memory.proofs.Tests.{clash}

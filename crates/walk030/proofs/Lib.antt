@@ -1,2 +1,3 @@
 pub mod Aiming
 pub mod Driving
+pub mod Limit

@@ -36,7 +36,12 @@ returns-in-10 c = said_by _ c.in-len1-up.len_at_least c.in-10.is _ c.range_of.en
 pub returns-in-11 : goal.returns-in-11
 returns-in-11 c = said_by _ c.in-len1-up.len_at_least c.in-11.is _ c.probe_of.ensures
 
-pub returns-in_default-kind : goal.returns-in_default-kind
-returns-in_default-kind c =
+pub returns-in-0 : goal.returns-in-0
+returns-in-0 c =
+    not_said _ c.in-len1-up.len_at_least (λ e. omega (arith, e)) (λ e. omega (arith, e)) (λ e. omega (arith, e)) (λ e. omega (arith, e)) (λ e. omega (arith, e))
+    (λ e. omega (arith, e)) (λ e. omega (arith, e)) (λ e. omega (arith, e)) (λ e. omega (arith, e)) (λ e. omega (arith, e))
+
+pub returns-in-0-2 : goal.returns-in-0-2
+returns-in-0-2 c =
     not_said _ c.in-len1-up.len_at_least (λ e. omega (arith, e)) (λ e. omega (arith, e)) (λ e. omega (arith, e)) (λ e. omega (arith, e)) (λ e. omega (arith, e))
     (λ e. omega (arith, e)) (λ e. omega (arith, e)) (λ e. omega (arith, e)) (λ e. omega (arith, e)) (λ e. omega (arith, e))

@@ -6,7 +6,7 @@ use Rattle.memory.proofs.ranges.hits.Goals as goal
 
 pub loop-i-preserved : goal.loop-i-preserved
 loop-i-preserved g c =
-    next_same (λ (r : Range). touches_of r.first r.last c.args.at) _ c.loop-i.i c.loop-i.hit c.loop-i.invariant _ (omega arith) c.range-r.ensures _ c.touches-hit.ensures
+    next_same (λ (r : Range). touches_of r.first r.last c.args.at) _ c.loop-i.i c.loop-i.hit c.loop-i.invariant _ _ (omega arith) c.range-r.ensures _ c.touches-hit.ensures
 
 pub returns : goal.returns
 returns g c = ends (λ (r : Range). touches_of r.first r.last c.args.at) _ c.loop-i.i c.loop-i.hit c.loop-i.invariant (omega arith)
