@@ -37,11 +37,17 @@ fn first_with(c030: &Atc030, key: u64) -> Option<usize>
 
 // ---- a use
 
-// The number of smaller stamps.
+// The number of smaller stamps. With `filter` and `count` the compiler takes them one by one, and the ranking is seven times as long.
 fn smaller(c030: &Atc030, x: u64) -> u64
     ensures { result ≡ count_of (λ (y : ℕ). ltb y x) (stamps_of c030.now) }
 {
-    c030[STAMPS..RECENT].iter().filter(|&&y| y < x).count() as u64
+    let mut n: u64 = 0;
+    for i in 0..22 {
+        if c030[STAMPS + i] < x {
+            n += 1;
+        }
+    }
+    n
 }
 
 // Each stamp becomes the number of smaller stamps.
