@@ -1,5 +1,5 @@
 -- Bytes that move to the front of a buffer, and runs that follow each other over it. Assumes nothing.
-use Rattle.std.proofs.Common.{◌≡◌, ℕ, ◌+◌, ◌-◌, ◌≤◌, List, [], ◌++◌, Option, Some, Result, Ok, length, take, drop, false, append_assoc, append-nil, sym, ap, subst, ◌∙◌, arith}
+use Rattle.std.proofs.Common.{◌≡◌, ℕ, ◌+◌, ◌-◌, ◌≤◌, ◌<◌, List, [], ◌++◌, Option, Some, Result, Ok, length, take, drop, false, append_assoc, append-nil, sym, ap, subst, ◌∙◌, arith}
 use Rattle.std.proofs.Math.ListN.{length-drop, length-take}
 use Rattle.std.proofs.Math.Seq.{drop-drop, take-add}
 use Rattle.std.proofs.lemmas.List.{drop-take}
@@ -54,7 +54,7 @@ module _ (at have read : ℕ) (b : List ℕ) (h : at ≤ have) (k : have ≤ len
 
 -- what came with a read
 module _ {E : Type 0} {got : Result (Option ℕ) E} {b b' : List ℕ} {have : ℕ} (f : Filled b have got b') (o : Option ℕ) (n : ℕ) (e : got ≡ Ok o) (i : o ≡ Some n) where
-  pub grows : (have ≤ n) × (n ≤ length b)
+  pub grows : (have < n) × (n ≤ length b)
   grows = rw (e, i) at f.came
 
   pub came : {s s' : State} {rest : List ℕ} → Plays s (take n b') s' rest → Came s (take have b) s' rest

@@ -31,12 +31,12 @@ fn read_to_end<R: Read>(file: &mut R, buffer: &mut [u8]) -> Result<usize, Unheld
     let mut have = 0;
     // No index counts up here: each read says how far it came.
     while have < buffer.len() {
-        match file.read(&mut buffer[have..]) {
-            Ok(0) => {
-                return Ok(have);
+        match streams::fill(file, buffer, have) {
+            Ok(Some(n)) => {
+                have = n;
             }
-            Ok(n) => {
-                have += n;
+            Ok(None) => {
+                return Ok(have);
             }
             Err(_) => {
                 return Err(Unheld::Unread);
