@@ -2,11 +2,10 @@
 use audit::audit_lent;
 use audit::finding::finding_lent;
 use definition::{Audit, Finding, Translation};
-use playing::{Over, Replay};
+use playing::{Replay, Sheet};
 use replay::Kept;
 use std::fmt;
 use std::fmt::{Display, Formatter, Write};
-use streams::printed;
 
 // What the cache gives.
 #[derive(Clone, Copy)]
@@ -123,18 +122,19 @@ fn audited(r: &Replay, from: u32) -> Audit {
     )
 }
 
-// A line for each stale entry, at most 64: how many there are. A replay's caches are never refused.
-pub fn name_stale<H: Print + Eprint>(rt: &H, replay: &Replay) -> Result<u64, Over> {
+// The caches are refused, by this number.
+#[derive(Clone, Copy)]
+pub struct Refused(pub u32);
+
+// A line for each stale entry, at most 64 of fewer than 200 bytes: how many there are. A replay's caches are never refused.
+pub fn name_stale(sheet: &mut Sheet, replay: &Replay) -> Result<u64, Refused> {
     let mut from = 0;
     for n in 0..64 {
         let (cache, i) = match audited(replay, from) {
             Audit::Clean => return Ok(n),
             Audit::Stale030(i) => ("68030", i),
             Audit::Stale040(i) => ("68040", i),
-            Audit::Refused(number) => {
-                printed(rt, format_args!("R {number}\n"))?;
-                return Err(Over);
-            }
+            Audit::Refused(number) => return Err(Refused(number)),
         };
         let stale = Stale {
             cache,
@@ -142,7 +142,7 @@ pub fn name_stale<H: Print + Eprint>(rt: &H, replay: &Replay) -> Result<u64, Ove
             read: found(replay, i, false),
             write: found(replay, i, true),
         };
-        printed(rt, format_args!("{stale}\n"))?;
+        sheet.print(format_args!("{stale}\n"));
         from = i % 64 + 1;
     }
     Ok(64)

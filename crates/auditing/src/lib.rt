@@ -3,9 +3,10 @@
 
 mod audits;
 
+use audits::Refused;
 use listing::Asked;
-use playing::{Over, Replay, Watch};
-use streams::printed;
+use playing::{Over, Replay, Sheet, Watch};
+use streams::{printed, written};
 
 // An audit of the caches at the end: a line for each stale entry, and a last line that counts them.
 #[derive(Clone, Copy)]
@@ -14,14 +15,25 @@ pub struct AtEnd;
 impl Watch for AtEnd {
     const EACH: bool = false;
 
-    fn end<H: Print + Eprint>(&mut self, rt: &H, replay: &Replay) -> Result<(), Over> {
-        let stale = audits::name_stale(rt, replay)?;
-        let all = audits::entries(replay);
-        if stale == 0 {
-            printed(rt, format_args!("clean: {all} entries\n"))?;
-        } else {
-            printed(rt, format_args!("stale: {stale} of {all} entries\n"))?;
+    fn end<H: Print + Eprint>(
+        &mut self,
+        rt: &H,
+        replay: &Replay,
+        sheet: &mut Sheet,
+    ) -> Result<(), Over> {
+        sheet.clear();
+        match audits::name_stale(sheet, replay) {
+            Ok(stale) => {
+                let all = audits::entries(replay);
+                if stale == 0 {
+                    sheet.print(format_args!("clean: {all} entries\n"));
+                } else {
+                    sheet.print(format_args!("stale: {stale} of {all} entries\n"));
+                }
+            }
+            Err(Refused(number)) => sheet.print(format_args!("R {number}\n")),
         }
+        written(rt, sheet.as_bytes())?;
         Ok(())
     }
 }
@@ -35,17 +47,32 @@ pub struct AfterEach {
 impl Watch for AfterEach {
     const EACH: bool = true;
 
-    fn record<H: Print + Eprint>(&mut self, rt: &H, replay: &Replay) -> Result<(), Over> {
+    fn record<H: Print + Eprint>(
+        &mut self,
+        rt: &H,
+        replay: &Replay,
+        sheet: &mut Sheet,
+    ) -> Result<(), Over> {
         self.records = self.records.saturating_add(1);
-        if audits::name_stale(rt, replay)? == 0 {
-            return Ok(());
+        sheet.clear();
+        match audits::name_stale(sheet, replay) {
+            Ok(0) => return Ok(()),
+            Ok(_) => {
+                let record = self.records;
+                sheet.print(format_args!("stale after record {record}\n"));
+            }
+            Err(Refused(number)) => sheet.print(format_args!("R {number}\n")),
         }
-        let record = self.records;
-        printed(rt, format_args!("stale after record {record}\n"))?;
+        written(rt, sheet.as_bytes())?;
         Err(Over)
     }
 
-    fn end<H: Print + Eprint>(&mut self, rt: &H, _replay: &Replay) -> Result<(), Over> {
+    fn end<H: Print + Eprint>(
+        &mut self,
+        rt: &H,
+        _replay: &Replay,
+        _sheet: &mut Sheet,
+    ) -> Result<(), Over> {
         let records = self.records;
         printed(rt, format_args!("clean after each of {records} records\n"))?;
         Ok(())
@@ -61,7 +88,12 @@ pub struct Tree {
 impl Watch for Tree {
     const EACH: bool = false;
 
-    fn end<H: Print + Eprint>(&mut self, rt: &H, replay: &Replay) -> Result<(), Over> {
+    fn end<H: Print + Eprint>(
+        &mut self,
+        rt: &H,
+        replay: &Replay,
+        _sheet: &mut Sheet,
+    ) -> Result<(), Over> {
         let kept = replay.kept;
         let ranges = kept.ranges.as_slice();
         listing::listed(rt, &replay.longs, kept.registers, ranges, self.asked)?;

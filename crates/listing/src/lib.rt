@@ -6,7 +6,9 @@ use definition::{Listed, Range, Registers};
 use std::env::Env;
 use std::fmt;
 use std::fmt::{Display, Formatter, Write};
-use streams::{Unwritten, printed};
+use streams::hex::eight;
+use streams::text::Text;
+use streams::{Unwritten, printed, written};
 
 // ---- The arguments.
 
@@ -70,16 +72,23 @@ impl Mapped {
 impl Display for Mapped {
     fn fmt<W: Write>(&self, f: &mut Formatter<W>) -> fmt::Result {
         let first = self.0 >> 32;
-        let last = first.wrapping_add(self.size()).wrapping_sub(1) % 4294967296;
-        let flags = match self.kind() {
-            0 => "-",
-            1 => "W",
-            2 => "S",
-            3 => "WS",
-            4.. => return write!(f, "{first:08X}-{last:08X} unfetchable"),
-        };
-        let page = self.0 % 4294967296 / 256 * 256;
-        write!(f, "{first:08X}-{last:08X} {page:08X} {flags}")
+        let last = first.wrapping_add(self.size()).wrapping_sub(1);
+        let mut text = Text::<32>::new();
+        text.push(&eight(first));
+        text.push(b"-");
+        text.push(&eight(last));
+        text.push(b" ");
+        if self.kind() < 4 {
+            text.push(&eight(self.0 / 256 * 256));
+        }
+        text.push(match self.kind() {
+            0 => b" -",
+            1 => b" W",
+            2 => b" S",
+            3 => b" WS",
+            4.. => b"unfetchable",
+        });
+        text.fmt(f)
     }
 }
 
@@ -90,11 +99,22 @@ struct Lines<'a>(&'a [u64]);
 impl Display for Lines<'_> {
     fn fmt<W: Write>(&self, f: &mut Formatter<W>) -> fmt::Result {
         for x in self.0 {
-            let mapped = Mapped(*x);
-            writeln!(f, "{mapped}")?;
+            Mapped(*x).fmt(f)?;
+            f.write_str("\n")?;
         }
         Ok(())
     }
+}
+
+// Writes a line for each of at most 256, at once: a line has 30 bytes.
+fn told<H: Print + Eprint>(
+    rt: &H,
+    lines: &mut Text<8192>,
+    ranges: &[u64],
+) -> Result<(), Unwritten> {
+    lines.clear();
+    lines.print(Lines(ranges));
+    written(rt, lines.as_bytes())
 }
 
 // ---- The list.
@@ -150,6 +170,7 @@ pub fn listed<H: Print + Eprint>(
     let numbers = numbers_of(ranges);
     let pairs = &numbers[..2 * ranges.len()];
     let mut found = [0u64; 256];
+    let mut lines = Text::new();
     let mut sum = Sum {
         ranges: 0,
         bytes: 0,
@@ -159,13 +180,13 @@ pub fn listed<H: Print + Eprint>(
         match list::list(longs, 0, pairs, g, asked.code, from, &mut found) {
             Listed::All(n) => {
                 let last = found.get(..n).unwrap_or(&[]);
-                let _ = printed(rt, Lines(last));
+                let _ = told(rt, &mut lines, last);
                 sum = sum.with(last);
                 return printed(rt, format_args!("{sum}\n"));
             }
             Listed::More { count, next } => {
                 let some = found.get(..count).unwrap_or(&[]);
-                printed(rt, Lines(some))?;
+                told(rt, &mut lines, some)?;
                 sum = sum.with(some);
                 from = next;
             }

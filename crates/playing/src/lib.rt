@@ -13,6 +13,7 @@ use replay::run::{Ran, Why};
 pub use state::Replay;
 use state::Waiting;
 use std::io::Read;
+use streams::text::Text;
 use streams::{Unwritten, written};
 
 // It is over, and what there was to say is said.
@@ -25,7 +26,10 @@ impl From<Unwritten> for Over {
     }
 }
 
-// What a program makes of a trace.
+// Where a program puts together what it writes at once. It is lent, since a new one costs its size for each record.
+pub type Sheet = Text<16384>;
+
+// What a program makes of a trace. What stands on the sheet that it is lent is of no use.
 pub trait Watch {
     // Whether it is told of each record. Then the records are played one by one.
     const EACH: bool;
@@ -36,12 +40,22 @@ pub trait Watch {
     }
 
     // After a record that printed its line.
-    fn record<H: Print + Eprint>(&mut self, _rt: &H, _replay: &Replay) -> Result<(), Over> {
+    fn record<H: Print + Eprint>(
+        &mut self,
+        _rt: &H,
+        _replay: &Replay,
+        _sheet: &mut Sheet,
+    ) -> Result<(), Over> {
         Ok(())
     }
 
     // At the end of the trace.
-    fn end<H: Print + Eprint>(&mut self, rt: &H, replay: &Replay) -> Result<(), Over>;
+    fn end<H: Print + Eprint>(
+        &mut self,
+        rt: &H,
+        replay: &Replay,
+        sheet: &mut Sheet,
+    ) -> Result<(), Over>;
 }
 
 // Refusal 7: the last line.
@@ -56,12 +70,13 @@ fn unread<H: Eprint>(rt: &H) -> Over {
     Over
 }
 
-// A program over what it is told of the trace: the state, and the lines of a run.
+// A program over what it is told of the trace: the state, and the lines of a run; and the program's sheet.
 #[derive(Drop)]
 struct Driver<W> {
     watch: W,
     replay: Replay,
     out: [u8; 65536],
+    sheet: Sheet,
 }
 
 // How many bytes a run may write. Where each record is told it is one line: a line is written where 44 bytes have room, and has two or more.
@@ -80,7 +95,7 @@ impl<W: Watch> Driver<W> {
         let ran = self.replay.run(input, &mut self.out, room::<W>());
         self.watch.lines(rt, &self.out[..ran.wrote])?;
         if W::EACH && ran.wrote > 0 {
-            self.watch.record(rt, &self.replay)?;
+            self.watch.record(rt, &self.replay, &mut self.sheet)?;
         }
         Ok(ran)
     }
@@ -118,7 +133,7 @@ impl<W: Watch> Driver<W> {
         match streams::fill(input, &mut waiting.buffer, have) {
             Err(_) => Err(unread(rt)),
             Ok(None) if have == 0 => {
-                self.watch.end(rt, &self.replay)?;
+                self.watch.end(rt, &self.replay, &mut self.sheet)?;
                 Err(Over)
             }
             Ok(None) => Err(malformed(rt)),
@@ -156,6 +171,7 @@ pub fn play<H: Print + Eprint, R: Read, W: Watch + Drop>(rt: &H, input: &mut R, 
         watch,
         replay: Replay::new(),
         out: [0; 65536],
+        sheet: Text::new(),
     };
     let _ = driver.play(rt, input);
 }

@@ -1,7 +1,7 @@
 // The players: the replay's lines, and both caches after each record or not.
-use crate::{Over, Replay, Watch};
+use crate::{Over, Replay, Sheet, Watch};
 use states::State;
-use streams::{printed, written};
+use streams::written;
 
 // The lines alone.
 #[derive(Clone, Copy)]
@@ -15,7 +15,12 @@ impl Watch for Lines {
         Ok(())
     }
 
-    fn end<H: Print + Eprint>(&mut self, rt: &H, _replay: &Replay) -> Result<(), Over> {
+    fn end<H: Print + Eprint>(
+        &mut self,
+        rt: &H,
+        _replay: &Replay,
+        _sheet: &mut Sheet,
+    ) -> Result<(), Over> {
         written(rt, b"end\n")?;
         Ok(())
     }
@@ -33,16 +38,28 @@ impl Watch for States {
         Ok(())
     }
 
-    fn record<H: Print + Eprint>(&mut self, rt: &H, replay: &Replay) -> Result<(), Over> {
+    fn record<H: Print + Eprint>(
+        &mut self,
+        rt: &H,
+        replay: &Replay,
+        sheet: &mut Sheet,
+    ) -> Result<(), Over> {
         let state = State {
             c030: &replay.c030,
             c040: &replay.c040,
         };
-        printed(rt, format_args!("{state}\n"))?;
+        sheet.clear();
+        sheet.print(format_args!("{state}\n"));
+        written(rt, sheet.as_bytes())?;
         Ok(())
     }
 
-    fn end<H: Print + Eprint>(&mut self, rt: &H, _replay: &Replay) -> Result<(), Over> {
+    fn end<H: Print + Eprint>(
+        &mut self,
+        rt: &H,
+        _replay: &Replay,
+        _sheet: &mut Sheet,
+    ) -> Result<(), Over> {
         written(rt, b"end\n")?;
         Ok(())
     }

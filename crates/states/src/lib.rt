@@ -5,6 +5,8 @@ use cache::atc030::{Atc030, CLOCK, PAGES, RECENT, SHIFT, STAMPS};
 use cache::atc040::{Atc040, BASES};
 use std::fmt;
 use std::fmt::{Display, Formatter, Write};
+use streams::hex::eight;
+use streams::text::Text;
 
 // Both caches, as the state line says them.
 #[derive(Clone, Copy)]
@@ -30,9 +32,18 @@ struct Slot {
     base: u64,
 }
 
-// The low half, which is written as eight hex digits.
-fn low(x: u64) -> u32 {
-    (x % 4294967296) as u32
+// The last decimal digit.
+fn digit(x: u64) -> u8 {
+    b'0' + (x % 10) as u8
+}
+
+// The name of an entry, as ` e7=`: an index has at most two digits.
+fn name(text: &mut Text<64>, letter: u8, i: usize) {
+    text.push(&[b' ', letter]);
+    if i >= 10 {
+        text.push(&[digit(i as u64 / 10)]);
+    }
+    text.push(&[digit(i as u64), b'=']);
 }
 
 impl Display for Entry {
@@ -43,23 +54,29 @@ impl Display for Entry {
             page,
             stamp,
         } = *self;
-        if tag == 0 && page == 0 && stamp == 0 {
-            return Ok(());
-        }
-        write!(f, " e{i}={},{},", tag % 2, tag / 2 % 8)?;
-        write!(f, "{:08X},{:08X},", low(tag / 16), low(page / 2))?;
-        write!(f, "{},{stamp}", page % 2)
+        let mut text = Text::new();
+        name(&mut text, b'e', i);
+        text.push(&[digit(tag % 2), b',', digit(tag / 2 % 8), b',']);
+        text.push(&eight(tag / 16));
+        text.push(b",");
+        text.push(&eight(page / 2));
+        text.push(&[b',', digit(page % 2), b',']);
+        text.print(stamp);
+        text.fmt(f)
     }
 }
 
 impl Display for Slot {
     fn fmt<W: Write>(&self, f: &mut Formatter<W>) -> fmt::Result {
         let Slot { i, key, base } = *self;
-        if key == 0 && base == 0 {
-            return Ok(());
-        }
-        write!(f, " d{i}={},{:08X},", key % 2, low(key / 2))?;
-        write!(f, "{:08X},{},{}", low(base / 4), base / 2 % 2, base % 2)
+        let mut text = Text::new();
+        name(&mut text, b'd', i);
+        text.push(&[digit(key % 2), b',']);
+        text.push(&eight(key / 2));
+        text.push(b",");
+        text.push(&eight(base / 4));
+        text.push(&[b',', digit(base / 2 % 2), b',', digit(base % 2)]);
+        text.fmt(f)
     }
 }
 
@@ -75,21 +92,23 @@ impl Display for State<'_> {
         let pages = &c030[PAGES..STAMPS];
         let stamps = &c030[STAMPS..RECENT];
         for (i, ((tag, page), stamp)) in c030.iter().zip(pages).zip(stamps).enumerate() {
-            let entry = Entry {
-                i,
-                tag: *tag,
-                page: *page,
-                stamp: *stamp,
-            };
-            write!(f, "{entry}")?;
+            let (tag, page, stamp) = (*tag, *page, *stamp);
+            if tag != 0 || page != 0 || stamp != 0 {
+                let entry = Entry {
+                    i,
+                    tag,
+                    page,
+                    stamp,
+                };
+                entry.fmt(f)?;
+            }
         }
         for (i, (key, base)) in c040.iter().zip(&c040[BASES..]).enumerate() {
-            let slot = Slot {
-                i,
-                key: *key,
-                base: *base,
-            };
-            write!(f, "{slot}")?;
+            let (key, base) = (*key, *base);
+            if key != 0 || base != 0 {
+                let slot = Slot { i, key, base };
+                slot.fmt(f)?;
+            }
         }
         Ok(())
     }

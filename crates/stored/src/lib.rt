@@ -6,4 +6,5 @@ pub mod arguments;
 pub mod files;
 pub mod lines;
 pub mod report;
-pub mod text;
+
+pub use streams::text;

@@ -1,5 +1,8 @@
-// Bytes in and out: a buffer filled from a reader, and bytes and text written to standard output.
+// Bytes in and out: a buffer filled from a reader, bytes and text written to standard output, and text put together in a buffer.
 #![tactic(auto)]
+
+pub mod hex;
+pub mod text;
 
 ghost use Rattle.streams.specs.Filled.{Filled};
 

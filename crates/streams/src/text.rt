@@ -1,5 +1,5 @@
 // Text that is put together in a buffer. What there is no room for is left out.
-ghost use Rattle.std.specs.Prelude.{◌≡◌, ℕ, ◌-◌, ◌≤◌, List, [], ◌++◌, length, take, IsTrue, ◌↔◌};
+ghost use Rattle.std.specs.Prelude.{◌≡◌, ℕ, ◌+◌, ◌-◌, ◌≤◌, List, [], Some, ◌++◌, length, take, IsTrue, ◌↔◌};
 
 use std::fmt;
 use std::fmt::Display;
@@ -20,15 +20,28 @@ impl<const N: usize> Model for Text<N> {
     ghost invariant = { λ t. t.len ≤ N };
 }
 
-// Puts bytes after the first `len`, as far as there is room: how many there are then.
+// Puts bytes after the first `len`: how many there are then.
+fn put(all: &mut [u8], len: usize, bytes: &[u8]) -> usize
+    requires { len + length bytes.now ≤ length all.old }
+    ensures room { result ≤ length all.new }
+    ensures after { take result all.new ≡ take len all.old ++ bytes.now }
+{
+    let end = len + bytes.len();
+    all[len..end].copy_from_slice(bytes);
+    end
+}
+
+// The same, as far as there is room. Where all of it has room it is copied by its own length, which is often a constant.
 fn append(all: &mut [u8], len: usize, bytes: &[u8]) -> usize
     requires { len ≤ length all.old }
     ensures room { result ≤ length all.new }
     ensures after { take result all.new ≡ take len all.old ++ take (length all.old - len) bytes.now }
 {
-    let n = (all.len() - len).min(bytes.len());
-    all[len..len + n].copy_from_slice(&bytes[..n]);
-    len + n
+    let room = all.len() - len;
+    if bytes.len() <= room {
+        return put(all, len, bytes);
+    }
+    put(all, len, &bytes[..room])
 }
 
 impl<const N: usize> Text<N> {
@@ -89,5 +102,15 @@ impl<const N: usize> fmt::Write for Text<N> {
     fn write_str(&mut self, s: &str) -> fmt::Result {
         self.push(s.as_bytes());
         Ok(())
+    }
+}
+
+// It prints what stands in it, at once.
+impl<const N: usize> Display for Text<N> {
+    ghost output = { λ t. Some t };
+
+    fn fmt<W: fmt::Write>(&self, f: &mut fmt::Formatter<W>) -> fmt::Result {
+        let text = std::str::from_utf8(self.as_bytes()).map_err(|_| fmt::Error)?;
+        f.write_str(text)
     }
 }
