@@ -94,15 +94,18 @@ impl Setting {
     }
 
     // The page of 02041ABC is cached, from its tables.
-    fn warm(g: Registers, supervisor: bool) -> Self {
-        let mut s = Setting::new();
-        s.store_tables();
-        s.translate(g, supervisor);
-        s
+    fn warm(&mut self, g: Registers, supervisor: bool) {
+        self.store_tables();
+        self.translate(g, supervisor);
+    }
+
+    // The long at an address: another, where it is changed.
+    fn long(&mut self, address: u32) -> &mut u32 {
+        &mut self.longs[(address / 4 % 8192) as usize]
     }
 
     fn store(&mut self, address: u32, value: u32) {
-        self.longs[(address / 4 % 8192) as usize] = value;
+        *self.long(address) = value;
     }
 
     // 1004=2002, 2004=3002, 3004=55001; and a table of long descriptors at 4000, whose second is the same page with S.
@@ -162,11 +165,10 @@ impl Setting {
         g: Registers,
         changes: &[(u32, u32)],
     ) -> io::Result<()> {
-        let longs = self.longs;
         for (address, value) in changes {
-            self.store(*address, *value);
+            let before = std::mem::replace(self.long(*address), *value);
             self.show(rt, g)?;
-            self.longs = longs;
+            self.store(*address, before);
         }
         Ok(())
     }
@@ -196,8 +198,9 @@ fn damage_030<P: Print>(rt: &P) -> io::Result<()> {
         (0x1004, 0),
     ];
     print!(rt; "030")?;
-    Setting::new().show(rt, g)?;
-    let mut s = Setting::warm(g, false);
+    let mut s = Setting::new();
+    s.show(rt, g)?;
+    s.warm(g, false);
     s.show(rt, g)?;
     print!(rt; " |")?;
     s.show_changed(rt, g, &changes)?;
@@ -213,7 +216,8 @@ fn damage_030<P: Print>(rt: &P) -> io::Result<()> {
 // WP of the entry alone; with the guard: another shift of the cache, and of TC; an invalid entry; the other family.
 fn harmless_030<P: Print>(rt: &P) -> io::Result<()> {
     let g = of_030();
-    let mut s = Setting::warm(g, false);
+    let mut s = Setting::new();
+    s.warm(g, false);
     let warm = s.c030;
     print!(rt; "030 harmless")?;
     s.c030[PAGES] |= 1;
@@ -234,7 +238,8 @@ fn harmless_030<P: Print>(rt: &P) -> io::Result<()> {
 // The page of 02041ABC under each code, with the guard: an access has 1, 2, 5 or 6.
 fn codes<P: Print>(rt: &P) -> io::Result<()> {
     let g = of_030();
-    let mut s = Setting::warm(g, false);
+    let mut s = Setting::new();
+    s.warm(g, false);
     s.store(0x3004, 0);
     print!(rt; "codes")?;
     for code in 0..8 {
@@ -247,7 +252,8 @@ fn codes<P: Print>(rt: &P) -> io::Result<()> {
 // The last entry; and from an index on, with entries 0, 7 and 21 stale.
 fn places_030<P: Print>(rt: &P) -> io::Result<()> {
     let g = of_030();
-    let mut s = Setting::warm(g, false);
+    let mut s = Setting::new();
+    s.warm(g, false);
     s.store(0x3004, 0);
     let tag = s.c030[0];
     s.c030[0] = 0;
@@ -265,7 +271,8 @@ fn places_030<P: Print>(rt: &P) -> io::Result<()> {
 // ---- The 68040: as it is; the guard; another page; W; S; no table; W of the slot alone; the last slot; the other family.
 fn case_040<P: Print>(rt: &P, supervisor: bool) -> io::Result<()> {
     let g = of_040();
-    let mut s = Setting::warm(g, supervisor);
+    let mut s = Setting::new();
+    s.warm(g, supervisor);
     let changes = [
         (0x3004, 0),
         (0x3004, 0x66001),
@@ -352,7 +359,8 @@ fn tell_finding<P: Print>(rt: &P, f: Finding) -> io::Result<()> {
 // Of the guard; of WP above; of an entry with WP; of an index past the end; of a supervisor's slot whose page has W; of what is refused.
 fn findings<P: Print>(rt: &P) -> io::Result<()> {
     let mut g = of_030();
-    let mut s = Setting::warm(g, false);
+    let mut s = Setting::new();
+    s.warm(g, false);
     s.store(0x3004, 0);
     g.tt0 = 0x00FF_8777;
     s.say(rt, g, 0)?;

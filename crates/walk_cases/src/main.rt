@@ -58,7 +58,8 @@ fn same_040(c: &Case, translation: &[u32; 5], tests: &[u32]) -> bool {
 fn answers_so(row: &[u32]) -> Option<bool> {
     let row = Row::cut(row)?;
     let (translation, tests) = row.answers.split_first_chunk::<5>()?;
-    let c = row.case()?;
+    let mut longs = [0; 8192];
+    let c = row.case(&mut longs)?;
     Some(match c.registers.family {
         30 => same_030(&c, translation, tests),
         _ => same_040(&c, translation, tests),

@@ -16,23 +16,23 @@ pub struct Row<'a> {
     pub answers: &'a [u32],
 }
 
-// What a walk is given.
+// What a walk is given. Its longs are lent: they are too many to be moved with the rest.
 #[derive(Drop)]
-pub struct Case {
+pub struct Case<'a> {
     pub registers: Registers,
     pub address: u32,
     pub code: u32,
     pub write: bool,
     base: u32,
-    longs: [u32; 8192],
+    longs: &'a [u32],
     ranges: RangeList,
 }
 
-impl Case {
+impl Case<'_> {
     // What is lent to a walk.
     fn tables(&self) -> Tables<&[Range]> {
         Tables {
-            longs: &self.longs,
+            longs: self.longs,
             base: self.base,
             ranges: self.ranges.as_slice(),
         }
@@ -78,9 +78,8 @@ impl<'a> Row<'a> {
         })
     }
 
-    // The longs from the base on, of which a row has those that are not 0. None: one is outside.
-    fn stored(self) -> Option<[u32; 8192]> {
-        let mut longs = [0; 8192];
+    // Stores the longs from the base on, of which a row has those that are not 0. None: one is outside.
+    fn store(self, longs: &mut [u32; 8192]) -> Option<()> {
         for pair in self.longs.chunks_exact(2) {
             let offset = pair[0].checked_sub(self.head[9])?;
             if offset % 4 != 0 {
@@ -88,7 +87,7 @@ impl<'a> Row<'a> {
             }
             *longs.get_mut((offset / 4) as usize)? = pair[1];
         }
-        Some(longs)
+        Some(())
     }
 
     // The row's ranges. None: there are more than sixteen.
@@ -104,12 +103,14 @@ impl<'a> Row<'a> {
         Some(kept)
     }
 
-    // The case, if its longs and its ranges have room: the PMMU is on, and no transparent register is enabled.
-    pub fn case(self) -> Option<Case> {
+    // The case over these longs, all 0 before, if its longs and its ranges have room: the PMMU is on, and no transparent register is
+    // enabled.
+    pub fn case(self, longs: &mut [u32; 8192]) -> Option<Case<'_>> {
         let head = self.head;
         if head[10] != 8192 {
             return None;
         }
+        self.store(longs)?;
         Some(Case {
             registers: Registers {
                 family: head[0],
@@ -135,7 +136,7 @@ impl<'a> Row<'a> {
             code: head[7],
             write: head[8] == 1,
             base: head[9],
-            longs: self.stored()?,
+            longs,
             ranges: self.kept()?,
         })
     }
