@@ -67,42 +67,25 @@ impl Mapped {
     fn bytes(self) -> u64 {
         if self.kind() < 4 { self.size() } else { 0 }
     }
-}
 
-impl Display for Mapped {
-    fn fmt<W: Write>(&self, f: &mut Formatter<W>) -> fmt::Result {
+    // Puts its line straight to where it is written from: through a `Display` of its own a long list took 1.2 times as long.
+    fn put(self, lines: &mut Text<8192>) {
         let first = self.0 >> 32;
         let last = first.wrapping_add(self.size()).wrapping_sub(1);
-        let mut text = Text::<32>::new();
-        text.push(&eight(first));
-        text.push(b"-");
-        text.push(&eight(last));
-        text.push(b" ");
+        lines.push(&eight(first));
+        lines.push(b"-");
+        lines.push(&eight(last));
+        lines.push(b" ");
         if self.kind() < 4 {
-            text.push(&eight(self.0 / 256 * 256));
+            lines.push(&eight(self.0 / 256 * 256));
         }
-        text.push(match self.kind() {
-            0 => b" -",
-            1 => b" W",
-            2 => b" S",
-            3 => b" WS",
-            4.. => b"unfetchable",
+        lines.push(match self.kind() {
+            0 => b" -\n",
+            1 => b" W\n",
+            2 => b" S\n",
+            3 => b" WS\n",
+            4.. => b"unfetchable\n",
         });
-        text.fmt(f)
-    }
-}
-
-// A line for each.
-#[derive(Clone, Copy)]
-struct Lines<'a>(&'a [u64]);
-
-impl Display for Lines<'_> {
-    fn fmt<W: Write>(&self, f: &mut Formatter<W>) -> fmt::Result {
-        for x in self.0 {
-            Mapped(*x).fmt(f)?;
-            f.write_str("\n")?;
-        }
-        Ok(())
     }
 }
 
@@ -113,7 +96,9 @@ fn told<H: Print + Eprint>(
     ranges: &[u64],
 ) -> Result<(), Unwritten> {
     lines.clear();
-    lines.print(Lines(ranges));
+    for x in ranges {
+        Mapped(*x).put(lines);
+    }
     written(rt, lines.as_bytes())
 }
 
