@@ -99,7 +99,7 @@ impl Setting {
         self.translate(g, supervisor);
     }
 
-    // The long at an address: another, where it is changed.
+    // The long at an address.
     fn long(&mut self, address: u32) -> &mut u32 {
         &mut self.longs[(address / 4 % 8192) as usize]
     }

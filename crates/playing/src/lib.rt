@@ -29,7 +29,7 @@ impl From<Unwritten> for Over {
 // Where a program puts together what it writes at once. It is lent, since a new one costs its size for each record.
 pub type Sheet = Text<16384>;
 
-// What a program makes of a trace. What stands on the sheet that it is lent is of no use.
+// What a program makes of a trace. On the sheet that it is lent stands what was put there last.
 pub trait Watch {
     // Whether it is told of each record. Then the records are played one by one.
     const EACH: bool;
